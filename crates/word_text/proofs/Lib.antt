@@ -1,0 +1,11 @@
+pub mod Numbers
+pub mod Limits
+pub mod Raising
+pub mod Turning
+pub mod Marks
+pub mod Soundness
+pub mod Reached
+pub mod Again
+pub mod Reading
+pub mod Tails
+pub mod Finding

@@ -1,0 +1,5 @@
+pub mod Scan
+pub mod Powers
+pub mod Machine
+pub mod Place
+pub mod Grammar

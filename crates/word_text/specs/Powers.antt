@@ -1,0 +1,49 @@
+-- Powers behind an atom.
+use Rattle.std.specs.Prelude.{ℕ, zero, suc, ◌==◌, Bool, true, false, nat_lt, List, length, drop, Option, Some, None, Result, Ok, Err, if◌then◌else◌}
+use Rattle.free_words.specs.declared.letter.Letter.{Letter}
+use Rattle.free_words.specs.Words.{copies, inverse}
+use Rattle.free_words.specs.declared.TheConstants.{WRITTEN}
+use Rattle.word_text.specs.declared.fault.Fault.{Fault}
+use Rattle.word_text.specs.declared.fault.TextKind.TheVariants.{ExponentTooLarge, WordTooLong}
+use Rattle.word_text.specs.Scan.{◌>>=◌, first_is, after_blanks, digits_at, after_digits, number, within, due}
+
+-- a written word has at most so many letters, and an exponent is at most so large
+abbrev pub written : ℕ
+written = WRITTEN
+
+-- an exponent, and what follows it
+pub record Exponent : Type 0 where
+  pub negative : Bool
+  pub size : ℕ
+  pub rest : List ℕ
+
+abbrev pub sized : Bool → List ℕ → Option ℕ → Result Exponent Fault
+sized negative bs None = Err (record { kind = ExponentTooLarge; left = length bs })
+sized negative bs (Some n) = Ok (record { negative = negative; size = n; rest = after_digits bs })
+
+unfoldable pub size_at : Bool → List ℕ → Result Exponent Fault
+size_at negative bs =
+    if length (digits_at bs) == 0 then Err (due bs)
+    else sized negative bs (within written (number 0 (digits_at bs)))
+
+-- the exponent behind `^`, without blanks before it
+unfoldable pub exponent_at : List ℕ → Result Exponent Fault
+exponent_at bs = if first_is 45 bs then size_at true (after_blanks (drop 1 bs)) else size_at false bs
+
+-- the word, where it is within the limit
+abbrev pub within_limit : ℕ → List Letter → Result (List Letter) Fault
+within_limit start w = if nat_lt written (length w) then Err (record { kind = WordTooLong; left = start }) else Ok w
+
+abbrev pub raised : ℕ → Bool → ℕ → List Letter → Result (List Letter) Fault
+raised start negative size w = within_limit start (copies size (if negative then inverse w else w))
+
+-- the powers that stand here, with no blanks before them; the factor begins where `start` bytes are left
+unfoldable pub powers_from : ℕ → ℕ → List Letter → List ℕ → Result (List Letter × List ℕ) Fault
+powers_from zero start w bs = Err (due bs)
+powers_from (suc n) start w bs =
+    if first_is 94 bs
+    then (exponent_at (after_blanks (drop 1 bs)) >>= λ k. (raised start k.negative k.size w >>= λ v. powers_from n start v (after_blanks k.rest)))
+    else Ok (w, bs)
+
+unfoldable pub powers_at : ℕ → List Letter → List ℕ → Result (List Letter × List ℕ) Fault
+powers_at start w bs = powers_from (suc (length (after_blanks bs))) start w (after_blanks bs)
