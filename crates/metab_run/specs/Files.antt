@@ -1,0 +1,20 @@
+-- What a text that a command reads leads to.
+use Rattle.std.specs.Prelude.{◌≡◌, ℕ, ◌<◌, ◌≤◌, List, length, Option, IfSome, Result, Ok, Err, ◌⊎◌}
+use Rattle.word_text.specs.declared.fault.TextFault.{TextFault}
+use Rattle.metab_run.specs.Answers.{Answer, unread, too_long, refused}
+
+-- a text that was parsed: its first fault is the answer, or its value goes on
+abbrev pub ReadLeads : {X : Type 0} → List ℕ → Result X TextFault → (X → Answer → Type 0) → Answer → Type 0
+ReadLeads name (Err f) next a = a ≡ refused name f
+ReadLeads name (Ok x) next a = next x a
+
+-- a text of at most so many bytes is parsed
+abbrev pub TextLeads : {X : Type 0} → ℕ → List ℕ → List ℕ → (List ℕ → Result X TextFault) → (X → Answer → Type 0) → Answer → Type 0
+TextLeads limit name bytes read next a =
+    ((limit < length bytes) × (a ≡ too_long name limit)) ⊎ ((length bytes ≤ limit) × ReadLeads name (read bytes) next a)
+
+-- The text under a name is read whole and then parsed. Reading it failed, which the shelf has counted; or, where the
+-- shelf tells the bytes, they lead to the answer.
+abbrev pub FileLeads : {X : Type 0} → Type 0 → ℕ → List ℕ → Option (List ℕ) → (List ℕ → Result X TextFault) → (X → Answer → Type 0) → Answer → Type 0
+FileLeads counted limit name told read next a =
+    (counted × (a ≡ unread name)) ⊎ IfSome told (λ bytes. TextLeads limit name bytes read next a)
