@@ -1,7 +1,7 @@
 -- What a command answers: a status and a text of whole lines.
-use Rattle.std.specs.Prelude.{ℕ, List, ◌++◌, codes, decimal}
+use Rattle.std.specs.Prelude.{◌≢◌, ℕ, List, ◌++◌, codes, decimal}
 use Rattle.metab_run.specs.declared.status.Status.{Status}
-use Rattle.metab_run.specs.declared.status.Status.TheVariants.{WordsRefused, TextRefused, ReadFault}
+use Rattle.metab_run.specs.declared.status.Status.TheVariants.{WordsRefused, TextRefused, ReadFault, WriteFault, NoMemory}
 use Rattle.word_text.specs.declared.fault.TextFault.{TextFault}
 use Rattle.word_text.specs.declared.fault.TextKind.{TextKind}
 use Rattle.word_text.specs.declared.fault.TextKind.TheVariants.{BadByte, Expected, TooManyNames, RepeatedName, UnknownName, TooManyRelators, ExponentTooLarge, ModulusOutOfRange, WordTooLong, TooManyQuestions, TooManyLetters, NoSession}
@@ -9,6 +9,10 @@ use Rattle.word_text.specs.declared.fault.TextKind.TheVariants.{BadByte, Expecte
 pub record Answer : Type 0 where
   pub status : Status
   pub text : List ℕ
+
+-- a status that an answer may have: not that of a failure which leaves no answer
+abbrev pub IsSaid : Status → Type 0
+IsSaid status = (status ≢ WriteFault) × (status ≢ NoMemory)
 
 -- the words of the command line are outside the table of commands
 abbrev pub refused_words : Answer

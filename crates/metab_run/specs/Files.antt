@@ -1,5 +1,8 @@
 -- What a text that a command reads leads to.
-use Rattle.std.specs.Prelude.{◌≡◌, ℕ, ◌<◌, ◌≤◌, List, length, Option, IfSome, Result, Ok, Err, ◌⊎◌}
+use Rattle.std.specs.Prelude.{◌≡◌, ℕ, ◌<◌, ◌≤◌, List, length, Option, IfSome, Result, Ok, Err, Vec, ◌⊎◌}
+use Rattle.std.specs.declared.alloc.Global.{Global}
+use Rattle.metab_run.specs.declared.answer.Halt.{Halt}
+use Rattle.metab_run.specs.declared.answer.Halt.TheVariants.{Says, NoMemory}
 use Rattle.word_text.specs.declared.fault.TextFault.{TextFault}
 use Rattle.metab_run.specs.Answers.{Answer, unread, too_long, refused}
 
@@ -18,3 +21,22 @@ TextLeads limit name bytes read next a =
 abbrev pub FileLeads : {X : Type 0} → Type 0 → ℕ → List ℕ → Option (List ℕ) → (List ℕ → Result X TextFault) → (X → Answer → Type 0) → Answer → Type 0
 FileLeads counted limit name told read next a =
     (counted × (a ≡ unread name)) ⊎ IfSome told (λ bytes. TextLeads limit name bytes read next a)
+
+-- what reading a text whole answers: its bytes, at most so many, or what is wrong
+abbrev pub Loaded : Type 0 → ℕ → List ℕ → Option (List ℕ) → Result (Vec ℕ Global) Halt → Type 0
+Loaded counted limit name told (Ok v) = (length v.items ≤ limit) × IfSome told (λ bytes. v.items ≡ bytes)
+Loaded counted limit name told (Err (Says a)) =
+    (counted × (a ≡ unread name)) ⊎ (IfSome told (λ bytes. limit < length bytes) × (a ≡ too_long name limit))
+Loaded counted limit name told (Err NoMemory) = Unit {0}
+
+-- why a text has no value
+abbrev pub FileFails : {X : Type 0} → Type 0 → ℕ → List ℕ → Option (List ℕ) → (List ℕ → Result X TextFault) → Answer → Type 0
+FileFails counted limit name told read a =
+    (counted × (a ≡ unread name)) ⊎ IfSome told (λ bytes.
+        ((limit < length bytes) × (a ≡ too_long name limit)) ⊎ ((length bytes ≤ limit) × ((f : TextFault) × (read bytes ≡ Err f) × (a ≡ refused name f))))
+
+-- what reading a text whole and parsing it answers: its value, or what is wrong
+abbrev pub FileGives : {X : Type 0} → Type 0 → ℕ → List ℕ → Option (List ℕ) → (List ℕ → Result X TextFault) → Result X Halt → Type 0
+FileGives counted limit name told read (Ok x) = IfSome told (λ bytes. (length bytes ≤ limit) × (read bytes ≡ Ok x))
+FileGives counted limit name told read (Err (Says a)) = FileFails counted limit name told read a
+FileGives counted limit name told read (Err NoMemory) = Unit {0}

@@ -1,4 +1,4 @@
 pub mod Answers
 pub mod Words
 pub mod Files
-
+pub mod Ends

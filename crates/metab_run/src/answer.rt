@@ -1,7 +1,7 @@
 //! A status with its text, and the answers that all commands share.
 
 ghost use Rattle.std.specs.Prelude.{◌≡◌, IfOk, codes};
-ghost use Rattle.metab_run.specs.Answers.{refused_words, unread, too_long, refused, kind_text};
+ghost use Rattle.metab_run.specs.Answers.{refused_words, unread, too_long, refused, kind_text, IsSaid};
 
 use crate::status::Status;
 use std::alloc::{AllocError, AllocFailed, Global};
@@ -21,6 +21,10 @@ impl Model for Answer {
     ghost Value = { Answer };
 
     ghost view = { λ a. record { status = a.status; text = a.text.items } };
+
+    ghost use Rattle.metab_run.specs.Answers.{IsSaid};
+
+    ghost invariant = { λ a. IsSaid a.status };
 }
 
 /// Why a command goes no further: it has its answer, or no memory is left.
@@ -55,6 +59,7 @@ impl<T: Drop> From<AllocFailed<T>> for Halt {
 impl Answer {
     /// This status with this text.
     pub fn new(status: Status, text: Vec<u8>) -> Answer
+        requires { IsSaid status }
         ensures { result ≡ record { status = status; text = text.items } }
     {
         Answer { status, text }
@@ -62,7 +67,8 @@ impl Answer {
 
     /// The status.
     pub fn status(&self) -> Status
-        ensures { result ≡ self.now.status }
+        ensures status { result ≡ self.now.status }
+        ensures said { IsSaid result }
     {
         self.status
     }
