@@ -1,9 +1,9 @@
 -- The first file of a name, by its place.
-use Rattle.std.proofs.Common.{◌≡◌, ℕ, ◌<◌, ◌≤◌, length, List, [], ◌∷◌, zero, suc, Option, Some, None, refl, arith, ap, sym, ◌∙◌, true, false, Bool, cond}
+use Rattle.std.proofs.Common.{◌≡◌, ℕ, ◌<◌, length, List, [], ◌∷◌, zero, suc, Some, None, refl, arith, ap, ◌∙◌, Bool}
 use Rattle.std.proofs.lemmas.List.Folds.{find_at}
-use Rattle.std.proofs.lemmas.Option.{slice_get_past, slice_get-get_or}
+use Rattle.std.proofs.lemmas.Option.{slice_get_past}
 use Rattle.std.proofs.lemmas.Bool.Decides.{nat_tests}
-use Rattle.std.specs.Prelude.{position, bytes_eq, slice_get, option_map, find, MatchOption}
+use Rattle.std.specs.Prelude.{position, bytes_eq, slice_get, option_map, find}
 use Rattle.mb_io.specs.Files.{Named, file_named, first_place}
 use Rattle.mb_io.specs.MemShelf.{rest_of, rest_of_file}
 

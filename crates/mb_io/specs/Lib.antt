@@ -5,3 +5,4 @@ pub mod Piece
 pub mod Files
 pub mod MemShelf
 pub mod MemSink
+pub mod Fs

@@ -5,6 +5,7 @@
 #![tactic(auto)]
 
 mod calls;
+pub mod fs;
 pub mod load;
 pub mod mem_shelf;
 pub mod mem_sink;
@@ -13,9 +14,13 @@ mod piece;
 pub mod send;
 pub mod shelf;
 
+pub use fs::{FsShelf, OutSink};
 pub use load::{LoadFault, read_all};
 pub use mem_shelf::MemShelf;
 pub use mem_sink::MemSink;
 pub use named::NamedBytes;
 pub use send::write_all;
 pub use shelf::{Failed, Shelf, Sink};
+
+#[cfg(test)]
+mod tests;
