@@ -4,7 +4,7 @@ use Rattle.std.specs.Prelude.{◌<ℤ◌, ◌≤ℤ◌}
 use Rattle.std.specs.Int.{int_div_euclid}
 use Rattle.formal_sums.proofs.Integers.{+ℤ-*ℤ, neg_ℤ-*ℤ}
 use Rattle.std.proofs.Math.IntN.{+ℤ_invr}
-use borrow.Author.Differences.{up, ints}
+use borrow.Author.Differences.{ints}
 
 -- the floor and a remainder from 0 on, below the divisor
 pub floor_remainder : (k l : ℤ) → pos 0 <ℤ l → (r : ℕ) × (k ≡ int_div_euclid k l *ℤ l +ℤ pos r) × (pos r <ℤ l)
@@ -58,8 +58,8 @@ floor_zero k l h e = by (floor_remainder k l h)
         (omega (arith, ints), omega (arith, ints))
 
 -- a multiple of the divisor adds to the floor
-pub floor-+ℤ-*ℤ : (k l q : ℤ) → pos 0 <ℤ l → int_div_euclid (k +ℤ q *ℤ l) l ≡ int_div_euclid k l +ℤ q
-floor-+ℤ-*ℤ k l q h = by (floor_remainder k l h)
+pub floor-add_mul : (k l q : ℤ) → pos 0 <ℤ l → int_div_euclid (k +ℤ q *ℤ l) l ≡ int_div_euclid k l +ℤ q
+floor-add_mul k l q h = by (floor_remainder k l h)
   where
     regroup : (a b r : ℤ) → a +ℤ r +ℤ b ≡ a +ℤ b +ℤ r
     regroup a b r = omega (arith, ints)
@@ -71,5 +71,5 @@ floor-+ℤ-*ℤ k l q h = by (floor_remainder k l h)
 pub floor_left : (k l : ℤ) → pos 0 <ℤ l → int_div_euclid (k +ℤ neg_ℤ (int_div_euclid k l *ℤ l)) l ≡ pos 0
 floor_left k l h =
     ap (λ z. int_div_euclid (k +ℤ z) l) (sym (neg_ℤ-*ℤ (int_div_euclid k l) l))
-    ∙ floor-+ℤ-*ℤ k l (neg_ℤ (int_div_euclid k l)) h
+    ∙ floor-add_mul k l (neg_ℤ (int_div_euclid k l)) h
     ∙ +ℤ_invr (int_div_euclid k l)

@@ -1,7 +1,6 @@
 -- Tuples of integers: an abelian group in which equality is decided, and that its entries determine.
-use Rattle.std.proofs.Common.{◌≡◌, ℕ, suc, zero, ◌<◌, true, false, ◌&&◌, cond, nat_eq, ℤ, pos, ◌+ℤ◌, neg_ℤ, refl, sym, ap, ◌∙◌, arith}
+use Rattle.std.proofs.Common.{◌≡◌, ℕ, suc, zero, ◌<◌, false, cond, nat_eq, pos, ◌+ℤ◌, neg_ℤ, refl, ap, ◌∙◌, arith}
 use Rattle.std.proofs.Math.IntN.{+ℤ_assoc, +ℤ_comm, +ℤ_idl, +ℤ_invl}
-use Rattle.std.specs.Ordering.{int_eq}
 use Rattle.formal_sums.specs.IntegerTuple.{IntegerTuple, plus, none, minus, one_at, entry, tuple_eq}
 use Rattle.formal_sums.specs.Keys.{IsEqualityTest}
 use Rattle.formal_sums.proofs.Keys.{int_test, pair_test}

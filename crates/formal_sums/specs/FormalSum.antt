@@ -1,7 +1,7 @@
--- Formal sums over the integers: lists of terms, each a coefficient and a key. The list stands for the sum of its
--- terms, so its order, zero coefficients and terms with the same key say nothing: two sums are the same where each key
--- has the same coefficient in both. Addition is `++`, the empty list is 0, and nothing has to be removed or sorted.
--- Keys are compared by a test `eq`, and a strict order of keys is a relation `Below`.
+-- Formal sums over the integers: lists of terms, each a coefficient and a key. The list stands for
+-- the sum of its terms, so its order, zero coefficients and several terms with one key say nothing:
+-- two sums are the same where each key has the same coefficient in both. Addition is `++`, and the
+-- empty list is 0. Keys are compared by a test `eq`; a strict order of keys is a relation `Below`.
 use Rattle.std.specs.Prelude.{◌≡◌, ◌≢◌, Bool, if◌then◌else◌, ℤ, pos, ◌+ℤ◌, ◌*ℤ◌, List, [], ◌∷◌, map, ⊤}
 use Rattle.std.specs.List.{AllByRecursion}
 

@@ -1,11 +1,13 @@
-//! The laws of formal sums and of the integers. Each function does nothing: its contract is the law, and a call of it
-//! tells the law to the proof of the caller.
+//! The laws of integers and of formal sums. Each function does nothing: its contract is the law, and
+//! a call of it tells the law to the proof of the caller.
 
 ghost use Rattle.std.specs.Int.{int_div_euclid};
 ghost use Rattle.std.specs.List.Sorted.{IsPermutation};
 ghost use Rattle.std.specs.Prelude.{◌≡◌, ◌⊎◌, Bool, ℕ, ℤ, pos, ◌+ℤ◌, ◌*ℤ◌, ◌<ℤ◌, ◌++◌};
-ghost use Rattle.formal_sums.specs.Evaluation.{Addition, IsAdditive, Extends, evaluate, integer_addition, sum_addition};
-ghost use Rattle.formal_sums.specs.FormalSum.{FormalSum, coefficient, Same, scale, rename, Falling, NonZero};
+ghost use Rattle.formal_sums.specs.Evaluation.{Addition, IsAdditive, Extends, evaluate};
+ghost use Rattle.formal_sums.specs.Evaluation.{integer_addition, sum_addition};
+ghost use Rattle.formal_sums.specs.FormalSum.{FormalSum, coefficient, Same, scale, rename};
+ghost use Rattle.formal_sums.specs.FormalSum.{Falling, NonZero};
 ghost use Rattle.formal_sums.specs.IntegerTuple.{IntegerTuple, plus, none, minus, tuple_eq};
 ghost use Rattle.formal_sums.specs.Keys.{IsEqualityTest, IsStrictOrder};
 
@@ -27,114 +29,94 @@ pub fn products_have_no_zero_divisors()
     ensures { (a b : ℤ) → a *ℤ b ≡ pos 0 → (a ≡ pos 0) ⊎ (b ≡ pos 0) }
 {}
 
-/// Division by a positive integer rounds down: it leaves a remainder from 0 on that is below the divisor, and no other
-/// quotient does.
+/// Division by a positive integer rounds down: it leaves a remainder from 0 on that is below the
+/// divisor, and no other quotient does.
 pub fn division_rounds_down()
-    ensures remainder {
-        (k l : ℤ) → pos 0 <ℤ l → (r : ℕ) × (k ≡ int_div_euclid k l *ℤ l +ℤ pos r) × (pos r <ℤ l)
-    }
-    ensures unique {
-        (k l q : ℤ) (r : ℕ) → k ≡ q *ℤ l +ℤ pos r → pos r <ℤ l → int_div_euclid k l ≡ q
-    }
+    ensures remainder { (k l : ℤ) → pos 0 <ℤ l →
+        (r : ℕ) × (k ≡ int_div_euclid k l *ℤ l +ℤ pos r) × (pos r <ℤ l) }
+    ensures unique { (k l q : ℤ) (r : ℕ) →
+        k ≡ q *ℤ l +ℤ pos r → pos r <ℤ l → int_div_euclid k l ≡ q }
 {}
 
-/// The tuples of n integers form an abelian group under addition by entries, in which equality is decided.
+/// The tuples of n integers form an abelian group under addition by entries, in which equality is
+/// decided.
 pub fn tuples_form_a_group()
-    ensures associative {
-        (n : ℕ) (a b c : IntegerTuple n) → plus n (plus n a b) c ≡ plus n a (plus n b c)
-    }
+    ensures associative { (n : ℕ) (a b c : IntegerTuple n) →
+        plus n (plus n a b) c ≡ plus n a (plus n b c) }
     ensures commutative { (n : ℕ) (a b : IntegerTuple n) → plus n a b ≡ plus n b a }
     ensures neutral { (n : ℕ) (a : IntegerTuple n) → plus n (none n) a ≡ a }
     ensures inverse { (n : ℕ) (a : IntegerTuple n) → plus n (minus n a) a ≡ none n }
     ensures decided { (n : ℕ) → IsEqualityTest (tuple_eq n) }
 {}
 
-/// The coefficients of a sum of two are the sums of theirs.
+/// The coefficients of the sum of two formal sums are the sums of their coefficients.
 pub fn coefficients_of_sums<K>()
-    ensures {
-        (eq : K → K → Bool) (v w : FormalSum K) (k : K) →
-        coefficient eq (v ++ w) k ≡ coefficient eq v k +ℤ coefficient eq w k
-    }
+    ensures { (eq : K → K → Bool) (v w : FormalSum K) (k : K) →
+        coefficient eq (v ++ w) k ≡ coefficient eq v k +ℤ coefficient eq w k }
 {}
 
 /// The coefficients of a multiple are the multiples of the coefficients.
 pub fn coefficients_of_multiples<K>()
-    ensures {
-        (eq : K → K → Bool) (q : ℤ) (v : FormalSum K) (k : K) →
-        coefficient eq (scale q v) k ≡ q *ℤ coefficient eq v k
-    }
+    ensures { (eq : K → K → Bool) (q : ℤ) (v : FormalSum K) (k : K) →
+        coefficient eq (scale q v) k ≡ q *ℤ coefficient eq v k }
 {}
 
-/// Sums of equal sums are equal.
+/// Where equal sums are added to equal sums, the results are equal.
 pub fn addition_keeps_equality<K>()
-    ensures {
-        (eq : K → K → Bool) (v v' w w' : FormalSum K) →
-        Same eq v v' → Same eq w w' → Same eq (v ++ w) (v' ++ w')
-    }
+    ensures { (eq : K → K → Bool) (v v' w w' : FormalSum K) →
+        Same eq v v' → Same eq w w' → Same eq (v ++ w) (v' ++ w') }
 {}
 
-/// Equal multiples of equal sums are equal.
+/// The same multiples of equal sums are equal.
 pub fn scaling_keeps_equality<K>()
-    ensures {
-        (eq : K → K → Bool) (q : ℤ) (v w : FormalSum K) →
-        Same eq v w → Same eq (scale q v) (scale q w)
-    }
+    ensures { (eq : K → K → Bool) (q : ℤ) (v w : FormalSum K) →
+        Same eq v w → Same eq (scale q v) (scale q w) }
 {}
 
 /// Equal sums stay equal under every map of the keys, also where keys fall together.
 pub fn renaming_keeps_equality<K, J>()
-    ensures {
-        (eq : K → K → Bool) → IsEqualityTest eq → (eq' : J → J → Bool) (f : K → J) (v w : FormalSum K) →
-        Same eq v w → Same eq' (rename f v) (rename f w)
-    }
+    ensures { (eq : K → K → Bool) → IsEqualityTest eq →
+        (eq' : J → J → Bool) (f : K → J) (v w : FormalSum K) →
+        Same eq v w → Same eq' (rename f v) (rename f w) }
 {}
 
 /// The order of the terms says nothing.
 pub fn exchanges_keep_equality<K>()
-    ensures {
-        (eq : K → K → Bool) (v w : FormalSum K) → IsPermutation v w → Same eq v w
-    }
+    ensures { (eq : K → K → Bool) (v w : FormalSum K) → IsPermutation v w → Same eq v w }
 {}
 
-/// The universal property of formal sums. Let values of the type C be added with the laws of a commutative monoid with
-/// integer multiples, up to a relation that counts as equality, and let f give each key a value. Then equal sums have
-/// equal values, taking values is additive and extends f, and no other additive map does.
+/// The universal property of formal sums. Let values of the type C be added with the laws of a
+/// commutative monoid with integer multiples, up to a relation that counts as equality, and let f
+/// give each key a value. Then equal sums have equal values, taking values is additive and extends
+/// f, and no other additive map does.
 pub fn sums_are_universal<K, C: Setoid>()
-    ensures well_defined {
-        (addition : Addition C) → IsAdditive addition C.alike →
+    ensures well_defined { (addition : Addition C) → IsAdditive addition C.alike →
         (eq : K → K → Bool) → IsEqualityTest eq → (f : K → C) (v w : FormalSum K) →
-        Same eq v w → C.alike (evaluate addition f v) (evaluate addition f w)
-    }
-    ensures extends {
-        (addition : Addition C) → IsAdditive addition C.alike → (f : K → C) →
-        Extends addition C.alike f (evaluate addition f)
-    }
-    ensures unique {
-        (addition : Addition C) → IsAdditive addition C.alike → (f : K → C) (g : FormalSum K → C) →
-        Extends addition C.alike f g → (v : FormalSum K) → C.alike (g v) (evaluate addition f v)
-    }
+        Same eq v w → C.alike (evaluate addition f v) (evaluate addition f w) }
+    ensures extends { (addition : Addition C) → IsAdditive addition C.alike →
+        (f : K → C) → Extends addition C.alike f (evaluate addition f) }
+    ensures unique { (addition : Addition C) → IsAdditive addition C.alike →
+        (f : K → C) (g : FormalSum K → C) → Extends addition C.alike f g →
+        (v : FormalSum K) → C.alike (g v) (evaluate addition f v) }
 {}
 
 /// Equal sums have the same integer value, whatever integers stand for the keys.
 pub fn integer_values_of_equal_sums<K>()
-    ensures {
-        (eq : K → K → Bool) → IsEqualityTest eq → (f : K → ℤ) (v w : FormalSum K) →
-        Same eq v w → evaluate integer_addition f v ≡ evaluate integer_addition f w
-    }
+    ensures { (eq : K → K → Bool) → IsEqualityTest eq → (f : K → ℤ) (v w : FormalSum K) →
+        Same eq v w → evaluate integer_addition f v ≡ evaluate integer_addition f w }
 {}
 
-/// Equal sums stay equal where a sum over other keys is put in for each key.
+/// Equal sums stay equal where for each key a sum over other keys is put in.
 pub fn substitution_keeps_equality<K, J>()
-    ensures {
-        (eq : K → K → Bool) → IsEqualityTest eq → (eq' : J → J → Bool) (f : K → FormalSum J) (v w : FormalSum K) →
-        Same eq v w → Same eq' (evaluate sum_addition f v) (evaluate sum_addition f w)
-    }
+    ensures { (eq : K → K → Bool) → IsEqualityTest eq →
+        (eq' : J → J → Bool) (f : K → FormalSum J) (v w : FormalSum K) →
+        Same eq v w → Same eq' (evaluate sum_addition f v) (evaluate sum_addition f w) }
 {}
 
-/// A sum with strictly falling keys and no zero coefficient is determined, as a list, by its coefficients.
+/// A sum with strictly falling keys and no zero coefficient is determined, as a list, by its
+/// coefficients.
 pub fn coefficients_determine_falling_sums<K: Ordered>()
-    ensures {
-        (eq : K → K → Bool) → IsEqualityTest eq → IsStrictOrder K.is_below → (v w : FormalSum K) →
-        Falling K.is_below v → NonZero v → Falling K.is_below w → NonZero w → Same eq v w → v ≡ w
-    }
+    ensures { (eq : K → K → Bool) → IsEqualityTest eq → IsStrictOrder K.is_below →
+        (v w : FormalSum K) → Falling K.is_below v → NonZero v → Falling K.is_below w → NonZero w →
+        Same eq v w → v ≡ w }
 {}
