@@ -1,5 +1,5 @@
 -- Coefficients of sums, multiples and renamed sums, and what keeps the equality of formal sums.
-use Rattle.std.proofs.Common.{◌≡◌, ◌+◌, Bool, true, false, cond, ℤ, pos, negsuc, ◌+ℤ◌, ◌*ℤ◌, [], ◌∷◌, ◌++◌, refl, sym, ap, ◌∙◌, arith}
+use Rattle.std.proofs.Common.{◌≡◌, ◌≢◌, ◌+◌, Bool, true, false, cond, ℤ, pos, negsuc, ◌+ℤ◌, ◌*ℤ◌, [], ◌∷◌, ◌++◌, refl, sym, ap, ◌∙◌, arith}
 use Rattle.std.proofs.lemmas.List.{map-append}
 use Rattle.std.specs.Prelude.{sum_by}
 use Rattle.std.specs.List.Sorted.{IsPermutation}
@@ -7,6 +7,9 @@ use Rattle.std.proofs.lemmas.List.Sums.{sum_by-cons}
 use Rattle.std.proofs.lemmas.List.Sorted.{sum_by-IsPermutation}
 use borrow.Author.Differences.{up, down, ints, same_in}
 use Rattle.formal_sums.specs.FormalSum.{FormalSum, coefficient, Same, scale, rename}
+use Rattle.formal_sums.specs.Keys.{IsEqualityTest}
+use Rattle.formal_sums.proofs.Keys.{eq-apart}
+use Rattle.std.proofs.Math.IntN.{+ℤ_idr}
 use Rattle.formal_sums.proofs.Integers.{*ℤ-+ℤ, *ℤ_assoc}
 
 module _ {K : Type 0} (eq : K → K → Bool) where
@@ -48,6 +51,14 @@ module _ {K : Type 0} (eq : K → K → Bool) where
 
   pub Same-permutation : (v w : FormalSum K) → IsPermutation v w → Same eq v w
   Same-permutation v w h k = same_in (coefficient eq v k) (coefficient eq w k) (omega (arith, split v k, split w k, sum_by-IsPermutation (λ t. down (here k t)) v w h, sum_by-IsPermutation (λ t. up (here k t)) v w h))
+
+-- ---- a single term
+module _ {K : Type 0} {eq : K → K → Bool} (test : IsEqualityTest eq) where
+  pub coefficient_own : (q : ℤ) (k : K) → coefficient eq ((q, k) ∷ []) k ≡ q
+  coefficient_own q k = rw (test.reflexive k) (+ℤ_idr q)
+
+  pub coefficient_other : (q : ℤ) (k m : K) → k ≢ m → coefficient eq ((q, k) ∷ []) m ≡ pos 0
+  coefficient_other q k m h = rw (eq-apart test k m h) refl
 
 -- ---- equations of lists
 pub scale-append : {K : Type 0} (q : ℤ) (v w : FormalSum K) → scale q (v ++ w) ≡ scale q v ++ scale q w

@@ -178,11 +178,12 @@ sums_additive eq = record {
 }
 
 -- ---- renaming
-module _ {K J : Type 0} {eq : K → K → Bool} (test : IsEqualityTest eq) (eq' : J → J → Bool) (f : K → J) where
+module _ {K J : Type 0} (eq' : J → J → Bool) (f : K → J) where
   -- 1 for the keys that become j
   abbrev pub becomes : J → K → ℤ
   becomes j k = cond (eq' (f k) j) (pos 1) (pos 0)
 
+  -- the coefficient of j counts the terms whose keys become j
   pub coefficient-rename : (v : FormalSum K) (j : J) → coefficient eq' (rename f v) j ≡ evaluate integer_addition (becomes j) v
   coefficient-rename [] j = refl
   coefficient-rename (t ∷ v) j = λ i. by t.0 (eq' (f t.1) j) i +ℤ coefficient-rename v j i
@@ -191,8 +192,12 @@ module _ {K J : Type 0} {eq : K → K → Bool} (test : IsEqualityTest eq) (eq' 
       by q true = sym (*ℤ_comm q (pos 1) ∙ one-*ℤ q)
       by q false = omega (arith, ints)
 
-  pub Same-rename : (v w : FormalSum K) → Same eq v w → Same eq' (rename f v) (rename f w)
-  Same-rename v w h j = coefficient-rename v j ∙ evaluate-same test integers_additive (becomes j) v w h ∙ sym (coefficient-rename w j)
+pub Same-rename : {K J : Type 0} {eq : K → K → Bool} (test : IsEqualityTest eq) (eq' : J → J → Bool) (f : K → J) (v w : FormalSum K) → Same eq v w → Same eq' (rename f v) (rename f w)
+Same-rename test eq' f v w h j = coefficient-rename eq' f v j ∙ evaluate-same test integers_additive (becomes eq' f j) v w h ∙ sym (coefficient-rename eq' f w j)
+
+pub evaluate-rename : {K J C : Type 0} (addition : Addition C) (g : J → C) (f : K → J) (v : FormalSum K) → evaluate addition g (rename f v) ≡ evaluate addition (λ k. g (f k)) v
+evaluate-rename addition g f [] = refl
+evaluate-rename addition g f (t ∷ v) = ap (λ z. addition.plus (addition.times t.0 (g (f t.1))) z) (evaluate-rename addition g f v)
 
 -- keys that stay apart keep their coefficients
 pub coefficient-rename_apart : {K J : Type 0} (eq : K → K → Bool) (eq' : J → J → Bool) (f : K → J) → ((a b : K) → eq' (f a) (f b) ≡ eq a b) → (v : FormalSum K) (k : K) → coefficient eq' (rename f v) (f k) ≡ coefficient eq v k

@@ -29,7 +29,7 @@ abbrev pub evaluate : {K C : Type 0} → Addition C → (K → C) → FormalSum 
 evaluate addition f [] = addition.unit
 evaluate addition f (t ∷ v) = addition.plus (addition.times t.0 (f t.1)) (evaluate addition f v)
 
--- the map g of sums is additive, and takes each key k to f k
+-- the map g of sums is additive, and takes a term q·k to q times f k
 pub record Extends {K C : Type 0} (addition : Addition C) (Alike : C → C → Type 0)
     (f : K → C) (g : FormalSum K → C) : Type 0 where
   pub empty : Alike (g []) addition.unit

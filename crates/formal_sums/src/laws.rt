@@ -1,17 +1,22 @@
 //! The laws of integers and of formal sums. Each function does nothing: its contract is the law, and
 //! a call of it tells the law to the proof of the caller.
 
+ghost use Rattle.std.specs.Cmp.{IsTotalOrder};
 ghost use Rattle.std.specs.Int.{int_div_euclid};
 ghost use Rattle.std.specs.List.Sorted.{IsPermutation};
-ghost use Rattle.std.specs.Prelude.{◌≡◌, ◌⊎◌, Bool, ℕ, ℤ, pos, ◌+ℤ◌, ◌*ℤ◌, ◌<ℤ◌, ◌++◌};
+ghost use Rattle.std.specs.Ordering.{eq_by_cmp};
+ghost use Rattle.std.specs.declared.cmp.Ordering.{Ordering};
+ghost use Rattle.std.specs.Prelude.{◌≡◌, ◌≢◌, ◌⊎◌, Bool, if◌then◌else◌, ℕ, ◌<◌, nat_eq, [], ◌∷◌, ◌++◌};
+ghost use Rattle.std.specs.Prelude.{ℤ, pos, neg_ℤ, ◌+ℤ◌, ◌*ℤ◌, ◌<ℤ◌};
 ghost use Rattle.formal_sums.specs.Evaluation.{Addition, IsAdditive, Extends, evaluate};
 ghost use Rattle.formal_sums.specs.Evaluation.{integer_addition, sum_addition};
 ghost use Rattle.formal_sums.specs.FormalSum.{FormalSum, coefficient, Same, scale, rename};
 ghost use Rattle.formal_sums.specs.FormalSum.{Falling, NonZero};
-ghost use Rattle.formal_sums.specs.IntegerTuple.{IntegerTuple, plus, none, minus, tuple_eq};
+ghost use Rattle.formal_sums.specs.IntegerTuple.{IntegerTuple, plus, none, minus, one_at, entry, tuple_eq};
 ghost use Rattle.formal_sums.specs.Keys.{IsEqualityTest, IsStrictOrder};
 
 use crate::relations::{Ordered, Setoid};
+use std::cmp::Ordering;
 
 /// Multiplication of integers is associative.
 pub fn products_associate()
@@ -49,6 +54,38 @@ pub fn tuples_form_a_group()
     ensures decided { (n : ℕ) → IsEqualityTest (tuple_eq n) }
 {}
 
+/// A tuple is determined by its entries, and the operations go by entries. The tuple `one_at n h`
+/// has the entry 1 at place h, and 0 elsewhere.
+pub fn tuples_go_by_entries()
+    ensures determined { (n : ℕ) (a b : IntegerTuple n) →
+        ((g : ℕ) → entry n a g ≡ entry n b g) → a ≡ b }
+    ensures sum { (n : ℕ) (a b : IntegerTuple n) (g : ℕ) →
+        entry n (plus n a b) g ≡ entry n a g +ℤ entry n b g }
+    ensures negative { (n : ℕ) (a : IntegerTuple n) (g : ℕ) →
+        entry n (minus n a) g ≡ neg_ℤ (entry n a g) }
+    ensures zero { (n g : ℕ) → entry n (none n) g ≡ pos 0 }
+    ensures generator { (n h g : ℕ) → h < n →
+        entry n (one_at n h) g ≡ (if nat_eq h g then pos 1 else pos 0) }
+{}
+
+/// A comparison that is a total order, and answers `Equal` of equal keys alone, is a test for
+/// equality and a strict order of the keys.
+pub fn comparisons_order_keys<K>()
+    ensures test { (cmp : K → K → Ordering) → IsTotalOrder cmp →
+        ((a b : K) → cmp a b ≡ Ordering.Equal → a ≡ b) → IsEqualityTest (eq_by_cmp cmp) }
+    ensures order { (cmp : K → K → Ordering) → IsTotalOrder cmp →
+        ((a b : K) → cmp a b ≡ Ordering.Equal → a ≡ b) →
+        IsStrictOrder (λ a b. cmp a b ≡ Ordering.Less) }
+{}
+
+/// A single term has its coefficient at its key, and 0 at each other key.
+pub fn coefficients_of_terms<K>()
+    ensures own { (eq : K → K → Bool) → IsEqualityTest eq →
+        (q : ℤ) (k : K) → coefficient eq ((q, k) ∷ []) k ≡ q }
+    ensures other { (eq : K → K → Bool) → IsEqualityTest eq →
+        (q : ℤ) (k m : K) → k ≢ m → coefficient eq ((q, k) ∷ []) m ≡ pos 0 }
+{}
+
 /// The coefficients of the sum of two formal sums are the sums of their coefficients.
 pub fn coefficients_of_sums<K>()
     ensures { (eq : K → K → Bool) (v w : FormalSum K) (k : K) →
@@ -59,6 +96,14 @@ pub fn coefficients_of_sums<K>()
 pub fn coefficients_of_multiples<K>()
     ensures { (eq : K → K → Bool) (q : ℤ) (v : FormalSum K) (k : K) →
         coefficient eq (scale q v) k ≡ q *ℤ coefficient eq v k }
+{}
+
+/// Where keys are renamed, the coefficient of a new key is the sum of the coefficients of the terms
+/// that get it.
+pub fn coefficients_of_renamed_sums<K, J>()
+    ensures { (eq : J → J → Bool) (f : K → J) (v : FormalSum K) (j : J) →
+        coefficient eq (rename f v) j
+        ≡ evaluate integer_addition (λ k. if eq (f k) j then pos 1 else pos 0) v }
 {}
 
 /// Where equal sums are added to equal sums, the results are equal.

@@ -20,12 +20,16 @@ fn laws_of_integers() {
     laws::products_have_no_zero_divisors();
     laws::division_rounds_down();
     laws::tuples_form_a_group();
+    laws::tuples_go_by_entries();
 }
 
 #[test]
 fn laws_of_formal_sums() {
+    laws::comparisons_order_keys::<u8>();
+    laws::coefficients_of_terms::<u8>();
     laws::coefficients_of_sums::<u8>();
     laws::coefficients_of_multiples::<u8>();
+    laws::coefficients_of_renamed_sums::<u8, char>();
     laws::addition_keeps_equality::<u8>();
     laws::scaling_keeps_equality::<u8>();
     laws::renaming_keeps_equality::<u8, char>();
