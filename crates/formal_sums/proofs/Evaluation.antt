@@ -28,7 +28,7 @@ module _ {K C : Type 0} {addition : Addition C} {Alike : C → C → Type 0} (la
 
 -- ---- the terms at other keys
 module _ {K : Type 0} {eq : K → K → Bool} (test : IsEqualityTest eq) where
-  abbrev pub others : K → FormalSum K → FormalSum K
+  abbrev others : K → FormalSum K → FormalSum K
   others k [] = []
   others k (t ∷ v) = cond (eq t.1 k) (others k v) (t ∷ others k v)
 
@@ -183,7 +183,7 @@ module _ {K J : Type 0} (eq' : J → J → Bool) (f : K → J) where
   abbrev pub becomes : J → K → ℤ
   becomes j k = cond (eq' (f k) j) (pos 1) (pos 0)
 
-  -- the coefficient of j counts the terms whose keys become j
+  -- the coefficient of j adds up the terms whose keys become j
   pub coefficient-rename : (v : FormalSum K) (j : J) → coefficient eq' (rename f v) j ≡ evaluate integer_addition (becomes j) v
   coefficient-rename [] j = refl
   coefficient-rename (t ∷ v) j = λ i. by t.0 (eq' (f t.1) j) i +ℤ coefficient-rename v j i
