@@ -1,8 +1,8 @@
 -- Inverses of words.
-use Rattle.std.proofs.Common.{◌≡◌, Bool, true, false, not, List, [], ◌∷◌, ◌++◌, refl, sym, ◌∙◌, ap, append_assoc, append-nil, reverse, ℕ, zero, suc}
+use Rattle.std.proofs.Common.{◌≡◌, List, [], ◌∷◌, ◌++◌, refl, append_assoc, reverse}
 use Rattle.std.proofs.lemmas.List.{reverse-append, map-append}
 use Rattle.free_words.specs.declared.letter.Letter.{Letter}
-use Rattle.free_words.specs.Words.{flipped, inverse, commutator, copies}
+use Rattle.free_words.specs.Words.{flipped, inverse, commutator}
 use Rattle.free_words.proofs.WordLemmas.{flipped-flipped}
 
 pub inverse-append : (u v : List Letter) → inverse (u ++ v) ≡ inverse v ++ inverse u

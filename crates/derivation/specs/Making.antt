@@ -1,5 +1,5 @@
 -- What `apply` and `check_steps` answer.
-use Rattle.std.specs.Prelude.{◌≡◌, ℕ, zero, suc, ◌+◌, ◌==◌, ◌<◌, ◌≤◌, Bool, true, false, List, [], ◌∷◌, ◌++◌, length, Option, Some, None, Result, Ok, Err, slice_get, if◌then◌else◌, take, drop}
+use Rattle.std.specs.Prelude.{◌≡◌, ℕ, zero, suc, ◌+◌, ◌==◌, ◌<◌, ◌≤◌, Bool, true, false, List, [], ◌∷◌, ◌++◌, length, Option, Some, None, Result, Ok, Err, slice_get, if◌then◌else◌, drop}
 use Rattle.free_words.specs.declared.letter.Letter.{Letter}
 use Rattle.free_words.specs.declared.TheConstants.{COMPOSED}
 use Rattle.free_words.specs.Words.{flipped, inverse, commutator, copies}
@@ -78,3 +78,8 @@ StepsGive p w moves (Err (BadMove number reason)) =
 StepsGive p w moves (Err (NotEmpty left)) =
     (end : List Letter) × Runs p w moves end × (left ≡ length end) × (0 < left)
 StepsGive p w moves (Err steps.NoMemory) = Unit {0}
+
+-- the fault of a move that stands behind so many others, as a fault of the list
+abbrev pub IsAtMove : ℕ → MoveFault → StepsFault → Type 0
+IsAtMove before (Refused reason) fault = fault ≡ BadMove (capped (before + 1)) reason
+IsAtMove before NoMemory fault = fault ≡ steps.NoMemory

@@ -2,6 +2,9 @@
 #![tactic(auto)]
 
 mod moves;
+mod moving;
 mod piece;
+mod steps;
 
 pub use moves::{Insert, Move, MoveFault, MoveReason, StepsFault};
+pub use steps::{apply, check_steps};

@@ -59,7 +59,8 @@ impl Piece<'_> {
     #[tactic(auto, using(crate::proofs::PieceLemmas::length_times))]
     pub fn len(&self) -> u64
         requires { IsCountable self.now }
-        ensures { result ≡ length (letters_of self.now) }
+        ensures length { result ≡ length (letters_of self.now) }
+        ensures small { result < 2 ^ 60 }
     {
         match self {
             Piece::Pair(_) => 2,
