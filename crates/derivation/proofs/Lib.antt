@@ -1,0 +1,5 @@
+pub mod Inverses
+pub mod PieceLemmas
+pub mod Deciding
+pub mod MoveLemmas
+pub mod Runs

@@ -1,0 +1,10 @@
+//! Moves on words over a presentation, and what a list of moves shows of a word.
+#![tactic(auto)]
+
+mod moves;
+mod moving;
+mod piece;
+mod steps;
+
+pub use moves::{Insert, Move, MoveFault, MoveReason, StepsFault};
+pub use steps::{apply, check_steps};
