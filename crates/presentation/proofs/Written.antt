@@ -1,5 +1,5 @@
 -- The letters of a word that is read belong to the names, and it is no longer than a written word may be.
-use Rattle.std.proofs.Common.{◌≡◌, ℕ, zero, suc, ◌<◌, ◌≤◌, Bool, true, false, List, [], ◌∷◌, ◌++◌, length, Some, Ok, arith}
+use Rattle.std.proofs.Common.{◌≡◌, ℕ, zero, suc, ◌<◌, ◌≤◌, Bool, true, false, List, [], ◌∷◌, ◌++◌, length, Some, Result, Ok, Err, IfOk, arith}
 use Rattle.std.specs.Str.{bytes_eq}
 use Rattle.std.proofs.lemmas.List.{map-append, reverse-append}
 use Rattle.std.proofs.lemmas.List.Quantifiers.{position-Some}
@@ -10,7 +10,10 @@ use Rattle.word_text.specs.Powers.{written}
 use Rattle.word_text.specs.Machine.{Find, finding, word_at}
 use Rattle.word_text.specs.Grammar.{power_of, Powers, Part, Product, Factor, Atom, Spelled}
 use Rattle.word_text.specs.Scan.{after_blanks}
-use Rattle.word_text.proofs.Reached.{word_spelled}
+use Rattle.word_text.specs.declared.fault.ReadFault.{ReadFault}
+use Rattle.word_text.specs.declared.fault.ReadFault.TheVariants as faults
+use Rattle.word_text.specs.Place.{ReadsText, word_text}
+use Rattle.word_text.proofs.Reached.{word_spelled, text_spelled}
 use Rattle.presentation.specs.Presented.{IsWritten}
 
 over_append : (n : ℕ) (u v : List Letter) → IsOver n u → IsOver n v → IsOver n (u ++ v)
@@ -81,3 +84,12 @@ pub word_written : (names : List (List ℕ)) (bs : List ℕ) (w : List Letter) (
 word_written names bs w rest e =
     let h = word_spelled (finding names) bs w rest e in
     product_written names h.0 (after_blanks bs) w rest h.1
+
+-- a word that is a whole text
+pub text_written : (names : List (List ℕ)) (text : List ℕ) (result : Result (List Letter) ReadFault)
+    → ReadsText text (word_text (finding names) text) result → IfOk result (λ w. IsWritten (length names) w)
+text_written names text (Ok w) e =
+    let h = text_spelled (finding names) text w e in
+    product_written names h.0 (after_blanks text) w [] h.1
+text_written names text (Err faults.NoMemory) e = tt
+text_written names text (Err (faults.Text f)) e = tt
