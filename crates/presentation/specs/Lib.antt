@@ -1,1 +1,3 @@
 pub mod Presented
+pub mod Line
+pub mod Reading

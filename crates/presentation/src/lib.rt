@@ -1,6 +1,19 @@
 //! Finite presentations of groups, and their texts.
 #![tactic(auto)]
 
+mod line;
+mod modulus;
+mod names;
 mod presentation;
+mod relators;
+mod word;
 
+pub use line::WordReader;
 pub use presentation::Presentation;
+pub use word::read_word;
+
+/// A presentation has at most so many relators.
+pub const RELATORS: u32 = 64;
+
+/// A modulus is at most so large.
+pub const MODULUS: u32 = 1_000_000_000;
