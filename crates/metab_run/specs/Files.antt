@@ -3,8 +3,20 @@ use Rattle.std.specs.Prelude.{◌≡◌, ℕ, ◌<◌, ◌≤◌, List, length, 
 use Rattle.std.specs.declared.alloc.Global.{Global}
 use Rattle.metab_run.specs.declared.answer.Halt.{Halt}
 use Rattle.metab_run.specs.declared.answer.Halt.TheVariants.{Says, NoMemory}
+use Rattle.word_text.specs.declared.fault.Fault.{Fault}
 use Rattle.word_text.specs.declared.fault.TextFault.{TextFault}
+use Rattle.word_text.specs.declared.fault.ReadFault.{ReadFault}
+use Rattle.word_text.specs.declared.fault.ReadFault.TheVariants as faults
+use Rattle.word_text.specs.Place.{placed}
 use Rattle.metab_run.specs.Answers.{Answer, unread, too_long, refused}
+
+-- a reader whose faults have a line and a column
+abbrev pub at_lines : {X : Type 0} → List ℕ → Result X Fault → Result X TextFault
+at_lines bytes (Ok x) = Ok x
+at_lines bytes (Err e) = Err (placed bytes e)
+
+abbrev pub in_lines : {X : Type 0} → (List ℕ → Result X Fault) → List ℕ → Result X TextFault
+in_lines read bytes = at_lines bytes (read bytes)
 
 -- a text that was parsed: its first fault is the answer, or its value goes on
 abbrev pub ReadLeads : {X : Type 0} → List ℕ → Result X TextFault → (X → Answer → Type 0) → Answer → Type 0
@@ -40,3 +52,9 @@ abbrev pub FileGives : {X : Type 0} → Type 0 → ℕ → List ℕ → Option (
 FileGives counted limit name told read (Ok x) = IfSome told (λ bytes. (length bytes ≤ limit) × (read bytes ≡ Ok x))
 FileGives counted limit name told read (Err (Says a)) = FileFails counted limit name told read a
 FileGives counted limit name told read (Err NoMemory) = Unit {0}
+
+-- the answer to what is wrong with a text
+abbrev pub Refuses : List ℕ → ReadFault → Halt → Type 0
+Refuses name (faults.Text f) (Says a) = a ≡ refused name f
+Refuses name faults.NoMemory (Says a) = ⊥
+Refuses name fault NoMemory = Unit {0}
