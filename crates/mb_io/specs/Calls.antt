@@ -12,6 +12,10 @@ pub record Calls : Type 0 where
   pub made : ℕ
   pub faults : ℕ
 
+-- no calls yet
+abbrev pub no_calls : List ℕ → Calls
+no_calls failing = record { failing = failing; made = 0; faults = 0 }
+
 -- the next call is to fail
 abbrev pub IsDue : Calls → Type 0
 IsDue calls = Contains calls.failing (next_count calls.made)

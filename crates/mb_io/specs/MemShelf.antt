@@ -1,6 +1,6 @@
 -- A shelf in memory.
 use Rattle.std.specs.Prelude.{◌≡◌, ℕ, min, List, [], ◌++◌, length, take, drop, Option, Some, None, IsNone, ◌⊎◌, slice_get, Result, Ok, Err}
-use Rattle.mb_io.specs.Calls.{Calls, IsDue, after_call, after_fault}
+use Rattle.mb_io.specs.Calls.{Calls, no_calls, IsDue, after_call, after_fault}
 use Rattle.mb_io.specs.Files.{Named, file_named}
 use Rattle.mb_io.specs.Piece.{in_piece}
 use Rattle.mb_io.specs.declared.shelf.Failed.{Failed}
@@ -11,6 +11,10 @@ pub record ShelfState : Type 0 where
   pub calls : Calls
   pub left : List ℕ
   pub most : Option ℕ
+
+-- nothing is read yet
+abbrev pub fresh_shelf : List Named → List ℕ → ShelfState
+fresh_shelf files failing = record { files = files; calls = no_calls failing; left = []; most = None }
 
 -- what is left of a file, if there is one
 abbrev pub rest_of_file : Option Named → ℕ → List ℕ

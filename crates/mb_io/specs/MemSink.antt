@@ -1,6 +1,6 @@
 -- A sink in memory.
-use Rattle.std.specs.Prelude.{◌≡◌, ◌≢◌, ℕ, ◌-◌, min, List, [], ◌++◌, length, take, Option, ◌⊎◌, Result, Ok, Err}
-use Rattle.mb_io.specs.Calls.{Calls, IsDue, after_call, after_fault}
+use Rattle.std.specs.Prelude.{◌≡◌, ◌≢◌, ℕ, ◌-◌, min, List, [], ◌++◌, length, take, Option, None, ◌⊎◌, Result, Ok, Err}
+use Rattle.mb_io.specs.Calls.{Calls, no_calls, IsDue, after_call, after_fault}
 use Rattle.mb_io.specs.Piece.{in_piece}
 use Rattle.mb_io.specs.declared.shelf.Failed.{Failed}
 
@@ -10,6 +10,10 @@ pub record SinkState : Type 0 where
   pub calls : Calls
   pub room : ℕ
   pub most : Option ℕ
+
+-- nothing is taken yet
+abbrev pub fresh_sink : ℕ → List ℕ → SinkState
+fresh_sink room failing = record { taken = []; calls = no_calls failing; room = room; most = None }
 
 -- no room is left for this piece
 abbrev pub IsFull : SinkState → List ℕ → Type 0

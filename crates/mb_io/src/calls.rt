@@ -1,8 +1,9 @@
 //! The calls made so far, and those that are to fail.
 
-ghost use Rattle.std.specs.Prelude.{◌≡◌, ◌<◌, ◌≤◌, ◌^◌, []};
-ghost use Rattle.mb_io.specs.Calls.{Calls as State, Counts, next_count};
+ghost use Rattle.std.specs.Prelude.{◌≡◌, ◌<◌, ◌≤◌, ◌^◌};
+ghost use Rattle.mb_io.specs.Calls.{Calls as State, Counts, next_count, no_calls};
 
+use crate::faults::Faults;
 use crate::shelf::Failed;
 use std::marker::Model;
 
@@ -11,7 +12,7 @@ use std::marker::Model;
 pub struct Calls {
     failing: Vec<u32>,
     made: u64,
-    faults: u64,
+    faults: Faults,
 }
 
 impl Model for Calls {
@@ -25,12 +26,12 @@ impl Model for Calls {
 impl Calls {
     /// No calls yet. Those with these numbers, from 1, are to fail.
     pub fn new(failing: Vec<u32>) -> Calls
-        ensures { result ≡ record { failing = failing.items; made = 0; faults = 0 } }
+        ensures { result ≡ no_calls failing.items }
     {
         Calls {
             failing,
             made: 0,
-            faults: 0,
+            faults: Faults::new(),
         }
     }
 
@@ -43,18 +44,17 @@ impl Calls {
         self.made = self.made.saturating_add(1);
         let number = self.made;
         if self.failing.iter().any(|n| u64::from(*n) == number) {
-            return Err(self.fault());
+            return Err(self.faults.add());
         }
         Ok(())
     }
 
     /// Counts a fault.
     pub fn fault(&mut self) -> Failed
-        ensures counts { self.new ≡ record self.old { faults = next_count self.old.faults } }
+        ensures after { self.new ≡ record self.old { faults = next_count self.old.faults } }
         ensures later { self.old.faults ≤ self.new.faults }
         ensures below { self.new.faults < 2 ^ 64 }
     {
-        self.faults = self.faults.saturating_add(1);
-        Failed
+        self.faults.add()
     }
 }

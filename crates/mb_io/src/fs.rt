@@ -6,6 +6,7 @@
 ghost use Rattle.std.specs.Prelude.{◌≡◌, ℕ, ◌<◌, ◌^◌, None, false, is_some, IsFalse};
 ghost use Rattle.mb_io.specs.Fs.{FsState};
 
+use crate::faults::Faults;
 use crate::shelf::{Failed, Shelf, Sink};
 use std::fs;
 use std::io::{Read, Write};
@@ -17,7 +18,7 @@ use std::rt::Files;
 pub struct FsShelf<'a, R: Files> {
     rt: &'a R,
     file: Option<R::File>,
-    faults: u64,
+    faults: Faults,
 }
 
 impl<'a, R: Files> Model for FsShelf<'a, R> {
@@ -36,7 +37,7 @@ impl<'a, R: Files> FsShelf<'a, R> {
         FsShelf {
             rt,
             file: None,
-            faults: 0,
+            faults: Faults::new(),
         }
     }
 }
@@ -53,12 +54,16 @@ impl<R: Files> Shelf for FsShelf<'_, R> {
     ghost none_left = { λ _ _. tt };
 
     fn start(&mut self, name: &str) -> Result<(), Failed> {
-        self.file = fs::open(self.rt, name).ok();
-        if self.file.is_none() {
-            self.faults = self.faults.saturating_add(1);
-            return Err(Failed);
+        match fs::open(self.rt, name) {
+            Ok(file) => {
+                self.file = Some(file);
+                Ok(())
+            }
+            Err(_) => {
+                self.file = None;
+                Err(self.faults.add())
+            }
         }
-        Ok(())
     }
 
     fn read(&mut self, buf: &mut [u8]) -> Result<usize, Failed> {
@@ -71,10 +76,7 @@ impl<R: Files> Shelf for FsShelf<'_, R> {
                 Ok(0)
             }
             Ok(count) => Ok(count),
-            Err(_) => {
-                self.faults = self.faults.saturating_add(1);
-                Err(Failed)
-            }
+            Err(_) => Err(self.faults.add()),
         }
     }
 }
@@ -83,7 +85,7 @@ impl<R: Files> Shelf for FsShelf<'_, R> {
 #[derive(Drop)]
 pub struct OutSink<W: Write + Drop> {
     out: W,
-    faults: u64,
+    faults: Faults,
 }
 
 impl<W: Write + Drop> Model for OutSink<W> {
@@ -99,7 +101,10 @@ impl<W: Write + Drop> OutSink<W> {
     pub fn new(out: W) -> OutSink<W>
         ensures { result ≡ 0 }
     {
-        OutSink { out, faults: 0 }
+        OutSink {
+            out,
+            faults: Faults::new(),
+        }
     }
 }
 
@@ -111,10 +116,7 @@ impl<W: Write + Drop> Sink for OutSink<W> {
     fn write(&mut self, piece: &[u8]) -> Result<usize, Failed> {
         match self.out.write(piece) {
             Ok(count) if count > 0 || piece.is_empty() => Ok(count),
-            _ => {
-                self.faults = self.faults.saturating_add(1);
-                Err(Failed)
-            }
+            _ => Err(self.faults.add()),
         }
     }
 }

@@ -5,6 +5,7 @@
 #![tactic(auto)]
 
 mod calls;
+mod faults;
 pub mod fs;
 pub mod load;
 pub mod mem_shelf;

@@ -2,7 +2,7 @@
 
 ghost use Rattle.std.specs.Prelude.{◌≡◌, ℕ, ◌+◌, ◌<◌, ◌≤◌, ◌^◌, ◌++◌, ◌↔◌, List, [], take, drop, length, min, Option, Some, None, IsSome, IfSome, IfOk};
 ghost use Rattle.mb_io.specs.Files.{file_named, first_place};
-ghost use Rattle.mb_io.specs.MemShelf.{ShelfState, Starts, Reads, rest_of};
+ghost use Rattle.mb_io.specs.MemShelf.{ShelfState, fresh_shelf, Starts, Reads, rest_of};
 ghost use Rattle.mb_io.specs.Piece as piece;
 ghost use Rattle.mb_io.specs.Shelf.{CountRose, Gives};
 
@@ -28,7 +28,12 @@ pub struct MemShelf {
 impl Model for MemShelf {
     ghost Value = { ShelfState };
 
-    ghost view = { λ s. record { files = s.files.items; calls = s.calls; left = rest_of s.files.items s.place s.given; most = s.most } };
+    ghost view = { λ s. record {
+      files = s.files.items;
+      calls = s.calls;
+      left = rest_of s.files.items s.place s.given;
+      most = s.most;
+    } };
 
     ghost invariant = { λ s. IfSome s.most (λ most. 1 ≤ most) };
 }
@@ -37,7 +42,7 @@ impl MemShelf {
     /// A shelf with these files, of which the first of a name counts. Its calls of `start` and `read` are numbered
     /// together from 1, and those with these numbers fail.
     pub fn new(files: Vec<NamedBytes>, failing: Vec<u32>) -> MemShelf
-        ensures { result ≡ record { files = files.items; calls = record { failing = failing.items; made = 0; faults = 0 }; left = []; most = None } }
+        ensures { result ≡ fresh_shelf files.items failing.items }
     {
         MemShelf {
             files,

@@ -1,7 +1,7 @@
 //! Bytes taken in memory.
 
 ghost use Rattle.std.specs.Prelude.{◌≡◌, ◌+◌, ◌<◌, ◌≤◌, ◌^◌, [], Option, Some, None, IfOk, IfSome, length, vec_len, vec_capacity};
-ghost use Rattle.mb_io.specs.MemSink.{SinkState, Writes};
+ghost use Rattle.mb_io.specs.MemSink.{SinkState, fresh_sink, Writes};
 
 use crate::calls::Calls;
 use crate::piece::in_piece;
@@ -23,14 +23,14 @@ impl Model for MemSink {
 
     ghost view = { λ s. record { taken = s.bytes.items; calls = s.calls; room = s.room; most = s.most } };
 
-    ghost invariant = { λ s. (IfSome s.most (λ most. 1 ≤ most)) × (vec_len s.bytes + s.room ≤ vec_capacity s.bytes) };
+    ghost invariant = { λ s. IfSome s.most (λ most. 1 ≤ most) × (vec_len s.bytes + s.room ≤ vec_capacity s.bytes) };
 }
 
 impl MemSink {
     /// A sink with room for so many bytes, which is taken here, so that no write takes memory. Its writes are numbered
     /// from 1, and those with these numbers fail.
     pub fn new(alloc: Global, room: u32, failing: Vec<u32>) -> Result<MemSink, AllocError>
-        ensures { IfOk result (λ s. s ≡ record { taken = []; calls = record { failing = failing.items; made = 0; faults = 0 }; room = room; most = None }) }
+        ensures { IfOk result (λ sink. sink ≡ fresh_sink room failing.items) }
     {
         let room = room as usize;
         Ok(MemSink {
@@ -74,12 +74,8 @@ impl Sink for MemSink {
             return Err(self.calls.fault());
         }
         let count = in_piece(self.most, piece.len()).min(self.room);
-        match self.bytes.extend_from_slice(&piece[..count]) {
-            Ok(()) => {
-                self.room -= count;
-                Ok(count)
-            }
-            Err(_) => unreachable!(),
-        }
+        self.bytes.extend_from_slice(&piece[..count]).unwrap();
+        self.room -= count;
+        Ok(count)
     }
 }

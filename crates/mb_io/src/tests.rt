@@ -124,9 +124,11 @@ fn reads_real_files(rt: HostRuntime) -> Result<(), Fail> {
     fs::write(&rt, "short", b"bytes")?;
     let mut shelf = FsShelf::new(&rt);
     assert!(rt; is_read(&read_all(alloc, &mut shelf, "short", 5), Ok(b"bytes")));
+    assert_eq!(rt; shelf.start("short"), Ok(()));
     let missing = read_all(alloc, &mut shelf, "missing", 5);
     assert!(rt; is_read(&missing, Err(LoadFault::ReadFault)));
     assert_eq!(rt; shelf.read(&mut [0u8; 4]), Ok(0));
+    fs::remove_file(&rt, "short")?;
     Ok(())
 }
 
@@ -147,10 +149,11 @@ impl Write for Full {
 #[test]
 fn writes_real_files(rt: HostRuntime) -> Result<(), Fail> {
     let alloc = rt.alloc();
-    let mut out = OutSink::new(fs::create(&rt, "out")?);
+    let mut out = OutSink::new(fs::create(&rt, "written")?);
     assert_eq!(rt; write_all(&mut out, b"bytes"), Ok(()));
     let mut shelf = FsShelf::new(&rt);
-    assert!(rt; is_read(&read_all(alloc, &mut shelf, "out", 5), Ok(b"bytes")));
+    assert!(rt; is_read(&read_all(alloc, &mut shelf, "written", 5), Ok(b"bytes")));
+    fs::remove_file(&rt, "written")?;
     let mut full = OutSink::new(Full);
     assert_eq!(rt; full.write(b""), Ok(0));
     assert_eq!(rt; write_all(&mut full, b"bytes"), Err(Failed));
