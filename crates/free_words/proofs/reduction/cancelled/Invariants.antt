@@ -1,7 +1,7 @@
 use Rattle.std.proofs.Common.{◌≤◌, ◌++◌, List, length, drop}
 use Rattle.free_words.specs.declared.letter.Letter.{Letter}
 use Rattle.free_words.specs.Words.{IsReduced, Cancels}
-use Rattle.free_words.proofs.making.cancelled.Given as goal
+use Rattle.free_words.proofs.reduction.cancelled.Given as goal
 
 abbrev pub invariant-loop-l : goal.invariant-loop-l
 invariant-loop-l l = record {

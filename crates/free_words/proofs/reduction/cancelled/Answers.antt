@@ -2,7 +2,7 @@ use Rattle.std.proofs.Common.{arith, add-one, drop-cons, false, append-nil}
 use Rattle.std.proofs.lemmas.List.{drop_all}
 use Rattle.free_words.specs.declared.letter.Letter.{Letter}
 use Rattle.free_words.specs.Words.{Cancels}
-use Rattle.free_words.proofs.making.cancelled.Goals as goal
+use Rattle.free_words.proofs.reduction.cancelled.Goals as goal
 
 -- The next letter stands at the front of what is left.
 pub loop-l-preserved : goal.loop-l-preserved
