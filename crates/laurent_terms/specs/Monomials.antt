@@ -3,7 +3,7 @@
 use Rattle.std.specs.declared.cmp.Ordering.{Ordering}
 use Rattle.std.specs.Ordering.{nat_cmp, ordering_then}
 use Rattle.std.specs.Cmp.Lexicographic.{slice_cmp}
-use Rattle.std.specs.Prelude.{◌≡◌, ℕ, ◌+◌, ◌-◌, ◌*◌, ◌<◌, ◌≤◌, max, Bool, true, false, ◌&&◌, nat_le, List, [], ◌∷◌, sum, length, replicate, slice_set, Option, Some, None}
+use Rattle.std.specs.Prelude.{◌≡◌, ℕ, suc, ℤ, pos, negsuc, ◌+◌, ◌-◌, ◌*◌, ◌<◌, ◌≤◌, max, Bool, true, false, ◌&&◌, nat_le, List, [], ◌∷◌, ◌++◌, sum, length, replicate, slice_set, Option, Some, None}
 use Rattle.laurent_terms.specs.declared.TheConstants.{VARIABLES, DEGREE}
 
 -- the sum of the exponents
@@ -55,6 +55,23 @@ variable_of g false = 2 * g + 1
 -- the variable that stands at `at`: exponent 1 there, and 0 elsewhere
 abbrev pub variable : ℕ → List ℕ
 variable at = slice_set one at 1
+
+-- an integer as the exponents of x_g and y_g: one of the two is 0
+abbrev pub positive_part : ℤ → ℕ
+positive_part (pos n) = n
+positive_part (negsuc n) = 0
+
+abbrev pub negative_part : ℤ → ℕ
+negative_part (pos n) = 0
+negative_part (negsuc n) = suc n
+
+abbrev pub both_parts : List ℤ → List ℕ
+both_parts [] = []
+both_parts (z ∷ p) = positive_part z ∷ negative_part z ∷ both_parts p
+
+-- the monomial of an integer vector: generators that it does not reach have exponent 0
+abbrev pub monomial_of : List ℤ → List ℕ
+monomial_of p = both_parts p ++ replicate (VARIABLES - 2 * length p) 0
 
 -- s, or None exactly where d, the degree that it has, passes the limit
 abbrev pub MadeWithin : ℕ → List ℕ → Option (List ℕ) → Type 0

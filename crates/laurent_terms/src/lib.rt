@@ -6,6 +6,7 @@
 #![tactic(auto)]
 
 mod exponents;
+mod integers;
 mod monomial;
 
 pub use monomial::Mono;

@@ -1,9 +1,10 @@
 //! `Mono`: a monomial in 48 variables, with its degree beside the exponents.
 
-ghost use Rattle.std.specs.Prelude.{◌≡◌, ◌<◌, ◌≤◌, ◌+◌, ◌*◌, length, slice_index, true, IfSome};
-ghost use Rattle.laurent_terms.specs.Monomials.{one, variable, variable_of, degree, product, quotient, common_multiple, divides, mono_cmp, MadeWithin, IsMonomial};
+ghost use Rattle.std.specs.Prelude.{◌≡◌, ◌<◌, ◌≤◌, ◌+◌, ◌*◌, length, slice_index, true, sum_by, unsigned_abs, IfSome};
+ghost use Rattle.laurent_terms.specs.Monomials.{one, variable, variable_of, degree, product, quotient, common_multiple, divides, mono_cmp, MadeWithin, IsMonomial, monomial_of};
 
 use crate::exponents::{differences, every_at_most, greater, sums, total};
+use crate::integers::{absolute_total, both_parts};
 use crate::{DEGREE, VARIABLES};
 use std::cmp::Ordering;
 use std::marker::Model;
@@ -58,6 +59,23 @@ impl Mono {
             total: 1,
             exponents,
         }
+    }
+
+    /// The monomial of an integer vector of at most 24 numbers: positive ones stand with x_g, and the absolute values of
+    /// negative ones with y_g. `None` where the absolute values add up past [`DEGREE`].
+    pub fn of_exponents(p: &[i32]) -> Option<Mono>
+        requires { 2 * length p.now ≤ VARIABLES }
+        ensures made { MadeWithin (sum_by unsigned_abs p.now) (monomial_of p.now) result }
+        ensures monomial { IfSome result IsMonomial }
+    {
+        let total = absolute_total(p);
+        if total > u64::from(DEGREE) {
+            return None;
+        }
+        Some(Mono {
+            total: total as u32,
+            exponents: both_parts(p),
+        })
     }
 
     /// The exponent of the variable numbered `at`.
