@@ -1,3 +1,5 @@
 pub mod Combining
 pub mod Variables
 pub mod IntegerVectors
+pub mod Divisors
+pub mod LeastFactors

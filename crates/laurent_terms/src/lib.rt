@@ -5,10 +5,12 @@
 //! list of these exponents. No call takes memory.
 #![tactic(auto)]
 
+mod euclid;
 mod exponents;
 mod integers;
 mod monomial;
 
+pub use euclid::bezout;
 pub use monomial::Mono;
 
 /// How many variables a monomial has: two for each of 24 generators.
