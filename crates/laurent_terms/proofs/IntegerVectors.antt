@@ -1,6 +1,7 @@
 -- The monomial of an integer vector, number by number.
-use Rattle.std.proofs.Common.{◌≡◌, ℕ, zero, suc, ◌+◌, ◌-◌, ◌*◌, ◌<◌, ◌≤◌, true, false, List, [], ◌∷◌, ◌++◌, length, take, replicate, slice_set, slice_index_or, sum_by, ℤ, pos, negsuc, refl, sym, ap, ◌∙◌, arith, append_assoc}
+use Rattle.std.proofs.Common.{◌≡◌, ℕ, zero, suc, ◌+◌, ◌-◌, ◌-ℤ◌, ◌⊎◌, inl, inr, slice_index, ◌*◌, ◌<◌, ◌≤◌, true, false, List, [], ◌∷◌, ◌++◌, length, take, replicate, slice_set, slice_index_or, sum_by, ℤ, pos, negsuc, refl, sym, ap, ◌∙◌, arith, append_assoc}
 use Rattle.std.specs.Prelude.{unsigned_abs, int_lt, nat_lt}
+use borrow.Author.Differences.{ints}
 use Rattle.std.proofs.lemmas.List.{set-append_right, length-append, length-replicate, length-take-le, take_more}
 use Rattle.std.proofs.lemmas.List.Sums.{sum_by-cons, sum_by-append}
 use Rattle.std.proofs.lemmas.List.Folds.{sum_by-replicate}
@@ -72,3 +73,34 @@ module _ (p : List ℤ) (g : ℕ) (short : 2 * length p ≤ VARIABLES) (h : g < 
 
 pub monomial_of_is : (p : List ℤ) → 2 * length p ≤ VARIABLES → sum_by unsigned_abs p ≤ DEGREE → IsMonomial (monomial_of p)
 monomial_of_is p short small = record { variables = length-monomial_of p short; most = omega (arith, degree-monomial_of p) }
+
+-- ---- reading the exponents
+
+zero_at : (n k : ℕ) → slice_index (replicate n 0) k ≡ 0
+zero_at zero k = refl
+zero_at (suc n) zero = refl
+zero_at (suc n) (suc k) = zero_at n k
+
+positive_at : (p : List ℤ) (m g : ℕ) → slice_index (both_parts p ++ replicate m 0) (2 * g) ≡ positive_part (slice_index_or p g (pos 0))
+positive_at [] m g = zero_at m (2 * g)
+positive_at (z ∷ p) m zero = refl
+positive_at (z ∷ p) m (suc g) = let e : 2 * suc g ≡ suc (suc (2 * g)) = omega arith in rw e (positive_at p m g)
+
+negative_at : (p : List ℤ) (m g : ℕ) → slice_index (both_parts p ++ replicate m 0) (2 * g + 1) ≡ negative_part (slice_index_or p g (pos 0))
+negative_at [] m g = zero_at m (2 * g + 1)
+negative_at (z ∷ p) m zero = refl
+negative_at (z ∷ p) m (suc g) = let e : 2 * suc g + 1 ≡ suc (suc (2 * g + 1)) = omega arith in rw e (negative_at p m g)
+
+parts_differ_by : (z : ℤ) → pos (positive_part z) -ℤ pos (negative_part z) ≡ z
+parts_differ_by (pos n) = omega (arith, ints)
+parts_differ_by (negsuc n) = omega (arith, ints)
+
+parts_apart : (z : ℤ) → (positive_part z ≡ 0) ⊎ (negative_part z ≡ 0)
+parts_apart (pos n) = inr refl
+parts_apart (negsuc n) = inl refl
+
+pub difference : (p : List ℤ) (g : ℕ) → pos (slice_index (monomial_of p) (2 * g)) -ℤ pos (slice_index (monomial_of p) (2 * g + 1)) ≡ slice_index_or p g (pos 0)
+difference p g = rw (positive_at p (VARIABLES - 2 * length p) g, negative_at p (VARIABLES - 2 * length p) g) (parts_differ_by (slice_index_or p g (pos 0)))
+
+pub apart : (p : List ℤ) (g : ℕ) → (slice_index (monomial_of p) (2 * g) ≡ 0) ⊎ (slice_index (monomial_of p) (2 * g + 1) ≡ 0)
+apart p g = rw (positive_at p (VARIABLES - 2 * length p) g, negative_at p (VARIABLES - 2 * length p) g) (parts_apart (slice_index_or p g (pos 0)))

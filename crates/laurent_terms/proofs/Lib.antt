@@ -3,3 +3,6 @@ pub mod Variables
 pub mod IntegerVectors
 pub mod Divisors
 pub mod LeastFactors
+pub mod Ranks
+pub mod Division
+pub mod Descent

@@ -8,6 +8,7 @@
 mod euclid;
 mod exponents;
 mod integers;
+pub mod laws;
 mod monomial;
 
 pub use euclid::bezout;
