@@ -99,12 +99,13 @@ divides-common_multiple (x ∷ s) (y ∷ t) [] e = (λ h. absurd cc, λ h. absur
     false_true : false ≡ true → ⊥
     false_true h = cc
 divides-common_multiple (x ∷ s) (y ∷ t) (z ∷ u) e =
-    let rest : (divides (common_multiple s t) u ≡ true) ↔ ((divides s u ≡ true) × (divides t u ≡ true)) = divides-common_multiple s t u (omega (arith, e)) in
-    (λ h.
-        let low : max x y ≤ z = first_le (max x y) z (common_multiple s t) u h in
-        let more : (divides s u ≡ true) × (divides t u ≡ true) = rest.0 (others (max x y) z (common_multiple s t) u h) in
-        (both x z s u (omega (arith, low)) more.0, both y z t u (omega (arith, low)) more.1),
-    λ h. both (max x y) z (common_multiple s t) u (omega (arith, first_le x z s u h.0, first_le y z t u h.1)) (rest.1 (others x z s u h.0, others y z t u h.1)))
+    let rest : (divides (common_multiple s t) u ≡ true) ↔ ((divides s u ≡ true) × (divides t u ≡ true)) = divides-common_multiple s t u (omega (arith, e)) in (
+      λ h.
+          let low : max x y ≤ z = first_le (max x y) z (common_multiple s t) u h in
+          let more : (divides s u ≡ true) × (divides t u ≡ true) = rest.0 (others (max x y) z (common_multiple s t) u h) in
+          (both x z s u (omega (arith, low)) more.0, both y z t u (omega (arith, low)) more.1),
+      λ h. both (max x y) z (common_multiple s t) u (omega (arith, first_le x z s u h.0, first_le y z t u h.1)) (rest.1 (others x z s u h.0, others y z t u h.1)),
+    )
 
 pub degree-common_multiple : (s t : List ℕ) → length s ≡ length t → degree (common_multiple s t) ≤ degree s + degree t
 degree-common_multiple [] t e = omega arith

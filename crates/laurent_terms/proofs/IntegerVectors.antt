@@ -81,26 +81,26 @@ zero_at zero k = refl
 zero_at (suc n) zero = refl
 zero_at (suc n) (suc k) = zero_at n k
 
-positive_at : (p : List ℤ) (m g : ℕ) → slice_index (both_parts p ++ replicate m 0) (2 * g) ≡ positive_part (slice_index_or p g (pos 0))
-positive_at [] m g = zero_at m (2 * g)
-positive_at (z ∷ p) m zero = refl
-positive_at (z ∷ p) m (suc g) = let e : 2 * suc g ≡ suc (suc (2 * g)) = omega arith in rw e (positive_at p m g)
+positive_from : (p : List ℤ) (m g : ℕ) → slice_index (both_parts p ++ replicate m 0) (2 * g) ≡ positive_part (slice_index_or p g (pos 0))
+positive_from [] m g = zero_at m (2 * g)
+positive_from (z ∷ p) m zero = refl
+positive_from (z ∷ p) m (suc g) = let e : 2 * suc g ≡ suc (suc (2 * g)) = omega arith in rw e (positive_from p m g)
 
-negative_at : (p : List ℤ) (m g : ℕ) → slice_index (both_parts p ++ replicate m 0) (2 * g + 1) ≡ negative_part (slice_index_or p g (pos 0))
-negative_at [] m g = zero_at m (2 * g + 1)
-negative_at (z ∷ p) m zero = refl
-negative_at (z ∷ p) m (suc g) = let e : 2 * suc g + 1 ≡ suc (suc (2 * g + 1)) = omega arith in rw e (negative_at p m g)
+negative_from : (p : List ℤ) (m g : ℕ) → slice_index (both_parts p ++ replicate m 0) (2 * g + 1) ≡ negative_part (slice_index_or p g (pos 0))
+negative_from [] m g = zero_at m (2 * g + 1)
+negative_from (z ∷ p) m zero = refl
+negative_from (z ∷ p) m (suc g) = let e : 2 * suc g + 1 ≡ suc (suc (2 * g + 1)) = omega arith in rw e (negative_from p m g)
 
-parts_differ_by : (z : ℤ) → pos (positive_part z) -ℤ pos (negative_part z) ≡ z
-parts_differ_by (pos n) = omega (arith, ints)
-parts_differ_by (negsuc n) = omega (arith, ints)
+pub positive_at : (p : List ℤ) (g : ℕ) → slice_index (monomial_of p) (2 * g) ≡ positive_part (slice_index_or p g (pos 0))
+positive_at p g = positive_from p (VARIABLES - 2 * length p) g
 
-parts_apart : (z : ℤ) → (positive_part z ≡ 0) ⊎ (negative_part z ≡ 0)
-parts_apart (pos n) = inr refl
-parts_apart (negsuc n) = inl refl
+pub negative_at : (p : List ℤ) (g : ℕ) → slice_index (monomial_of p) (2 * g + 1) ≡ negative_part (slice_index_or p g (pos 0))
+negative_at p g = negative_from p (VARIABLES - 2 * length p) g
 
-pub difference : (p : List ℤ) (g : ℕ) → pos (slice_index (monomial_of p) (2 * g)) -ℤ pos (slice_index (monomial_of p) (2 * g + 1)) ≡ slice_index_or p g (pos 0)
-difference p g = rw (positive_at p (VARIABLES - 2 * length p) g, negative_at p (VARIABLES - 2 * length p) g) (parts_differ_by (slice_index_or p g (pos 0)))
+pub difference : (z : ℤ) → pos (positive_part z) -ℤ pos (negative_part z) ≡ z
+difference (pos n) = omega (arith, ints)
+difference (negsuc n) = omega (arith, ints)
 
-pub apart : (p : List ℤ) (g : ℕ) → (slice_index (monomial_of p) (2 * g) ≡ 0) ⊎ (slice_index (monomial_of p) (2 * g + 1) ≡ 0)
-apart p g = rw (positive_at p (VARIABLES - 2 * length p) g, negative_at p (VARIABLES - 2 * length p) g) (parts_apart (slice_index_or p g (pos 0)))
+pub apart : (z : ℤ) → (positive_part z ≡ 0) ⊎ (negative_part z ≡ 0)
+apart (pos n) = inr refl
+apart (negsuc n) = inl refl

@@ -6,7 +6,7 @@ ghost use Rattle.std.specs.Prelude.{◌≡◌, ℕ, ◌+◌, ◌*◌, ◌<◌, �
 ghost use Rattle.std.specs.Cmp.{IsTotalOrder};
 ghost use Rattle.std.specs.declared.cmp.Ordering.TheVariants.{Less, Equal};
 ghost use mathlib.Core.WellFounded.{WellFounded};
-ghost use Rattle.laurent_terms.specs.Monomials.{one, degree, product, quotient, common_multiple, divides, mono_cmp, monomial_of};
+ghost use Rattle.laurent_terms.specs.Monomials.{one, degree, product, quotient, common_multiple, divides, mono_cmp, monomial_of, positive_part, negative_part};
 ghost use Rattle.laurent_terms.specs.Orders.{Below};
 
 use crate::VARIABLES;
@@ -72,12 +72,10 @@ pub fn degrees_add_up()
 pub fn integer_vectors_are_kept()
     ensures length { (p : List ℤ) → 2 * length p ≤ VARIABLES → length (monomial_of p) ≡ VARIABLES }
     ensures degree { (p : List ℤ) → degree (monomial_of p) ≡ sum_by unsigned_abs p }
-    ensures difference { (p : List ℤ) (g : ℕ) →
-        let x = slice_index (monomial_of p) (2 * g) in
-        let y = slice_index (monomial_of p) (2 * g + 1) in
-        pos x -ℤ pos y ≡ slice_index_or p g (pos 0) }
-    ensures apart { (p : List ℤ) (g : ℕ) →
-        let x = slice_index (monomial_of p) (2 * g) in
-        let y = slice_index (monomial_of p) (2 * g + 1) in
-        (x ≡ 0) ⊎ (y ≡ 0) }
+    ensures positive { (p : List ℤ) (g : ℕ) →
+        slice_index (monomial_of p) (2 * g) ≡ positive_part (slice_index_or p g (pos 0)) }
+    ensures negative { (p : List ℤ) (g : ℕ) →
+        slice_index (monomial_of p) (2 * g + 1) ≡ negative_part (slice_index_or p g (pos 0)) }
+    ensures difference { (z : ℤ) → pos (positive_part z) -ℤ pos (negative_part z) ≡ z }
+    ensures apart { (z : ℤ) → (positive_part z ≡ 0) ⊎ (negative_part z ≡ 0) }
 {}

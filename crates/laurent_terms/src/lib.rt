@@ -19,3 +19,6 @@ pub const VARIABLES: usize = 48;
 
 /// The most that the exponents of a monomial add up to.
 pub const DEGREE: u32 = 60_000;
+
+#[cfg(test)]
+mod tests;
