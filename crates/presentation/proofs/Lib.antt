@@ -5,3 +5,11 @@ pub mod Quotients
 pub mod NameLists
 pub mod NameTurns
 pub mod RelatorTurns
+pub mod Steps
+pub mod Distinct
+pub mod Sound
+pub mod Limits
+pub mod SoundWhole
+pub mod WordFacts
+pub mod Complete
+pub mod Found

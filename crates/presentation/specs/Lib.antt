@@ -1,3 +1,4 @@
 pub mod Presented
 pub mod Line
 pub mod Reading
+pub mod Grammar

@@ -1,15 +1,18 @@
 //! Finite presentations of groups, and their texts.
 #![tactic(auto)]
 
+pub mod laws;
 mod line;
 mod modulus;
 mod names;
 mod presentation;
 mod relators;
+mod text;
 mod word;
 
 pub use line::WordReader;
 pub use presentation::Presentation;
+pub use text::read_presentation;
 pub use word::read_word;
 
 /// A presentation has at most so many relators.
