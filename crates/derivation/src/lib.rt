@@ -1,10 +1,13 @@
 //! Moves on words over a presentation, and what a list of moves shows of a word.
 #![tactic(auto)]
 
+mod line_moves;
 mod moves;
 mod moving;
 mod piece;
+mod reading;
 mod steps;
 
 pub use moves::{Insert, Move, MoveFault, MoveReason, StepsFault};
+pub use reading::read_derivation;
 pub use steps::{apply, check_steps};

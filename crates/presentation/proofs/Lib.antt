@@ -13,3 +13,4 @@ pub mod SoundWhole
 pub mod WordFacts
 pub mod Complete
 pub mod Found
+pub mod Keywords

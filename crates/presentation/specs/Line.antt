@@ -1,11 +1,15 @@
 -- Parts of a longer line, read one after another.
-use Rattle.std.specs.Prelude.{◌≡◌, ℕ, ◌≤◌, ◌==◌, nat_lt, Bool, List, length, take, drop, Result, Ok, Err, if◌then◌else◌}
+use Rattle.std.specs.Prelude.{◌≡◌, ℕ, ◌≤◌, ◌==◌, nat_lt, Bool, codes, List, length, take, drop, Option, Some, None, Result, Ok, Err, if◌then◌else◌}
 use Rattle.std.specs.Str.{bytes_eq}
 use Rattle.word_text.specs.declared.fault.Fault.{Fault}
-use Rattle.word_text.specs.declared.fault.TextKind.TheVariants.{Expected}
+use Rattle.word_text.specs.declared.fault.TextKind.TheVariants.{Expected, UnknownName}
 use Rattle.word_text.specs.declared.fault.ReadFault.{ReadFault}
 use Rattle.word_text.specs.declared.fault.ReadFault.TheVariants as faults
-use Rattle.word_text.specs.Scan.{after_blanks, digits_at, after_digits, number, due}
+use Rattle.word_text.specs.Scan.{after_blanks, name_at, after_name, digits_at, after_digits, mark_of, number, due}
+use Rattle.word_text.specs.declared.scan.Mark.{Mark}
+use Rattle.word_text.specs.declared.scan.Mark.TheVariants as marks
+use Rattle.word_text.specs.Machine.{Find}
+use Rattle.free_words.specs.declared.letter.Letter.{Letter}
 use Rattle.word_text.specs.Place.{on_line}
 
 -- what is left of the bytes behind some of them
@@ -43,3 +47,33 @@ comes_next mark bs = bytes_eq (take (length mark) (after_blanks bs)) mark
 -- what follows the mark, or what follows the blanks where the mark doesn't come next
 unfoldable pub after_mark : List ℕ → List ℕ → List ℕ
 after_mark mark bs = if comes_next mark bs then drop (length mark) (after_blanks bs) else after_blanks bs
+
+-- whether this whole name comes next, behind blanks, and what follows it
+unfoldable pub is_word : List ℕ → List ℕ → Bool
+is_word w bs = bytes_eq (name_at (after_blanks bs)) w
+
+unfoldable pub after_word : List ℕ → List ℕ
+after_word bs = after_name (after_blanks bs)
+
+-- whether blanks alone are left
+unfoldable pub is_end : List ℕ → Bool
+is_end bs = length (after_blanks bs) == 0
+
+-- the letter of a generator's number whose name stands here; `^-1` behind it is one token
+abbrev pub letter_of : Option ℕ → List ℕ → Result (Letter × List ℕ) Fault
+letter_of None bs = Err (record { kind = UnknownName; left = length bs })
+letter_of (Some g) bs =
+    let rest : List ℕ = after_name bs in Ok (record { g = g; inv = comes_next (codes "^-1") rest }, after_mark (codes "^-1") rest)
+
+abbrev pub letter_on : Find → Mark → List ℕ → Result (Letter × List ℕ) Fault
+letter_on find marks.Letter bs = letter_of (find (name_at bs)) bs
+letter_on find marks.One bs = Err (due bs)
+letter_on find marks.Round bs = Err (due bs)
+letter_on find marks.Square bs = Err (due bs)
+letter_on find marks.Star bs = Err (due bs)
+letter_on find marks.Bad bs = Err (due bs)
+letter_on find marks.Other bs = Err (due bs)
+
+-- a letter: the name of a generator, or that and `^-1`
+unfoldable pub letter_at : Find → List ℕ → Result (Letter × List ℕ) Fault
+letter_at find bs = letter_on find (mark_of (after_blanks bs)) (after_blanks bs)

@@ -1,6 +1,8 @@
 //! Finite presentations of groups, and their texts.
 #![tactic(auto)]
 
+mod generator;
+mod keyword;
 pub mod laws;
 mod line;
 mod modulus;

@@ -47,7 +47,7 @@ fn six_digits(text: &[u8]) -> Result<(u32, &[u8]), Fault>
 
 impl<'a> WordReader<'a> {
     // What is left of the line.
-    fn rest(&self) -> &'a [u8]
+    pub(crate) fn rest(&self) -> &'a [u8]
         requires { self.now.at ≤ length self.now.text.now }
         ensures { result.now ≡ drop self.now.at self.now.text.now }
     {
@@ -56,7 +56,7 @@ impl<'a> WordReader<'a> {
 
     // Goes on to what is left of the line behind what was read.
     #[tactic(auto, using(crate::proofs::Ends::left_no_longer, crate::proofs::Ends::left_at, crate::proofs::Ends::place))]
-    fn goes_to(&mut self, rest: &[u8])
+    pub(crate) fn goes_to(&mut self, rest: &[u8])
         requires inside { self.old.at ≤ length self.old.text.now }
         requires end { IsEnd (drop self.old.at self.old.text.now) rest.now }
         ensures inside { self.new.at ≤ length self.old.text.now }
