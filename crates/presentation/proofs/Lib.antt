@@ -10,7 +10,8 @@ pub mod Distinct
 pub mod Sound
 pub mod Limits
 pub mod SoundWhole
-pub mod WordFacts
+pub mod WordAgain
 pub mod Complete
 pub mod Found
 pub mod Keywords
+pub mod SameLists

@@ -9,6 +9,7 @@ mod modulus;
 mod names;
 mod presentation;
 mod relators;
+mod same;
 mod text;
 mod word;
 
@@ -22,3 +23,6 @@ pub const RELATORS: u32 = 64;
 
 /// A modulus is at most so large.
 pub const MODULUS: u32 = 1_000_000_000;
+
+#[cfg(test)]
+mod tests;
