@@ -1,5 +1,6 @@
 -- Reading a derivation: the value of each part of a line and what follows it, or the first fault; and then all its lines.
-use Rattle.std.specs.Prelude.{◌≡◌, ℕ, ◌+◌, ◌==◌, Bool, true, false, codes, List, [], ◌∷◌, ◌++◌, drop, Result, Ok, Err, if◌then◌else◌}
+use Rattle.std.specs.Prelude.{◌≡◌, ℕ, ◌+◌, ◌==◌, Bool, true, false, codes, List, [], ◌∷◌, ◌++◌, drop, Result, Ok, Err, Vec, if◌then◌else◌}
+use Rattle.std.specs.declared.alloc.Global.{Global}
 use Rattle.free_words.specs.declared.letter.Letter.{Letter}
 use Rattle.word_text.specs.declared.fault.Fault.{Fault}
 use Rattle.word_text.specs.declared.fault.TextFault.{TextFault}
@@ -115,8 +116,8 @@ unfoldable pub derivation_text : Presented → List ℕ → Result (List Move) T
 derivation_text p text = moves_of (finding p.names) 1 (lines_of text)
 
 -- what a reader of a derivation answers: the moves, or the first fault
-abbrev pub ReadsMoves : Result (List Move) TextFault → Result (List Move) ReadFault → Type 0
-ReadsMoves read (Ok moves) = read ≡ Ok moves
+abbrev pub ReadsMoves : Result (List Move) TextFault → Result (Vec Move Global) ReadFault → Type 0
+ReadsMoves read (Ok moves) = read ≡ Ok moves.items
 ReadsMoves read (Err faults.NoMemory) = Unit {0}
 ReadsMoves read (Err (faults.Text f)) = read ≡ Err f
 

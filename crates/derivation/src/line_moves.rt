@@ -2,7 +2,7 @@
 
 ghost use Rattle.std.specs.Prelude.{◌≡◌, ◌≤◌, length, drop, IfOk};
 ghost use Rattle.word_text.specs.Machine.{finding};
-ghost use Rattle.presentation.specs.Presented.{IsWritten};
+ghost use Rattle.presentation.specs.Presented.{Presented, IsWritten};
 ghost use Rattle.derivation.specs.Making.{IsInsertOver};
 ghost use Rattle.derivation.specs.Reading.{GoesOn, direction_at, comma_at, next_word, two_words, relator_at, double_at, power_at, insert_at, ending_at, move_at};
 
@@ -85,6 +85,7 @@ fn two_words(
 fn relator(reader: &mut WordReader) -> Result<Insert, ReadFault>
     requires { reader.old.at ≤ length reader.old.text.now }
     ensures exact { GoesOn (λ x. x) reader.old.text.now reader.old.line reader.new.at (relator_at (drop reader.old.at reader.old.text.now)) result }
+    ensures over { IfOk result (λ x. (p : Presented) → IsInsertOver p x) }
     ensures inside { reader.new.at ≤ length reader.old.text.now }
     ensures text { reader.new.text ≡ reader.old.text }
     ensures line { reader.new.line ≡ reader.old.line }

@@ -1,6 +1,6 @@
 //! Derivations as texts: one move a line.
 
-ghost use Rattle.std.specs.Prelude.{◌≡◌, ◌==◌, not, length, take_while, take, drop, All, IfOk, OnOk};
+ghost use Rattle.std.specs.Prelude.{◌≡◌, ◌≤◌, ◌==◌, not, length, take_while, take, drop, All, IfOk, OnOk};
 ghost use Rattle.std.specs.List.{prefix_len};
 ghost use Rattle.word_text.specs.Machine.{finding};
 ghost use Rattle.derivation.specs.Making.{IsInsertOver};
@@ -48,8 +48,10 @@ fn read_line(
         return Ok(());
     }
     let next = line_move(alloc, &mut reader, p)?;
-    moves.push(next)?;
-    Ok(())
+    match moves.push(next) {
+        Ok(()) => Ok(()),
+        Err(_) => Err(ReadFault::NoMemory),
+    }
 }
 
 /// The moves that the text spells, one a line. Lines of blanks alone have none. A fault has the number of its line, and
