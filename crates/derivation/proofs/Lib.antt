@@ -3,3 +3,4 @@ pub mod PieceLemmas
 pub mod Deciding
 pub mod MoveLemmas
 pub mod Runs
+pub mod GapLemmas

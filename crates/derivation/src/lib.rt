@@ -1,6 +1,7 @@
 //! Moves on words over a presentation, and what a list of moves shows of a word.
 #![tactic(auto)]
 
+mod gap;
 mod moves;
 mod moving;
 mod piece;
