@@ -2,6 +2,7 @@
 #![tactic(auto)]
 
 mod gap;
+pub mod laws;
 mod moves;
 mod moving;
 mod piece;
