@@ -9,3 +9,4 @@ pub mod TrivialLaws
 pub mod OneAnswer
 pub mod OneOutcome
 pub mod Staying
+pub mod Lines

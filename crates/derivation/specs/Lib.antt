@@ -1,3 +1,4 @@
 pub mod Moves
 pub mod Making
 pub mod Pieces
+pub mod Reading

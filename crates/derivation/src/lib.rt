@@ -3,10 +3,13 @@
 
 mod gap;
 pub mod laws;
+mod line_moves;
 mod moves;
 mod moving;
 mod piece;
+mod reading;
 mod steps;
 
 pub use moves::{Insert, Move, MoveFault, MoveReason, StepsFault};
+pub use reading::read_derivation;
 pub use steps::{apply, check_steps};

@@ -1,6 +1,6 @@
 -- Words: lists of letters (g, +1 or -1), with product and inverse.
-use Rattle.std.specs.Prelude.{◌≡◌, ℕ, zero, suc, ◌<◌, ◌≤◌, not, List, [], ◌∷◌, ◌++◌, map, reverse, length, Result, Ok, Err, ℤ, pos, unsigned_abs, int_lt, if◌then◌else◌}
-use Rattle.std.specs.List.{AllByRecursion}
+use Rattle.std.specs.Prelude.{◌≡◌, ℕ, zero, suc, ◌<◌, ◌≤◌, not, ◌&&◌, ◌==◌, List, [], ◌∷◌, ◌++◌, map, reverse, length, count_by, slice_index_or, Result, Ok, Err, ℤ, pos, ◌-ℤ◌, unsigned_abs, int_lt, if◌then◌else◌}
+use Rattle.std.specs.List.{AllByRecursion, flat_map}
 use Rattle.free_words.specs.declared.letter.Letter.{Letter}
 use Rattle.free_words.specs.declared.fault.WordFault.{WordFault}
 use Rattle.free_words.specs.declared.fault.WordFault.TheVariants.{TooLong, NoMemory}
@@ -47,3 +47,15 @@ IsReduced (x ∷ y ∷ ys) = (flipped x ≡ y → ⊥) × IsReduced (y ∷ ys)
 pub data Cancels : List Letter → List Letter → Type 0 where
   none : (w : List Letter) → Cancels w w
   pair : (u v w : List Letter) (x : Letter) → Cancels (u ++ v) w → Cancels (u ++ x ∷ flipped x ∷ v) w
+
+-- the exponent sum of a generator: the number of its letters (g, +1) less that of its letters (g, -1)
+unfoldable pub exponent_sum : ℕ → List Letter → ℤ
+exponent_sum g w = pos (count_by (λ l. (l.g == g) && not l.inv) w) -ℤ pos (count_by (λ l. (l.g == g) && l.inv) w)
+
+-- The image of a letter, where the i-th word is the image of the i-th generator: that word, or its inverse.
+abbrev pub letter_image : List (List Letter) → Letter → List Letter
+letter_image images l = if l.inv then inverse (slice_index_or images l.g []) else slice_index_or images l.g []
+
+-- the image of a word: its letters' images, one after another
+abbrev pub word_image : List (List Letter) → List Letter → List Letter
+word_image images w = flat_map (letter_image images) w

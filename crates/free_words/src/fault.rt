@@ -1,4 +1,4 @@
-//! Why a word is not made.
+//! Why a word was not made.
 
 ghost use Rattle.std.specs.Prelude.{◌≡◌};
 ghost use Rattle.free_words.specs.declared.fault.WordFault.TheVariants.{NoMemory};
@@ -8,8 +8,9 @@ use std::alloc::{AllocError, AllocFailed};
 /// Why a word was not made.
 #[derive(Clone, Copy, Debug, PartialEq, Eq)]
 pub enum WordFault {
-    /// The result would have that many letters, which is past the limit.
+    /// The result would have that many letters, which is more than the limit.
     TooLong { letters: u64 },
+    /// Memory ran out.
     NoMemory,
 }
 

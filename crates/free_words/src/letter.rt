@@ -3,10 +3,12 @@
 ghost use Rattle.std.specs.Prelude.{◌≡◌};
 ghost use Rattle.free_words.specs.Words.{flipped};
 
-/// A generator's number, and whether it is inverted.
+/// A generator or its inverse, also written (g, +1) and (g, -1).
 #[derive(Clone, Copy, Debug, PartialEq, Eq)]
 pub struct Letter {
+    /// The generator's number, from 0.
     pub g: u8,
+    /// Whether the letter is the generator's inverse.
     pub inv: bool,
 }
 

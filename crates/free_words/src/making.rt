@@ -1,76 +1,52 @@
-//! New lists of letters out of old ones.
+//! Inverses, commutators and copies of lists of letters.
 
-ghost use Rattle.std.specs.Prelude.{◌≡◌, ◌+◌, ◌≤◌, ◌++◌, ◌∷◌, [], List, length, IfOk, OnOk, IsTrue, ◌↔◌};
-ghost use Rattle.free_words.specs.declared.letter.Letter.{Letter};
-ghost use Rattle.free_words.specs.Words.{flipped, inverse, commutator, copies, IsReduced, Cancels};
+ghost use Rattle.std.specs.Prelude.{◌≡◌, ◌*◌, ◌<◌, ◌^◌, ◌++◌, length, IfOk, OnOk};
+ghost use Rattle.free_words.specs.Words.{inverse, commutator, copies};
 
 use crate::letter::Letter;
 use std::alloc::{AllocError, Global};
 
-// So many copies, one after another.
+// So many copies, one after another. No time goes into copies of nothing, of which there may be 2^32.
+#[tactic(auto, using(crate::proofs::WordLemmas::copies_of_nothing))]
 pub fn repeated(alloc: Global, base: &[Letter], times: u32) -> Result<Vec<Letter>, AllocError>
+    requires { times * length base.now < 2 ^ 32 }
     ensures { IfOk result (λ v. v.items ≡ copies times base.now) }
 {
-    let mut letters = Vec::new(alloc);
+    if base.is_empty() {
+        return Ok(Vec::new(alloc));
+    }
+    let mut letters = Vec::with_capacity(alloc, times as usize * base.len())?;
     for _i in 0..times {
         letters.extend_from_slice(base)?;
     }
     Ok(letters)
 }
 
-// The letters without pairs of a letter and its inverse.
-pub fn cancelled(alloc: Global, word: &[Letter]) -> Result<Vec<Letter>, AllocError>
-    ensures reduced { IfOk result (λ v. IsReduced v.items) }
-    ensures same { IfOk result (λ v. Cancels word.now v.items) }
-    ensures no_longer { IfOk result (λ v. length v.items ≤ length word.now) }
-{
-    let mut letters: Vec<Letter> = Vec::new(alloc);
-    for l in word {
-        put(&mut letters, *l)?;
-    }
-    Ok(letters)
-}
-
-// Puts one more letter at the end, where it goes with its inverse.
-#[tactic(auto, using(crate::proofs::WordLemmas::IsReduced_push, crate::proofs::WordLemmas::IsReduced_pop, crate::proofs::WordLemmas::cancels_front, crate::proofs::WordLemmas::front_is_take))]
-fn put(letters: &mut Vec<Letter>, l: Letter) -> Result<(), AllocError>
-    ensures reduced { OnOk result (IsReduced letters.old.items → IsReduced letters.new.items) }
-    ensures same { OnOk result ((t w : List Letter) → Cancels (letters.new.items ++ t) w → Cancels (letters.old.items ++ l ∷ t) w) }
-    ensures no_longer { OnOk result (length letters.new.items ≤ length letters.old.items + 1) }
-{
-    if ends_with_inverse(letters, l) {
-        letters.pop();
-        Ok(())
-    } else {
-        letters.push(l)?;
-        Ok(())
-    }
-}
-
-// Whether the last letter is the inverse of this one.
-fn ends_with_inverse(letters: &[Letter], l: Letter) -> bool
-    ensures { IsTrue result ↔ ((front : List Letter) × (letters.now ≡ front ++ flipped l ∷ [])) }
-{
-    match letters.last() {
-        Some(last) => *last == l.flip(),
-        None => false,
-    }
-}
-
-/// The inverse of these letters.
+/// The inverse of these letters: their reverse, each with the other sign.
 pub fn inverse_of(alloc: Global, u: &[Letter]) -> Result<Vec<Letter>, AllocError>
     ensures { IfOk result (λ v. v.items ≡ inverse u.now) }
 {
-    u.iter().rev().map(|l| l.flip()).collect(alloc)
+    let mut letters = Vec::with_capacity(alloc, u.len())?;
+    put_inverse(&mut letters, u)?;
+    Ok(letters)
 }
 
 /// The commutator u v u^-1 v^-1.
 pub fn commutator_of(alloc: Global, u: &[Letter], v: &[Letter]) -> Result<Vec<Letter>, AllocError>
     ensures { IfOk result (λ w. w.items ≡ commutator u.now v.now) }
 {
-    let mut letters = u.to_vec(alloc)?;
+    let half = u.len().saturating_add(v.len());
+    let mut letters = Vec::with_capacity(alloc, half.saturating_mul(2))?;
+    letters.extend_from_slice(u)?;
     letters.extend_from_slice(v)?;
-    letters.extend_from_slice(&inverse_of(alloc, u)?)?;
-    letters.extend_from_slice(&inverse_of(alloc, v)?)?;
+    put_inverse(&mut letters, u)?;
+    put_inverse(&mut letters, v)?;
     Ok(letters)
+}
+
+// Puts the inverse of these letters at the end.
+pub fn put_inverse(letters: &mut Vec<Letter>, u: &[Letter]) -> Result<(), AllocError>
+    ensures { OnOk result (letters.new.items ≡ letters.old.items ++ inverse u.now) }
+{
+    letters.extend(u.iter().rev().map(|l| l.flip()))
 }

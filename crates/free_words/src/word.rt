@@ -1,14 +1,18 @@
-//! Words of the free group, unreduced.
+//! Words of the free group, kept unreduced.
 
-ghost use Rattle.std.specs.Prelude.{◌≡◌, ◌+◌, ◌<◌, ◌≤◌, ◌^◌, [], ◌∷◌, ◌++◌, length, slice_get, OnOk, OnErr, IfOk, Some, IsErrOf};
+ghost use Rattle.std.specs.Prelude.{◌≡◌, ◌+◌, ◌<◌, ◌≤◌, ◌^◌, [], ◌∷◌, ◌++◌, length, slice_get, slice_index_or, ℕ, pos, OnOk, OnErr, IfOk, Some, IsErrOf, IsTrue, ◌↔◌};
 
 use crate::fault::WordFault;
+use crate::images::{image_len, image_of};
 use crate::letter::Letter;
-use crate::making::{cancelled, commutator_of, repeated};
+use crate::making::{commutator_of, inverse_of, repeated};
+use crate::reduction::cancelled;
+use crate::sums::exponents_of;
+use crate::{COMPOSED, GENERATORS};
 use std::alloc::{AllocError, Global};
 use std::marker::Model;
 
-/// A word, seen as its list of letters. It has fewer than 2^32.
+/// A word, which contracts see as its list of letters. It has fewer than 2^32 letters.
 #[derive(Drop)]
 pub struct Word {
     letters: Vec<Letter>,
@@ -26,7 +30,7 @@ impl Model for Word {
 }
 
 impl Word {
-    ghost use Rattle.free_words.specs.Words.{inverse, commutator, copies, power, MadeWithin, IsReduced, Cancels};
+    ghost use Rattle.free_words.specs.Words.{IsOver, inverse, commutator, copies, power, exponent_sum, word_image, MadeWithin, IsReduced, Cancels};
 
     /// The empty word.
     pub fn new(alloc: Global) -> Word
@@ -42,6 +46,13 @@ impl Word {
         ensures { result ≡ length self.now }
     {
         self.letters.len() as u32
+    }
+
+    /// Whether the word has no letters.
+    pub fn is_empty(&self) -> bool
+        ensures { IsTrue result ↔ (self.now ≡ []) }
+    {
+        self.letters.is_empty()
     }
 
     /// The letter at a position.
@@ -60,7 +71,7 @@ impl Word {
         &self.letters
     }
 
-    /// The word of these letters.
+    /// The word of these letters, in their order.
     pub fn of(letters: Vec<Letter>) -> Word
         requires { length letters.items < 2 ^ 32 }
         ensures { result ≡ letters.items }
@@ -68,7 +79,7 @@ impl Word {
         Word { letters }
     }
 
-    /// Puts a letter at the end.
+    /// Puts a letter at the end, where the word then has at most `limit` letters. After an error the word is as before.
     pub fn push(&mut self, l: Letter, limit: u32) -> Result<(), WordFault>
         ensures ok { OnOk result (self.new ≡ self.old ++ l ∷ []) }
         ensures err { OnErr result (self.new ≡ self.old) }
@@ -92,7 +103,7 @@ impl Word {
         if total > limit as u64 {
             return Err(WordFault::TooLong { letters: total });
         }
-        let mut letters = Vec::new(alloc);
+        let mut letters = Vec::with_capacity(alloc, total as usize)?;
         letters.extend_from_slice(&self.letters)?;
         letters.extend_from_slice(&other.letters)?;
         Ok(Word { letters })
@@ -116,19 +127,20 @@ impl Word {
     pub fn inverse(&self, alloc: Global) -> Result<Word, AllocError>
         ensures { IfOk result (λ w. w ≡ inverse self.now) }
     {
-        let letters = self.letters.iter().rev().map(|l| l.flip()).collect(alloc)?;
-        Ok(Word { letters })
+        Ok(Word {
+            letters: inverse_of(alloc, &self.letters)?,
+        })
     }
 
-    /// The k-th power; a negative k takes the inverse.
+    /// The k-th power: so many copies of the word, or of its inverse where k is negative. The power 0 is the empty word.
     pub fn power(&self, alloc: Global, k: i32, limit: u32) -> Result<Word, WordFault>
         ensures { MadeWithin limit (power self.now k) result }
     {
+        let times = k.unsigned_abs();
         if k < 0 {
-            let base = self.inverse(alloc)?;
-            base.repeated(alloc, k.unsigned_abs(), limit)
+            self.inverse(alloc)?.repeated(alloc, times, limit)
         } else {
-            self.repeated(alloc, k.unsigned_abs(), limit)
+            self.repeated(alloc, times, limit)
         }
     }
 
@@ -145,7 +157,7 @@ impl Word {
         Ok(Word { letters })
     }
 
-    /// The commutator u v u^-1 v^-1.
+    /// The commutator u v u^-1 v^-1 of this word u and the other, v.
     #[tactic(auto, using(crate::proofs::WordLemmas::length_commutator))]
     pub fn commutator(&self, alloc: Global, other: &Word, limit: u32) -> Result<Word, WordFault>
         ensures { MadeWithin limit (commutator self.now other.now) result }
@@ -158,7 +170,7 @@ impl Word {
         Ok(Word { letters })
     }
 
-    /// The freely reduced word.
+    /// The freely reduced word: no letter stands beside its inverse.
     pub fn reduce(&self, alloc: Global) -> Result<Word, AllocError>
         ensures reduced { IfOk result (λ w. IsReduced w) }
         ensures same { IfOk result (λ w. Cancels self.now w) }
@@ -166,5 +178,36 @@ impl Word {
         Ok(Word {
             letters: cancelled(alloc, &self.letters)?,
         })
+    }
+
+    /// The exponent sums: the entry at g is the number of letters (g, +1) less the number of letters (g, -1).
+    pub fn exponents(&self) -> [i32; 24]
+        requires known { IsOver GENERATORS self.now }
+        requires short { length self.now ≤ COMPOSED }
+        ensures whole { length result ≡ GENERATORS }
+        ensures sums { (g : ℕ) → g < GENERATORS → slice_index_or result g (pos 0) ≡ exponent_sum g self.now }
+    {
+        exponents_of(&self.letters)
+    }
+
+    /// The length of the image under the substitution of the i-th word for the i-th generator. The image isn't reduced.
+    pub fn substituted_len(&self, images: &[Word]) -> u64
+        requires { IsOver (length images.now) self.now }
+        ensures { result ≡ length (word_image images.now self.now) }
+    {
+        image_len(&self.letters, images)
+    }
+
+    /// The image under the substitution of the i-th word for the i-th generator. It isn't reduced.
+    pub fn substitute(&self, alloc: Global, images: &[Word], limit: u32) -> Result<Word, WordFault>
+        requires { IsOver (length images.now) self.now }
+        ensures { MadeWithin limit (word_image images.now self.now) result }
+    {
+        let total = self.substituted_len(images);
+        if total > limit as u64 {
+            return Err(WordFault::TooLong { letters: total });
+        }
+        let letters = image_of(alloc, &self.letters, images, total as usize)?;
+        Ok(Word { letters })
     }
 }

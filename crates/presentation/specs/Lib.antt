@@ -1,1 +1,4 @@
 pub mod Presented
+pub mod Line
+pub mod Reading
+pub mod Grammar

@@ -1,0 +1,4 @@
+pub mod FormalSum
+pub mod Keys
+pub mod Evaluation
+pub mod IntegerTuple

@@ -1,0 +1,8 @@
+pub mod Combining
+pub mod Variables
+pub mod IntegerVectors
+pub mod Divisors
+pub mod LeastFactors
+pub mod Ranks
+pub mod Division
+pub mod Descent

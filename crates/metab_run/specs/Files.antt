@@ -1,0 +1,60 @@
+-- What a text that a command reads leads to.
+use Rattle.std.specs.Prelude.{◌≡◌, ℕ, ◌<◌, ◌≤◌, List, length, Option, IfSome, Result, Ok, Err, Vec, ◌⊎◌}
+use Rattle.std.specs.declared.alloc.Global.{Global}
+use Rattle.metab_run.specs.declared.answer.Halt.{Halt}
+use Rattle.metab_run.specs.declared.answer.Halt.TheVariants.{Says, NoMemory}
+use Rattle.word_text.specs.declared.fault.Fault.{Fault}
+use Rattle.word_text.specs.declared.fault.TextFault.{TextFault}
+use Rattle.word_text.specs.declared.fault.ReadFault.{ReadFault}
+use Rattle.word_text.specs.declared.fault.ReadFault.TheVariants as faults
+use Rattle.word_text.specs.Place.{placed}
+use Rattle.metab_run.specs.Answers.{Answer, unread, too_long, refused}
+
+-- a reader whose faults have a line and a column
+abbrev pub at_lines : {X : Type 0} → List ℕ → Result X Fault → Result X TextFault
+at_lines bytes (Ok x) = Ok x
+at_lines bytes (Err e) = Err (placed bytes e)
+
+abbrev pub in_lines : {X : Type 0} → (List ℕ → Result X Fault) → List ℕ → Result X TextFault
+in_lines read bytes = at_lines bytes (read bytes)
+
+-- a text that was parsed: its first fault is the answer, or its value goes on
+abbrev pub ReadLeads : {X : Type 0} → List ℕ → Result X TextFault → (X → Answer → Type 0) → Answer → Type 0
+ReadLeads name (Err f) next a = a ≡ refused name f
+ReadLeads name (Ok x) next a = next x a
+
+-- a text of at most so many bytes is parsed
+abbrev pub TextLeads : {X : Type 0} → ℕ → List ℕ → List ℕ → (List ℕ → Result X TextFault) → (X → Answer → Type 0) → Answer → Type 0
+TextLeads limit name bytes read next a =
+    ((limit < length bytes) × (a ≡ too_long name limit)) ⊎ ((length bytes ≤ limit) × ReadLeads name (read bytes) next a)
+
+-- The text under a name is read whole and then parsed. Reading it failed, which the shelf has counted; or, where the
+-- shelf tells the bytes, they lead to the answer.
+abbrev pub FileLeads : {X : Type 0} → Type 0 → ℕ → List ℕ → Option (List ℕ) → (List ℕ → Result X TextFault) → (X → Answer → Type 0) → Answer → Type 0
+FileLeads counted limit name told read next a =
+    (counted × (a ≡ unread name)) ⊎ IfSome told (λ bytes. TextLeads limit name bytes read next a)
+
+-- what reading a text whole answers: its bytes, at most so many, or what is wrong
+abbrev pub Loaded : Type 0 → ℕ → List ℕ → Option (List ℕ) → Result (Vec ℕ Global) Halt → Type 0
+Loaded counted limit name told (Ok v) = (length v.items ≤ limit) × IfSome told (λ bytes. v.items ≡ bytes)
+Loaded counted limit name told (Err (Says a)) =
+    (counted × (a ≡ unread name)) ⊎ (IfSome told (λ bytes. limit < length bytes) × (a ≡ too_long name limit))
+Loaded counted limit name told (Err NoMemory) = Unit {0}
+
+-- why a text has no value
+abbrev pub FileFails : {X : Type 0} → Type 0 → ℕ → List ℕ → Option (List ℕ) → (List ℕ → Result X TextFault) → Answer → Type 0
+FileFails counted limit name told read a =
+    (counted × (a ≡ unread name)) ⊎ IfSome told (λ bytes.
+        ((limit < length bytes) × (a ≡ too_long name limit)) ⊎ ((length bytes ≤ limit) × ((f : TextFault) × (read bytes ≡ Err f) × (a ≡ refused name f))))
+
+-- what reading a text whole and parsing it answers: its value, or what is wrong
+abbrev pub FileGives : {X : Type 0} → Type 0 → ℕ → List ℕ → Option (List ℕ) → (List ℕ → Result X TextFault) → Result X Halt → Type 0
+FileGives counted limit name told read (Ok x) = IfSome told (λ bytes. (length bytes ≤ limit) × (read bytes ≡ Ok x))
+FileGives counted limit name told read (Err (Says a)) = FileFails counted limit name told read a
+FileGives counted limit name told read (Err NoMemory) = Unit {0}
+
+-- the answer to what is wrong with a text
+abbrev pub Refuses : List ℕ → ReadFault → Halt → Type 0
+Refuses name (faults.Text f) (Says a) = a ≡ refused name f
+Refuses name faults.NoMemory (Says a) = ⊥
+Refuses name fault NoMemory = Unit {0}

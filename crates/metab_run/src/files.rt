@@ -1,0 +1,83 @@
+//! Texts under names, read whole.
+
+ghost use Rattle.std.specs.Prelude.{◌≡◌, ℕ, ◌≤◌, List, IfOk, All};
+ghost use Rattle.mb_io.specs.Shelf.{CountRose};
+ghost use Rattle.presentation.specs.Reading.{presentation_text};
+ghost use Rattle.derivation.specs.Making.{IsInsertOver};
+ghost use Rattle.metab_run.specs.Files.{Loaded, FileGives, Refuses, in_lines};
+
+use crate::answer::{Answer, Halt};
+use crate::{DERIVATION_BYTES, PRESENTATION_BYTES};
+use derivation::{Move, read_derivation};
+use mb_io::{LoadFault, Shelf, read_all};
+use presentation::{Presentation, read_presentation};
+use std::alloc::Global;
+use word_text::ReadFault;
+
+/// The bytes under a name, at most so many, or the answer that says what is wrong with them.
+pub fn load<S: Shelf>(
+    alloc: Global,
+    shelf: &mut S,
+    name: &str,
+    limit: u32,
+) -> Result<Vec<u8>, Halt>
+    ensures loaded { Loaded (CountRose (S.faults shelf.old) (S.faults shelf.new)) limit name.now (S.under shelf.old name.now) result }
+    ensures same { (n : List ℕ) → S.under shelf.new n ≡ S.under shelf.old n }
+    ensures later { S.faults shelf.old ≤ S.faults shelf.new }
+{
+    match read_all(alloc, shelf, name, limit) {
+        Ok(bytes) => Ok(bytes),
+        Err(LoadFault::ReadFault) => Err(Halt::Says(Answer::unread(alloc, name)?)),
+        Err(LoadFault::FileTooLong { at }) => Err(Halt::Says(Answer::too_long(alloc, name, at)?)),
+        Err(LoadFault::NoMemory) => Err(Halt::NoMemory),
+    }
+}
+
+// The answer to what is wrong with a text.
+fn refusal(alloc: Global, name: &str, fault: &ReadFault) -> Halt
+    ensures { Refuses name.now fault.now result }
+{
+    match fault {
+        ReadFault::NoMemory => Halt::NoMemory,
+        ReadFault::Text(fault) => match Answer::refused(alloc, name, fault) {
+            Ok(answer) => Halt::Says(answer),
+            Err(_) => Halt::NoMemory,
+        },
+    }
+}
+
+/// The presentation under a name.
+pub fn load_presentation<S: Shelf>(
+    alloc: Global,
+    shelf: &mut S,
+    name: &str,
+) -> Result<Presentation, Halt>
+    ensures gives { FileGives (CountRose (S.faults shelf.old) (S.faults shelf.new)) PRESENTATION_BYTES name.now (S.under shelf.old name.now) (in_lines presentation_text) result }
+    ensures same { (n : List ℕ) → S.under shelf.new n ≡ S.under shelf.old n }
+    ensures later { S.faults shelf.old ≤ S.faults shelf.new }
+{
+    let text = load(alloc, shelf, name, PRESENTATION_BYTES)?;
+    match read_presentation(alloc, &text) {
+        Ok(p) => Ok(p),
+        Err(fault) => Err(refusal(alloc, name, &fault)),
+    }
+}
+
+/// The derivation under a name, over a presentation.
+pub fn load_derivation<S: Shelf>(
+    alloc: Global,
+    shelf: &mut S,
+    p: &Presentation,
+    name: &str,
+) -> Result<Vec<Move>, Halt>
+    ensures gives { FileGives (CountRose (S.faults shelf.old) (S.faults shelf.new)) DERIVATION_BYTES name.now (S.under shelf.old name.now) (derivation_text p.now) result }
+    ensures over { IfOk result (λ moves. All (λ m. IsInsertOver p.now m.what) moves.items) }
+    ensures same { (n : List ℕ) → S.under shelf.new n ≡ S.under shelf.old n }
+    ensures later { S.faults shelf.old ≤ S.faults shelf.new }
+{
+    let text = load(alloc, shelf, name, DERIVATION_BYTES)?;
+    match read_derivation(alloc, p, &text) {
+        Ok(moves) => Ok(moves),
+        Err(fault) => Err(refusal(alloc, name, &fault)),
+    }
+}

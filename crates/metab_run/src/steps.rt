@@ -1,0 +1,76 @@
+//! The command `steps`: whether a derivation carries a word to the empty word.
+
+ghost use Rattle.std.specs.Prelude.{◌≡◌, ℕ, ◌≤◌, List, IfOk, codes};
+ghost use Rattle.mb_io.specs.Shelf.{CountRose};
+ghost use Rattle.derivation.specs.Making.{StepsGive};
+ghost use Rattle.metab_run.specs.Steps.{reason_text, trivial, Shows, read_word, StepsEnd, AskedTrivial};
+ghost use Rattle.metab_run.specs.Files.{WordGives};
+ghost use Rattle.metab_run.specs.Words.{asked};
+ghost use Rattle.presentation.specs.Presented.{IsWritten};
+
+use crate::answer::{Answer, Halt};
+use crate::files::{load_derivation, load_presentation, refusal};
+use crate::status::Status;
+use crate::words::StepsWords;
+use derivation::{MoveReason, StepsFault, check_steps};
+use free_words::Word;
+use mb_io::Shelf;
+use presentation::{Presentation, read_word};
+use std::alloc::{AllocError, Global};
+
+// The name of a reason in an answer.
+fn reason_text(reason: MoveReason) -> &'static str
+    ensures { result.now ≡ reason_text reason }
+{
+    match reason {
+        MoveReason::Place => "place",
+        MoveReason::NoRelator => "no-relator",
+        MoveReason::NoModulus => "no-modulus",
+        MoveReason::NotThere => "not-there",
+        MoveReason::TooLong => "too-long",
+    }
+}
+
+// What the moves made of the word.
+fn shown(alloc: Global, made: Result<(), StepsFault>) -> Result<Answer, AllocError>
+    ensures { IfOk result (λ a. Shows made a) }
+{
+    let (status, text) = match made {
+        Ok(()) => (Status::Done, String::from_str(alloc, "trivial\n")?),
+        Err(StepsFault::BadMove { number, reason }) => {
+            let reason = reason_text(reason);
+            (
+                Status::Fails,
+                format!(in alloc; "bad move {number} {reason}\n")?,
+            )
+        }
+        Err(StepsFault::NotEmpty { left }) => {
+            (Status::Fails, format!(in alloc; "not-empty {left}\n")?)
+        }
+        Err(StepsFault::NoMemory) => return Err(AllocError),
+    };
+    Ok(Answer::new(status, text.into_bytes()))
+}
+
+// The word of the command line.
+fn word(alloc: Global, p: &Presentation, text: &str) -> Result<Word, Halt>
+    ensures gives { WordGives (read_word p.now text.now) result }
+{
+    match read_word(alloc, p, text.as_bytes()) {
+        Ok(w) => Ok(w),
+        Err(fault) => Err(refusal(alloc, "word", &fault)),
+    }
+}
+
+/// The answer to `steps` over these texts.
+pub fn steps<S: Shelf>(alloc: Global, shelf: &mut S, words: &StepsWords) -> Result<Answer, Halt>
+    ensures exact { StepsEnd (CountRose (S.faults shelf.old) (S.faults shelf.new)) (S.under shelf.old) (asked words.now) result }
+    ensures same { (n : List ℕ) → S.under shelf.new n ≡ S.under shelf.old n }
+    ensures later { S.faults shelf.old ≤ S.faults shelf.new }
+{
+    let p = load_presentation(alloc, shelf, words.presentation)?;
+    let w = word(alloc, &p, words.word)?;
+    let moves = load_derivation(alloc, shelf, &p, words.derivation)?;
+    let answer = shown(alloc, check_steps(alloc, &p, &w, &moves))?;
+    Ok(answer)
+}

@@ -1,0 +1,17 @@
+pub mod Ends
+pub mod Digits
+pub mod Written
+pub mod Quotients
+pub mod NameLists
+pub mod NameTurns
+pub mod RelatorTurns
+pub mod Steps
+pub mod Distinct
+pub mod Sound
+pub mod Limits
+pub mod SoundWhole
+pub mod WordAgain
+pub mod Complete
+pub mod Found
+pub mod Keywords
+pub mod SameLists
