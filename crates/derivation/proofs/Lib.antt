@@ -3,4 +3,10 @@ pub mod PieceLemmas
 pub mod Deciding
 pub mod MoveLemmas
 pub mod Runs
+pub mod GapLemmas
+pub mod Reaching
+pub mod TrivialLaws
+pub mod OneAnswer
+pub mod OneOutcome
+pub mod Staying
 pub mod Lines

@@ -1,6 +1,8 @@
 //! Moves on words over a presentation, and what a list of moves shows of a word.
 #![tactic(auto)]
 
+mod gap;
+pub mod laws;
 mod line_moves;
 mod moves;
 mod moving;

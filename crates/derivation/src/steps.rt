@@ -6,7 +6,7 @@ ghost use Rattle.derivation.specs.Making.{IsInsertOver, MoveGives, Runs, StepsGi
 
 use crate::moves::{Move, MoveFault, StepsFault};
 use crate::moving::MovingWord;
-use free_words::{COMPOSED, Word};
+use free_words::Word;
 use presentation::Presentation;
 use std::alloc::Global;
 
@@ -15,7 +15,7 @@ pub fn apply(alloc: Global, p: &Presentation, w: &Word, m: &Move) -> Result<Word
     requires { IsInsertOver p.now m.now.what }
     ensures { MoveGives p.now w.now m.now result }
 {
-    let mut moving = MovingWord::new(alloc, w, w.len() as usize)?;
+    let mut moving = MovingWord::new(alloc, w)?;
     moving.make(p, m)?;
     Ok(moving.into_word())
 }
@@ -31,7 +31,7 @@ pub fn check_steps(
     ensures exact { StepsGive p.now w.now moves.now result }
     ensures trivial { OnOk result (Trivial p.now w.now) }
 {
-    let mut moving = MovingWord::new(alloc, w, COMPOSED as usize)?;
+    let mut moving = MovingWord::new(alloc, w)?;
     make_all(&mut moving, p, moves)?;
     match moving.len() {
         0 => Ok(()),
