@@ -1,13 +1,14 @@
 -- What a text that a command reads leads to.
-use Rattle.std.specs.Prelude.{◌≡◌, ℕ, ◌<◌, ◌≤◌, List, length, Option, IfSome, Result, Ok, Err, Vec, ◌⊎◌}
+use Rattle.std.specs.Prelude.{◌≡◌, ◌≢◌, ℕ, ◌<◌, ◌≤◌, List, length, Option, IfSome, Result, Ok, Err, Vec, codes, ◌⊎◌}
 use Rattle.std.specs.declared.alloc.Global.{Global}
 use Rattle.metab_run.specs.declared.answer.Halt.{Halt}
 use Rattle.metab_run.specs.declared.answer.Halt.TheVariants.{Says, NoMemory}
 use Rattle.word_text.specs.declared.fault.Fault.{Fault}
 use Rattle.word_text.specs.declared.fault.TextFault.{TextFault}
-use Rattle.word_text.specs.declared.fault.ReadFault.{ReadFault}
+use Rattle.word_text.specs.declared.fault.ReadFault as read
 use Rattle.word_text.specs.declared.fault.ReadFault.TheVariants as faults
 use Rattle.word_text.specs.Place.{placed}
+use Rattle.metab_run.specs.declared.status.Status.TheVariants.{Done, ReadFault}
 use Rattle.metab_run.specs.Answers.{Answer, unread, too_long, refused}
 
 -- a reader whose faults have a line and a column
@@ -45,16 +46,28 @@ Loaded counted limit name told (Err NoMemory) = Unit {0}
 abbrev pub FileFails : {X : Type 0} → Type 0 → ℕ → List ℕ → Option (List ℕ) → (List ℕ → Result X TextFault) → Answer → Type 0
 FileFails counted limit name told read a =
     (counted × (a ≡ unread name)) ⊎ IfSome told (λ bytes.
-        ((limit < length bytes) × (a ≡ too_long name limit)) ⊎ ((length bytes ≤ limit) × ((f : TextFault) × (read bytes ≡ Err f) × (a ≡ refused name f))))
+    ((limit < length bytes) × (a ≡ too_long name limit)) ⊎ ((length bytes ≤ limit) × ((f : TextFault) × (read bytes ≡ Err f) × (a ≡ refused name f))))
 
--- what reading a text whole and parsing it answers: its value, or what is wrong
-abbrev pub FileGives : {X : Type 0} → Type 0 → ℕ → List ℕ → Option (List ℕ) → (List ℕ → Result X TextFault) → Result X Halt → Type 0
-FileGives counted limit name told read (Ok x) = IfSome told (λ bytes. (length bytes ≤ limit) × (read bytes ≡ Ok x))
-FileGives counted limit name told read (Err (Says a)) = FileFails counted limit name told read a
-FileGives counted limit name told read (Err NoMemory) = Unit {0}
+-- what reading a text whole and parsing it answers: its value, as `view` shows it, or what is wrong
+abbrev pub FileGives : {X Y : Type 0} → (Y → X) → Type 0 → ℕ → List ℕ → Option (List ℕ) → (List ℕ → Result X TextFault) → Result Y Halt → Type 0
+FileGives view counted limit name told read (Ok y) = IfSome told (λ bytes. (length bytes ≤ limit) × (read bytes ≡ Ok (view y)))
+FileGives view counted limit name told read (Err (Says a)) = FileFails counted limit name told read a
+FileGives view counted limit name told read (Err NoMemory) = Unit {0}
 
 -- the answer to what is wrong with a text
-abbrev pub Refuses : List ℕ → ReadFault → Halt → Type 0
+abbrev pub Refuses : List ℕ → read.ReadFault → Halt → Type 0
 Refuses name (faults.Text f) (Says a) = a ≡ refused name f
 Refuses name faults.NoMemory (Says a) = ⊥
 Refuses name fault NoMemory = Unit {0}
+
+-- a command that goes no further has done nothing, and says that a text could not be read only where the shelf has
+-- counted it
+abbrev pub HasCause : Type 0 → Halt → Type 0
+HasCause counted (Says a) = (a.status ≢ Done) × (a.status ≡ ReadFault → counted)
+HasCause counted NoMemory = Unit {0}
+
+-- what reading a word of the command line answers: its value, or what is wrong
+abbrev pub WordGives : {X : Type 0} → Result X TextFault → Result X Halt → Type 0
+WordGives read (Ok x) = read ≡ Ok x
+WordGives read (Err (Says a)) = (f : TextFault) × (read ≡ Err f) × (a ≡ refused (codes "word") f)
+WordGives read (Err NoMemory) = Unit {0}

@@ -2,3 +2,5 @@ pub mod Answers
 pub mod Words
 pub mod Files
 pub mod Ends
+pub mod Steps
+pub mod Top

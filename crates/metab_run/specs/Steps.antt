@@ -1,5 +1,8 @@
 -- What the command `steps` answers.
-use Rattle.std.specs.Prelude.{◌≡◌, ℕ, List, ◌++◌, Option, Result, Ok, Err, codes, decimal}
+use Rattle.std.specs.Prelude.{◌≡◌, ℕ, List, ◌++◌, Option, IfSome, Result, Ok, Err, codes, decimal}
+use Rattle.word_text.specs.declared.fault.TextFault.{TextFault}
+use Rattle.metab_run.specs.declared.answer.Halt.{Halt}
+use Rattle.metab_run.specs.declared.answer.Halt.TheVariants as halts
 use Rattle.word_text.specs.Machine.{finding}
 use Rattle.word_text.specs.Place.{word_text}
 use Rattle.presentation.specs.Presented.{Presented}
@@ -12,6 +15,7 @@ use Rattle.derivation.specs.declared.moves.StepsFault.{StepsFault}
 use Rattle.derivation.specs.declared.moves.StepsFault.TheVariants.{BadMove, NotEmpty}
 use Rattle.derivation.specs.declared.moves.StepsFault.TheVariants as steps
 use Rattle.derivation.specs.Making.{StepsGive}
+use Rattle.derivation.specs.Reading.{derivation_text}
 use Rattle.derivation.specs.Moves.{Trivial}
 use Rattle.metab_run.specs.declared.status.Status.TheVariants.{Done, Fails}
 use Rattle.metab_run.specs.declared.TheConstants.{PRESENTATION_BYTES, DERIVATION_BYTES}
@@ -69,4 +73,10 @@ StepsLead counted under q a =
 abbrev pub AskedTrivial : (List ℕ → Option (List ℕ)) → Asked → Type 0
 AskedTrivial under q =
     IfSome (under q.presentation) (λ bytes. IfSome (under q.derivation) (λ _.
-        (p : Presented) × (w : List Letter) × (in_lines presentation_text bytes ≡ Ok p) × (read_word p q.word ≡ Ok w) × Trivial p w))
+    (p : Presented) × (w : List Letter) × (in_lines presentation_text bytes ≡ Ok p) × (read_word p q.word ≡ Ok w) × Trivial p w))
+
+-- what the command gives: the answer that is due, unless memory runs out
+abbrev pub StepsEnd : Type 0 → (List ℕ → Option (List ℕ)) → Asked → Result Answer Halt → Type 0
+StepsEnd counted under q (Ok a) = StepsLead counted under q a
+StepsEnd counted under q (Err (halts.Says a)) = StepsLead counted under q a
+StepsEnd counted under q (Err halts.NoMemory) = Unit {0}

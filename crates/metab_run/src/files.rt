@@ -1,10 +1,11 @@
 //! Texts under names, read whole.
 
-ghost use Rattle.std.specs.Prelude.{◌≡◌, ℕ, ◌≤◌, List, IfOk, All};
+ghost use Rattle.std.specs.Prelude.{◌≡◌, ℕ, ◌≤◌, List, IfOk, IfErr, All};
 ghost use Rattle.mb_io.specs.Shelf.{CountRose};
 ghost use Rattle.presentation.specs.Reading.{presentation_text};
 ghost use Rattle.derivation.specs.Making.{IsInsertOver};
-ghost use Rattle.metab_run.specs.Files.{Loaded, FileGives, Refuses, in_lines};
+ghost use Rattle.derivation.specs.Reading.{derivation_text};
+ghost use Rattle.metab_run.specs.Files.{Loaded, FileGives, HasCause, Refuses, in_lines};
 
 use crate::answer::{Answer, Halt};
 use crate::{DERIVATION_BYTES, PRESENTATION_BYTES};
@@ -15,13 +16,9 @@ use std::alloc::Global;
 use word_text::ReadFault;
 
 /// The bytes under a name, at most so many, or the answer that says what is wrong with them.
-pub fn load<S: Shelf>(
-    alloc: Global,
-    shelf: &mut S,
-    name: &str,
-    limit: u32,
-) -> Result<Vec<u8>, Halt>
+pub fn load<S: Shelf>(alloc: Global, shelf: &mut S, name: &str, limit: u32) -> Result<Vec<u8>, Halt>
     ensures loaded { Loaded (CountRose (S.faults shelf.old) (S.faults shelf.new)) limit name.now (S.under shelf.old name.now) result }
+    ensures cause { IfErr result (HasCause (CountRose (S.faults shelf.old) (S.faults shelf.new))) }
     ensures same { (n : List ℕ) → S.under shelf.new n ≡ S.under shelf.old n }
     ensures later { S.faults shelf.old ≤ S.faults shelf.new }
 {
@@ -33,9 +30,10 @@ pub fn load<S: Shelf>(
     }
 }
 
-// The answer to what is wrong with a text.
-fn refusal(alloc: Global, name: &str, fault: &ReadFault) -> Halt
-    ensures { Refuses name.now fault.now result }
+/// The answer to what is wrong with a text.
+pub fn refusal(alloc: Global, name: &str, fault: &ReadFault) -> Halt
+    ensures refuses { Refuses name.now fault.now result }
+    ensures cause { HasCause ⊥ result }
 {
     match fault {
         ReadFault::NoMemory => Halt::NoMemory,
@@ -52,7 +50,8 @@ pub fn load_presentation<S: Shelf>(
     shelf: &mut S,
     name: &str,
 ) -> Result<Presentation, Halt>
-    ensures gives { FileGives (CountRose (S.faults shelf.old) (S.faults shelf.new)) PRESENTATION_BYTES name.now (S.under shelf.old name.now) (in_lines presentation_text) result }
+    ensures gives { FileGives (λ p. p) (CountRose (S.faults shelf.old) (S.faults shelf.new)) PRESENTATION_BYTES name.now (S.under shelf.old name.now) (in_lines presentation_text) result }
+    ensures cause { IfErr result (HasCause (CountRose (S.faults shelf.old) (S.faults shelf.new))) }
     ensures same { (n : List ℕ) → S.under shelf.new n ≡ S.under shelf.old n }
     ensures later { S.faults shelf.old ≤ S.faults shelf.new }
 {
@@ -70,7 +69,8 @@ pub fn load_derivation<S: Shelf>(
     p: &Presentation,
     name: &str,
 ) -> Result<Vec<Move>, Halt>
-    ensures gives { FileGives (CountRose (S.faults shelf.old) (S.faults shelf.new)) DERIVATION_BYTES name.now (S.under shelf.old name.now) (derivation_text p.now) result }
+    ensures gives { FileGives (λ moves. moves.items) (CountRose (S.faults shelf.old) (S.faults shelf.new)) DERIVATION_BYTES name.now (S.under shelf.old name.now) (derivation_text p.now) result }
+    ensures cause { IfErr result (HasCause (CountRose (S.faults shelf.old) (S.faults shelf.new))) }
     ensures over { IfOk result (λ moves. All (λ m. IsInsertOver p.now m.what) moves.items) }
     ensures same { (n : List ℕ) → S.under shelf.new n ≡ S.under shelf.old n }
     ensures later { S.faults shelf.old ≤ S.faults shelf.new }

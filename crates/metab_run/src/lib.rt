@@ -4,11 +4,16 @@
 mod answer;
 mod files;
 mod status;
+mod steps;
+mod top;
 mod words;
 mod writing;
 
-pub use answer::{Answer, Halt};
-pub use files::load;
 pub use status::Status;
-pub use words::{StepsWords, steps_words};
-pub use writing::deliver;
+pub use top::metab_alone;
+
+/// A presentation's text has at most so many bytes.
+pub const PRESENTATION_BYTES: u32 = 65_536;
+
+/// A derivation's text has at most so many bytes.
+pub const DERIVATION_BYTES: u32 = 67_108_864;

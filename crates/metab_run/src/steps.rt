@@ -1,10 +1,10 @@
 //! The command `steps`: whether a derivation carries a word to the empty word.
 
-ghost use Rattle.std.specs.Prelude.{◌≡◌, ℕ, ◌≤◌, List, IfOk, codes};
+ghost use Rattle.std.specs.Prelude.{◌≡◌, ◌≢◌, ℕ, ◌≤◌, List, length, IfOk, IfErr, IsOk};
 ghost use Rattle.mb_io.specs.Shelf.{CountRose};
 ghost use Rattle.derivation.specs.Making.{StepsGive};
 ghost use Rattle.metab_run.specs.Steps.{reason_text, trivial, Shows, read_word, StepsEnd, AskedTrivial};
-ghost use Rattle.metab_run.specs.Files.{WordGives};
+ghost use Rattle.metab_run.specs.Files.{WordGives, HasCause};
 ghost use Rattle.metab_run.specs.Words.{asked};
 ghost use Rattle.presentation.specs.Presented.{IsWritten};
 
@@ -33,7 +33,9 @@ fn reason_text(reason: MoveReason) -> &'static str
 
 // What the moves made of the word.
 fn shown(alloc: Global, made: Result<(), StepsFault>) -> Result<Answer, AllocError>
-    ensures { IfOk result (λ a. Shows made a) }
+    ensures shows { IfOk result (λ a. Shows made a) }
+    ensures done { IfOk result (λ a. a.status ≡ Status.Done → IsOk made) }
+    ensures read { IfOk result (λ a. a.status ≢ Status.ReadFault) }
 {
     let (status, text) = match made {
         Ok(()) => (Status::Done, String::from_str(alloc, "trivial\n")?),
@@ -55,6 +57,8 @@ fn shown(alloc: Global, made: Result<(), StepsFault>) -> Result<Answer, AllocErr
 // The word of the command line.
 fn word(alloc: Global, p: &Presentation, text: &str) -> Result<Word, Halt>
     ensures gives { WordGives (read_word p.now text.now) result }
+    ensures cause { IfErr result (HasCause ⊥) }
+    ensures over { IfOk result (λ w. IsWritten (length p.now.names) w) }
 {
     match read_word(alloc, p, text.as_bytes()) {
         Ok(w) => Ok(w),
@@ -65,6 +69,9 @@ fn word(alloc: Global, p: &Presentation, text: &str) -> Result<Word, Halt>
 /// The answer to `steps` over these texts.
 pub fn steps<S: Shelf>(alloc: Global, shelf: &mut S, words: &StepsWords) -> Result<Answer, Halt>
     ensures exact { StepsEnd (CountRose (S.faults shelf.old) (S.faults shelf.new)) (S.under shelf.old) (asked words.now) result }
+    ensures trivial { IfOk result (λ a. a.status ≡ Status.Done → AskedTrivial (S.under shelf.old) (asked words.now)) }
+    ensures read { IfOk result (λ a. a.status ≢ Status.ReadFault) }
+    ensures cause { IfErr result (HasCause (CountRose (S.faults shelf.old) (S.faults shelf.new))) }
     ensures same { (n : List ℕ) → S.under shelf.new n ≡ S.under shelf.old n }
     ensures later { S.faults shelf.old ≤ S.faults shelf.new }
 {
