@@ -33,6 +33,7 @@ IsOver-more m n (x ∷ w) le over = (omega (arith, over.0), IsOver-more m n w le
 
 -- ---- words made of words
 
+-- a product
 pub IsOver-append : (n : ℕ) (u v : List Letter) → IsOver n u → IsOver n v → IsOver n (u ++ v)
 IsOver-append n [] v a b = b
 IsOver-append n (x ∷ u) v a b = (a.0, IsOver-append n u v a.1 b)
@@ -42,19 +43,23 @@ pub IsOver-parts : (n : ℕ) (u v : List Letter) → IsOver n (u ++ v) → IsOve
 IsOver-parts n [] v a = (tt, a)
 IsOver-parts n (x ∷ u) v a = let r = IsOver-parts n u v a.1 in ((a.0, r.0), r.1)
 
+-- an inverse
 pub IsOver-inverse : (n : ℕ) (w : List Letter) → IsOver n w → IsOver n (inverse w)
 IsOver-inverse n [] a = tt
 IsOver-inverse n (x ∷ w) a =
     subst (IsOver n) (sym (inverse-cons x w)) (IsOver-append n (inverse w) (flipped x ∷ []) (IsOver-inverse n w a.1) (a.0, tt))
 
+-- copies of a word
 pub IsOver-copies : (n k : ℕ) (w : List Letter) → IsOver n w → IsOver n (copies k w)
 IsOver-copies n zero w a = tt
 IsOver-copies n (suc k) w a = IsOver-append n (copies k w) w (IsOver-copies n k w a) a
 
+-- a power
 pub IsOver-power : (n : ℕ) (w : List Letter) (k : ℤ) → IsOver n w → IsOver n (power w k)
 IsOver-power n w (pos k) a = subst (IsOver n) (sym (power-pos w k)) (IsOver-copies n k w a)
 IsOver-power n w (negsuc k) a = IsOver-copies n (suc k) (inverse w) (IsOver-inverse n w a)
 
+-- a commutator
 pub IsOver-commutator : (n : ℕ) (u v : List Letter) → IsOver n u → IsOver n v → IsOver n (commutator u v)
 IsOver-commutator n u v a b =
     IsOver-append n _ (inverse v) (IsOver-append n _ (inverse u) (IsOver-append n u v a b) (IsOver-inverse n u a)) (IsOver-inverse n v b)
@@ -66,9 +71,10 @@ IsOver-Cancels n _ _ (Cancels.pair u v w x h) a =
     let parts = IsOver-parts n u (x ∷ flipped x ∷ v) a in
     IsOver-Cancels n (u ++ v) w h (IsOver-append n u v parts.0 parts.1.1.1)
 
--- ---- images
+-- ---- images, where the word for each generator is over n
 
--- an image of each generator, each over n
+-- the image of a letter
+-- the image of a generator
 IsOver-at : (n : ℕ) (images : List (List Letter)) (i : ℕ) → AllByRecursion (IsOver n) images → IsOver n (slice_index_or images i [])
 IsOver-at n [] i a = tt
 IsOver-at n (w ∷ images) zero a = a.0
@@ -81,6 +87,7 @@ IsOver-letter_image n images l a = by l.inv
     by true = IsOver-inverse n _ (IsOver-at n images l.g a)
     by false = IsOver-at n images l.g a
 
+-- the image of a word
 pub IsOver-word_image : (n : ℕ) (images : List (List Letter)) (w : List Letter) → AllByRecursion (IsOver n) images → IsOver n (word_image images w)
 IsOver-word_image n images [] a = tt
 IsOver-word_image n images (x ∷ w) a =

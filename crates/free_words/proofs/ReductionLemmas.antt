@@ -10,6 +10,7 @@ use Rattle.free_words.proofs.WordLemmas.{flipped-flipped, inverse-cons}
 abbrev pub same : Letter → Letter → Bool
 same a b = eq-value.it a b
 
+-- the test of two letters says whether they are equal
 pub letter_decides : (a b : Letter) → Decides (same a b) (a ≡ b)
 letter_decides a b = search rules
 
@@ -38,6 +39,7 @@ IsReduced-tail : (x : Letter) (w : List Letter) → IsReduced (x ∷ w) → IsRe
 IsReduced-tail x [] r = tt
 IsReduced-tail x (y ∷ w) r = r.1
 
+-- a letter put before a reduced word
 IsReduced-glued : (x : Letter) (w : List Letter) → IsReduced w → IsReduced (glued x w)
 IsReduced-glued x [] r = tt
 IsReduced-glued x (y ∷ w) r = by (same (flipped x) y) refl
@@ -67,11 +69,12 @@ glued-flipped x (y ∷ w) r = by (same (flipped (flipped x)) y) refl
         subst (λ z. glued z w ≡ y ∷ w) (sym here) (glued-free y w r)
     by false e = rw (same-refl (flipped x))
 
--- leaving out a pair does not change what a pass leaves
+-- leaving out one pair
 normal-pair : (u v : List Letter) (x : Letter) → normal (u ++ x ∷ flipped x ∷ v) ≡ normal (u ++ v)
 normal-pair [] v x = glued-flipped x (normal v) (IsReduced-normal v)
 normal-pair (y ∷ u) v x = ap (glued y) (normal-pair u v x)
 
+-- leaving out pairs does not change what a pass leaves
 pub normal-Cancels : (w v : List Letter) → Cancels w v → normal w ≡ normal v
 normal-Cancels w v (Cancels.none _) = refl
 normal-Cancels _ _ (Cancels.pair u v w x h) = normal-pair u v x ∙ normal-Cancels (u ++ v) w h
@@ -94,6 +97,7 @@ length-Cancels w v (Cancels.none _) = omega arith
 length-Cancels _ _ (Cancels.pair u v w x h) =
     omega (arith, length-append u (x ∷ flipped x ∷ v), length-append u v, length-Cancels (u ++ v) w h)
 
+-- leaving out pairs, and then further pairs
 pub Cancels-trans : (u v w : List Letter) → Cancels u v → Cancels v w → Cancels u w
 Cancels-trans u v w (Cancels.none _) k = k
 Cancels-trans _ _ w (Cancels.pair a b v x h) k = Cancels.pair a b w x (Cancels-trans (a ++ b) v w h k)
@@ -117,6 +121,25 @@ Cancels-inverse (x ∷ w) =
     rw (inverse-cons x w, ← append_assoc w (inverse w) (flipped x ∷ []))
     (Cancels-trans _ (x ∷ flipped x ∷ []) [] (Cancels-after (x ∷ []) _ _ (Cancels-before (flipped x ∷ []) _ _ (Cancels-inverse w)))
     (Cancels.pair [] [] [] x (Cancels.none [])))
+
+-- what a pass leaves comes from the word by leaving out pairs
+Cancels-glued : (x : Letter) (w : List Letter) → Cancels (x ∷ w) (glued x w)
+Cancels-glued x [] = Cancels.none (x ∷ [])
+Cancels-glued x (y ∷ w) = by (same (flipped x) y) refl
+  where
+    by : (b : Bool) → same (flipped x) y ≡ b → Cancels (x ∷ y ∷ w) (cond b w (x ∷ y ∷ w))
+    by true e =
+        subst (λ (z : Letter). Cancels (x ∷ z ∷ w) w) ((letter_decides (flipped x) y).0 e) (Cancels.pair [] w w x (Cancels.none w))
+    by false e = Cancels.none (x ∷ y ∷ w)
+
+pub Cancels-normal : (w : List Letter) → Cancels w (normal w)
+Cancels-normal [] = Cancels.none []
+Cancels-normal (x ∷ w) =
+    Cancels-trans (x ∷ w) (x ∷ normal w) (glued x (normal w)) (Cancels-after (x ∷ []) w (normal w) (Cancels-normal w)) (Cancels-glued x (normal w))
+
+-- each word has a reduced form
+pub reduced_form : (w : List Letter) → (v : List Letter) × Cancels w v × IsReduced v
+reduced_form w = (normal w, Cancels-normal w, IsReduced-normal w)
 
 -- what the laws of reduction stand on
 pub ruleset reductions = (reduced-unique, Cancels-inverse)

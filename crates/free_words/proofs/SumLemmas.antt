@@ -5,8 +5,12 @@ use Rattle.std.proofs.lemmas.Int.{ints, to_z-of_z}
 use Rattle.std.proofs.lemmas.List.{take_more}
 use Rattle.std.proofs.lemmas.List.Sums.{sum_by-append, count_by-le-length}
 use Rattle.free_words.specs.declared.letter.Letter.{Letter}
-use Rattle.free_words.specs.Words.{inverse, flipped, Cancels, exponent_sum}
+use Rattle.free_words.specs.Words.{IsOver, inverse, flipped, commutator, Cancels, exponent_sum}
 use Rattle.free_words.proofs.WordLemmas.{inverse-cons}
+
+-- two numbers that differ
+other : (a b : ℕ) → a < b → (a == b) ≡ false
+other a b lt = grind (arith, nat_tests)
 
 -- 1 for the generator g, and 1 for its inverse
 plain : ℕ → Letter → ℕ
@@ -67,6 +71,26 @@ exponent_sum-letter g x = by (x.g == g) x.inv
     by true false = refl
     by false true = refl
     by false false = refl
+
+-- the exponent sum of a word that begins with a letter
+pub exponent_sum-cons : (g : ℕ) (x : Letter) (w : List Letter) → exponent_sum g (x ∷ w) ≡ exponent_at g x +ℤ exponent_sum g w
+exponent_sum-cons g x w =
+    exponent_sum-append g (x ∷ []) w ∙ ap (λ z. z +ℤ exponent_sum g w) (exponent_sum-letter g x)
+
+-- a generator that the word is not over
+pub exponent_sum-outside : (n g : ℕ) (w : List Letter) → IsOver n w → n ≤ g → exponent_sum g w ≡ pos 0
+unfolding exponent_sum
+exponent_sum-outside n g [] over le = refl
+exponent_sum-outside n g (x ∷ w) over le =
+    let away : (x.g == g) ≡ false = other x.g g (omega (arith, over.0)) in
+    exponent_sum-cons g x w
+    ∙ ap (λ (b : Bool). (if b then (if x.inv then negsuc 0 else pos 1) else pos 0) +ℤ exponent_sum g w) away
+    ∙ ap (λ z. pos 0 +ℤ z) (exponent_sum-outside n g w over.1 le)
+
+-- the exponent sum of a commutator
+pub exponent_sum-commutator : (g : ℕ) (u v : List Letter) → exponent_sum g (commutator u v) ≡ pos 0
+exponent_sum-commutator g u v =
+    omega (arith, ints, exponent_sum-append g (u ++ v ++ inverse u) (inverse v), exponent_sum-append g (u ++ v) (inverse u), exponent_sum-append g u v, exponent_sum-inverse g u, exponent_sum-inverse g v)
 
 -- one more letter
 pub exponent_sum-more : (g : ℕ) (w : List Letter) (i : ℕ) (d : Letter) → i < length w
@@ -143,4 +167,4 @@ next_sums sums e w i d here short known len so_far sign g below =
     ∙ sym (exponent_sum-more g w i d here)
 
 -- what the laws of exponent sums stand on
-pub ruleset sums_of = (exponent_sum-append, exponent_sum-inverse, exponent_sum-Cancels)
+pub ruleset sums_of = (exponent_sum-append, exponent_sum-inverse, exponent_sum-commutator, exponent_sum-Cancels)

@@ -11,6 +11,12 @@ pub fn reduced_form_is_unique()
     ensures { (w u v : List Letter) → Cancels w u → Cancels w v → IsReduced u → IsReduced v → u ≡ v }
 {}
 
+/// Each word has a freely reduced form.
+#[tactic(auto, using(crate::proofs::ReductionLemmas::reduced_form))]
+pub fn reduced_form_exists()
+    ensures { (w : List Letter) → (v : List Letter) × Cancels w v × IsReduced v }
+{}
+
 /// A word followed by its inverse cancels to the empty word.
 #[tactic(auto, using(crate::proofs::ReductionLemmas::reductions))]
 pub fn inverse_cancels()
@@ -99,6 +105,12 @@ pub fn exponent_sum_of_product()
 #[tactic(auto, using(crate::proofs::SumLemmas::sums_of))]
 pub fn exponent_sum_of_inverse()
     ensures { (g : ℕ) (w : List Letter) → exponent_sum g (inverse w) ≡ neg_ℤ (exponent_sum g w) }
+{}
+
+/// The exponent sums of a commutator are 0.
+#[tactic(auto, using(crate::proofs::SumLemmas::sums_of))]
+pub fn exponent_sum_of_commutator()
+    ensures { (g : ℕ) (u v : List Letter) → exponent_sum g (commutator u v) ≡ pos 0 }
 {}
 
 /// Leaving out pairs changes no exponent sum.

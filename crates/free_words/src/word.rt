@@ -1,6 +1,6 @@
 //! Words of the free group, kept unreduced.
 
-ghost use Rattle.std.specs.Prelude.{◌≡◌, ◌+◌, ◌<◌, ◌≤◌, ◌^◌, [], ◌∷◌, ◌++◌, length, slice_get, slice_index_or, ℕ, pos, OnOk, OnErr, IfOk, Some, IsErrOf, IsTrue, ◌↔◌};
+ghost use Rattle.std.specs.Prelude.{◌≡◌, ◌+◌, ◌<◌, ◌≤◌, ◌^◌, [], ◌∷◌, ◌++◌, length, slice_get, slice_index_or, ℕ, pos, OnOk, OnErr, IfOk, IfErr, Some, IsErrOf, IsTrue, ◌↔◌};
 
 use crate::fault::WordFault;
 use crate::images::{image_len, image_of};
@@ -86,11 +86,7 @@ impl Word {
         ensures within { OnOk result (length self.old + 1 ≤ limit) }
         ensures too_long { (n : _) → IsErrOf result (WordFault.TooLong n) → (limit < length self.old + 1) × (n ≡ length self.old + 1) }
     {
-        if self.letters.len() as u32 >= limit {
-            return Err(WordFault::TooLong {
-                letters: self.letters.len() as u64 + 1,
-            });
-        }
+        within(self.letters.len() as u64 + 1, limit)?;
         self.letters.push(l)?;
         Ok(())
     }
@@ -100,10 +96,7 @@ impl Word {
         ensures { MadeWithin limit (self.now ++ other.now) result }
     {
         let total = self.letters.len() as u64 + other.letters.len() as u64;
-        if total > limit as u64 {
-            return Err(WordFault::TooLong { letters: total });
-        }
-        let mut letters = Vec::with_capacity(alloc, total as usize)?;
+        let mut letters = Vec::with_capacity(alloc, within(total, limit)?)?;
         letters.extend_from_slice(&self.letters)?;
         letters.extend_from_slice(&other.letters)?;
         Ok(Word { letters })
@@ -150,9 +143,7 @@ impl Word {
         ensures { MadeWithin limit (copies times self.now) result }
     {
         let total = times as u64 * self.letters.len() as u64;
-        if total > limit as u64 {
-            return Err(WordFault::TooLong { letters: total });
-        }
+        within(total, limit)?;
         let letters = repeated(alloc, &self.letters, times)?;
         Ok(Word { letters })
     }
@@ -163,9 +154,7 @@ impl Word {
         ensures { MadeWithin limit (commutator self.now other.now) result }
     {
         let total = (self.letters.len() as u64 + other.letters.len() as u64) * 2;
-        if total > limit as u64 {
-            return Err(WordFault::TooLong { letters: total });
-        }
+        within(total, limit)?;
         let letters = commutator_of(alloc, &self.letters, &other.letters)?;
         Ok(Word { letters })
     }
@@ -203,11 +192,19 @@ impl Word {
         requires { IsOver (length images.now) self.now }
         ensures { MadeWithin limit (word_image images.now self.now) result }
     {
-        let total = self.substituted_len(images);
-        if total > limit as u64 {
-            return Err(WordFault::TooLong { letters: total });
-        }
-        let letters = image_of(alloc, &self.letters, images, total as usize)?;
+        let room = within(self.substituted_len(images), limit)?;
+        let letters = image_of(alloc, &self.letters, images, room)?;
         Ok(Word { letters })
     }
+}
+
+// This number of letters, where it is within the limit.
+fn within(letters: u64, limit: u32) -> Result<usize, WordFault>
+    ensures ok { IfOk result (λ n. (n ≡ letters) × (letters ≤ limit)) }
+    ensures err { IfErr result (λ e. (e ≡ WordFault.TooLong letters) × (limit < letters)) }
+{
+    if letters > limit as u64 {
+        return Err(WordFault::TooLong { letters });
+    }
+    Ok(letters as usize)
 }
