@@ -2,5 +2,8 @@
 #![tactic(auto)]
 
 mod presentation;
+mod runs;
+mod writing;
 
 pub use presentation::Presentation;
+pub use writing::{write_presentation, write_word};

@@ -1,0 +1,2 @@
+pub mod WritingRuns
+pub mod WritingSteps
