@@ -1,6 +1,7 @@
 -- The one form in which words and presentations are written.
-use Rattle.std.specs.Prelude.{ℕ, suc, Bool, true, false, not, ◌&&◌, ◌==◌, List, [], ◌∷◌, ◌++◌, map, slice_get, unwrap_or, if◌then◌else◌, codes, decimal}
+use Rattle.std.specs.Prelude.{ℕ, suc, Bool, true, false, not, ◌&&◌, ◌||◌, ◌==◌, List, [], ◌∷◌, ◌++◌, map, slice_get, unwrap_or, if◌then◌else◌, codes, decimal}
 use Rattle.free_words.specs.declared.letter.Letter.{Letter}
+use Rattle.word_text.specs.Scan.{is_blank, is_name_byte}
 use Rattle.presentation.specs.declared.runs.Run.{Run}
 use Rattle.presentation.specs.Presented.{Presented}
 
@@ -57,3 +58,12 @@ written_modulus m = if m == 0 then [] else codes " modulus " ++ decimal m
 abbrev pub written_presentation : Presented → List ℕ
 written_presentation p = codes "<" ++ joined (codes ", ") p.names ++ codes " | "
     ++ joined (codes ", ") (map (written_word p.names) p.relators) ++ codes ">" ++ written_modulus p.modulus
+
+-- a byte at which a factor begins or goes on: of a name or a number, `^`, `*`, `(` or `[`
+abbrev pub is_of_word : ℕ → Bool
+is_of_word b = is_name_byte b || (b == 94) || (b == 42) || (b == 40) || (b == 91)
+
+-- what may follow a written word in a longer text: blanks, and then nothing or a byte at which no factor begins or goes on
+abbrev pub ends_word : List ℕ → Bool
+ends_word [] = true
+ends_word (b ∷ bs) = if is_blank b then ends_word bs else not (is_of_word b)

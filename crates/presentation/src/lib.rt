@@ -2,6 +2,7 @@
 #![tactic(auto)]
 
 mod presentation;
+pub mod reading_back;
 mod runs;
 mod writing;
 

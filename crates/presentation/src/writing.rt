@@ -1,23 +1,28 @@
 //! The one form in which words and presentations are written.
 
-ghost use Rattle.std.specs.Prelude.{◌≡◌, ◌<◌, ◌++◌, length, map, string_bytes, decimal, codes, IfOk, OnOk};
+ghost use Rattle.std.specs.Prelude.{◌≡◌, ◌<◌, ◌≤◌, ◌++◌, length, map, string_bytes, decimal, codes, Ok, IfOk, OnOk};
 ghost use Rattle.std.specs.List.{AllByRecursion};
 ghost use Rattle.free_words.specs.Words.{IsOver};
+ghost use Rattle.word_text.specs.Machine.{finding};
+ghost use Rattle.word_text.specs.Place.{word_text};
 ghost use Rattle.presentation.specs.Presented.{IsWritten};
 ghost use Rattle.presentation.specs.Writing.{runs, joined, led_by, written_exponent, written_run, written_word, written_modulus, written_presentation};
 
 use crate::presentation::Presentation;
 use crate::runs::{Run, first_run};
-use free_words::{Letter, Word};
+use free_words::{Letter, WRITTEN, Word};
 use itoa::Buffer;
 use std::alloc::{AllocError, Global};
 
 /// The word as its runs of equal letters with spaces between them: `a` for one letter, `a^2` for two, `a^-1` and `a^-3`
 /// for inverse ones. The empty word is `1`.
+#[tactic(auto, using(crate::proofs::WritingBack::word_read_back))]
 pub fn write_word(alloc: Global, p: &Presentation, w: &Word) -> Result<Vec<u8>, AllocError>
     requires { IsOver (length p.now.names) w.now }
-    ensures { IfOk result (λ v. v.items ≡ written_word p.now.names w.now) }
+    ensures text { IfOk result (λ v. v.items ≡ written_word p.now.names w.now) }
+    ensures read_back { length w.now ≤ WRITTEN → IfOk result (λ v. word_text (finding p.now.names) v.items ≡ Ok w.now) }
 {
+    p.known();
     let mut out = Vec::new(alloc);
     append_word(&mut out, p, w.letters())?;
     Ok(out)

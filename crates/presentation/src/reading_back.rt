@@ -1,0 +1,31 @@
+//! Laws: what is written is read back.
+
+ghost use Rattle.std.specs.Prelude.{◌≡◌, ℕ, ◌++◌, List, length, Ok, IsTrue};
+ghost use Rattle.free_words.specs.declared.letter.Letter.{Letter};
+ghost use Rattle.word_text.specs.Grammar.{IsWord};
+ghost use Rattle.word_text.specs.Machine.{finding, word_at};
+ghost use Rattle.word_text.specs.Place.{word_text};
+ghost use Rattle.word_text.specs.Scan.{after_blanks};
+ghost use Rattle.presentation.specs.Presented.{Presented, IsPresented, IsWritten};
+ghost use Rattle.presentation.specs.Writing.{written_word, ends_word};
+
+/// A written word is in the grammar of words, with the word as its value.
+#[tactic(auto, using(crate::proofs::WritingBack::word_spelled_back))]
+pub fn written_word_is_spelled()
+    ensures { (p : Presented) (w : List Letter) → IsPresented p → IsWritten (length p.names) w
+        → IsWord (finding p.names) (written_word p.names w) w }
+{}
+
+/// A written word is read back.
+#[tactic(auto, using(crate::proofs::WritingBack::word_read_back))]
+pub fn written_word_is_read()
+    ensures { (p : Presented) (w : List Letter) → IsPresented p → IsWritten (length p.names) w
+        → word_text (finding p.names) (written_word p.names w) ≡ Ok w }
+{}
+
+/// A written word is read back at the head of a longer text, where no factor begins or goes on behind it.
+#[tactic(auto, using(crate::proofs::WritingBack::word_read_before))]
+pub fn written_word_is_read_before()
+    ensures { (p : Presented) (w : List Letter) (rest : List ℕ) → IsPresented p → IsWritten (length p.names) w → IsTrue (ends_word rest)
+        → word_at (finding p.names) (written_word p.names w ++ rest) ≡ Ok (w, after_blanks rest) }
+{}
