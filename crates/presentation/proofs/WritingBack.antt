@@ -11,14 +11,14 @@ use Rattle.word_text.specs.Powers.{written, powers_at}
 use Rattle.word_text.specs.Machine.{Find, finding, goes_on, factor_ends, turn, word_from, word_at}
 use Rattle.word_text.specs.Place.{word_text}
 use Rattle.word_text.specs.Grammar.{IsWord}
-use Rattle.word_text.proofs.Soundness.{no_blanks}
+use Rattle.word_text.proofs.Soundness.{no_blanks, blanks_once}
 use Rattle.word_text.proofs.Reached.{text_spelled}
 use Rattle.presentation.specs.declared.runs.Run.{Run}
 use Rattle.presentation.specs.Presented.{Presented, IsPresented, IsWritten, IsName, AreDistinct}
 use Rattle.presentation.specs.Writing.{is_same, behind, runs, name_of, written_exponent, written_run, written_word, led_by, joined, ends_word}
 use Rattle.presentation.proofs.WritingRuns.{AreOver, over_runs, runs_first, same_letter}
 use Rattle.presentation.proofs.WritingNames.{name_holds, name_found}
-use Rattle.presentation.proofs.WritingEnds.{kept, skipped, Apart, Ends, ends_from}
+use Rattle.presentation.proofs.WritingEnds.{skips_le, kept, skipped, Apart, Ends, ends_from}
 use Rattle.presentation.proofs.WritingPowers.{no_power}
 use Rattle.presentation.proofs.WritingTurns.{letters_of, expanded, at, run_text, name_plain, run_step, run_longer, word_ends}
 
@@ -75,15 +75,26 @@ chain names known r (q ∷ rs) outer spot rest (suc fuel) over le ends lt =
     (run_step (finding names) (name_of names r.letter.g) r outer spot (32 ∷ next) fuel h f short (apart_space names q (more names rs rest) k)
     ∙ rw (after_space names q (more names rs rest) k, ← assoc) (chain names known q rs (outer ++ letters_of r) After rest fuel over.1 all ends room))
 
--- runs are read at the head of a text
-runs_read : (names : List (List ℕ)) (known : AreNames names) (rs : List Run) (rest : List ℕ) → 0 < length rs → AreOver (length names) rs
-    → length (expanded rs) ≤ written → Ends rest
-    → word_at (finding names) (joined (codes " ") (map (written_run names) rs) ++ rest) ≡ Ok (expanded rs, after_blanks rest)
+-- blanks at the head are skipped
+skips : (find : Find) (fuel : ℕ) (text bs : List ℕ) → after_blanks text ≡ bs → 0 < fuel → word_from fuel find (at [] Start) text ≡ word_from fuel find (at [] Start) bs
+unfolding word_from turn
+skips find zero text bs e lt = absurd (omega arith)
+skips find (suc fuel) text bs e lt = rw (← e, blanks_once text) refl
+
+fits : (text bs : List ℕ) → after_blanks text ≡ bs → length bs < suc (length text)
+fits text bs e = omega (arith, skips_le text, ap length e)
+
+-- runs are read at the head of a text, behind blanks
+runs_read : (names : List (List ℕ)) (known : AreNames names) (rs : List Run) (text rest : List ℕ) → 0 < length rs → AreOver (length names) rs
+    → length (expanded rs) ≤ written → Ends rest → after_blanks text ≡ joined (codes " ") (map (written_run names) rs) ++ rest
+    → word_at (finding names) text ≡ Ok (expanded rs, after_blanks rest)
 unfolding word_at
-runs_read names known [] rest some over le ends = absurd (omega arith)
-runs_read names known (r ∷ rs) rest some over le ends =
-    let same : joined (codes " ") (map (written_run names) (r ∷ rs)) ++ rest ≡ text_of names r (more names rs rest) = simp append_assoc in
-    rw same (chain names known r rs [] Start rest (suc (length (text_of names r (more names rs rest)))) over le ends (omega arith))
+runs_read names known [] text rest some over le ends e = absurd (omega arith)
+runs_read names known (r ∷ rs) text rest some over le ends e =
+    let whole : List ℕ = text_of names r (more names rs rest) in
+    let e' : after_blanks text ≡ whole = e ∙ simp append_assoc in
+    skips (finding names) (suc (length text)) text whole e' (omega arith)
+    ∙ chain names known r rs [] Start rest (suc (length text)) over le ends (fits text whole e')
 
 copies_front : (n : ℕ) (l : Letter) → copies n (l ∷ []) ++ l ∷ [] ≡ l ∷ copies n (l ∷ [])
 copies_front zero l = refl
@@ -117,18 +128,35 @@ unfolding turn factor_ends powers_at
 one_turn find rest ends =
     rw (kept 49 rest one.0, one.1, no_power (suc (length (after_blanks rest))) (length (49 ∷ rest)) [] (after_blanks rest) (omega arith) ends.apart.power) refl
 
-one_read : (find : Find) (rest : List ℕ) → Ends rest → word_at find (49 ∷ rest) ≡ Ok ([], after_blanks rest)
+one_read : (find : Find) (text rest : List ℕ) → Ends rest → after_blanks text ≡ 49 ∷ rest → word_at find text ≡ Ok ([], after_blanks rest)
 unfolding word_at word_from
-one_read find rest ends = rw (one_turn find rest ends) (word_ends find (length (49 ∷ rest)) [] rest (omega arith) ends)
+one_read find text rest ends e =
+    skips find (suc (length text)) text (49 ∷ rest) e (omega arith)
+    ∙ rw (one_turn find rest ends) (word_ends find (length text) [] rest (omega (arith, fits text (49 ∷ rest) e)) ends)
 
--- a written word at the head of a text is read
-pub word_read : (names : List (List ℕ)) → AreNames names → (w : List Letter) (rest : List ℕ) → IsOver (length names) w → length w ≤ written
-    → Ends rest → word_at (finding names) (written_word names w ++ rest) ≡ Ok (w, after_blanks rest)
-word_read names known [] rest over le ends = one_read (finding names) rest ends
-word_read names known (l ∷ ls) rest over le ends =
-    let e = expanded_runs (l ∷ ls) in
-    let le' : length (expanded (runs (l ∷ ls))) ≤ written = rw e le in
-    rw (← e) (runs_read names known (runs (l ∷ ls)) rest (some_run l ls) (over_runs (length names) (l ∷ ls) over) le' ends)
+-- a written word is read at the head of a text, behind blanks
+pub word_read : (names : List (List ℕ)) → AreNames names → (w : List Letter) (text rest : List ℕ) → IsOver (length names) w → length w ≤ written
+    → Ends rest → after_blanks text ≡ written_word names w ++ rest → word_at (finding names) text ≡ Ok (w, after_blanks rest)
+word_read names known [] text rest over le ends e = one_read (finding names) text rest ends e
+word_read names known (l ∷ ls) text rest over le ends e =
+    let same = expanded_runs (l ∷ ls) in
+    let le' : length (expanded (runs (l ∷ ls))) ≤ written = rw same le in
+    runs_read names known (runs (l ∷ ls)) text rest (some_run l ls) (over_runs (length names) (l ∷ ls) over) le' ends e
+    ∙ ap (λ (w : List Letter). Ok (w, after_blanks rest)) same
+
+runs_plain : (names : List (List ℕ)) (known : AreNames names) (rs : List Run) (rest : List ℕ) → 0 < length rs → AreOver (length names) rs
+    → after_blanks (joined (codes " ") (map (written_run names) rs) ++ rest) ≡ joined (codes " ") (map (written_run names) rs) ++ rest
+runs_plain names known [] rest some over = absurd (omega arith)
+runs_plain names known (r ∷ rs) rest some over =
+    let more_text : List ℕ = written_exponent r.letter.inv r.count ++ more names rs rest in
+    let same : joined (codes " ") (map (written_run names) (r ∷ rs)) ++ rest ≡ name_of names r.letter.g ++ more_text = simp append_assoc in
+    rw same ((name_plain (name_of names r.letter.g) more_text (name_holds IsName names r.letter.g known.each over.0)).0)
+
+-- no blank stands at the head of a written word
+pub word_plain : (names : List (List ℕ)) → AreNames names → (w : List Letter) (rest : List ℕ) → IsOver (length names) w
+    → after_blanks (written_word names w ++ rest) ≡ written_word names w ++ rest
+word_plain names known [] rest over = kept 49 rest one.0
+word_plain names known (l ∷ ls) rest over = runs_plain names known (runs (l ∷ ls)) rest (some_run l ls) (over_runs (length names) (l ∷ ls) over)
 
 no_rest : Ends []
 no_rest = ends_from [] refl
@@ -138,7 +166,9 @@ pub whole_read : (names : List (List ℕ)) → AreNames names → (w : List Lett
     → word_text (finding names) (written_word names w) ≡ Ok w
 unfolding word_text
 whole_read names known w over le =
-    rw (← append-nil (written_word names w), word_read names known w [] over le no_rest, no_blanks) refl
+    let e = word_read names known w (written_word names w ++ []) [] over le no_rest (word_plain names known w [] over) in
+    let k : word_at (finding names) (written_word names w) ≡ Ok (w, after_blanks []) = rw (append-nil (written_word names w)) at e in
+    rw (k, no_blanks) refl
 
 -- the names of a presentation
 pub names_of : (p : Presented) → IsPresented p → AreNames p.names
@@ -152,6 +182,10 @@ pub word_spelled_back : (p : Presented) (w : List Letter) → IsPresented p → 
     → IsWord (finding p.names) (written_word p.names w) w
 word_spelled_back p w h k = text_spelled (finding p.names) (written_word p.names w) w (word_read_back p w h k)
 
-pub word_read_before : (p : Presented) (w : List Letter) (rest : List ℕ) → IsPresented p → IsWritten (length p.names) w → IsTrue (ends_word rest)
+pub word_read_before : (p : Presented) (w : List Letter) (text rest : List ℕ) → IsPresented p → IsWritten (length p.names) w → IsTrue (ends_word rest)
+    → after_blanks text ≡ written_word p.names w ++ rest → word_at (finding p.names) text ≡ Ok (w, after_blanks rest)
+word_read_before p w text rest h k e s = word_read p.names (names_of p h) w text rest k.0 k.1 (ends_from rest e) s
+
+pub word_read_first : (p : Presented) (w : List Letter) (rest : List ℕ) → IsPresented p → IsWritten (length p.names) w → IsTrue (ends_word rest)
     → word_at (finding p.names) (written_word p.names w ++ rest) ≡ Ok (w, after_blanks rest)
-word_read_before p w rest h k e = word_read p.names (names_of p h) w rest k.0 k.1 (ends_from rest e)
+word_read_first p w rest h k e = word_read_before p w (written_word p.names w ++ rest) rest h k e (word_plain p.names (names_of p h) w rest k.0)
