@@ -15,8 +15,8 @@ use Rattle.word_text.proofs.Soundness.{no_blanks, blanks_once}
 use Rattle.word_text.proofs.Reached.{text_spelled}
 use Rattle.presentation.specs.declared.runs.Run.{Run}
 use Rattle.presentation.specs.Presented.{Presented, IsPresented, IsWritten, IsName, AreDistinct}
-use Rattle.presentation.specs.Writing.{is_same, behind, runs, name_of, written_exponent, written_run, written_word, led_by, joined, ends_word}
-use Rattle.presentation.proofs.WritingRuns.{AreOver, over_runs, runs_first, same_letter}
+use Rattle.presentation.specs.Writing.{AreOver, is_same, behind, runs, name_of, written_exponent, written_run, written_word, led_by, joined, ends_word}
+use Rattle.presentation.proofs.WritingRuns.{over_runs, runs_first, same_letter}
 use Rattle.presentation.proofs.WritingNames.{name_holds, name_found}
 use Rattle.presentation.proofs.WritingEnds.{skips_le, kept, skipped, Apart, Ends, ends_from}
 use Rattle.presentation.proofs.WritingPowers.{no_power}

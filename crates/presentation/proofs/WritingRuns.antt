@@ -2,11 +2,10 @@
 use Rattle.std.proofs.Common.{◌≡◌, ℕ, suc, ◌<◌, ◌+◌, ◌==◌, ◌&&◌, not, Bool, true, false, if◌then◌else◌, List, [], ◌∷◌, length, drop, take_while, refl, subst, ap, ◌∙◌, arith, add-one}
 use Rattle.std.proofs.lemmas.Bool.Decides.{nat_tests}
 use Rattle.std.proofs.lemmas.List.Sums.{take_while-cons}
-use Rattle.std.specs.List.{AllByRecursion}
 use Rattle.free_words.specs.declared.letter.Letter.{Letter}
 use Rattle.free_words.specs.Words.{IsOver}
 use Rattle.presentation.specs.declared.runs.Run.{Run}
-use Rattle.presentation.specs.Writing.{is_same, once, behind, runs}
+use Rattle.presentation.specs.Writing.{is_same, once, behind, runs, AreOver}
 
 and_is : (p q : Bool) → (p && q) ≡ true → (p ≡ true) × (q ≡ true)
 and_is true true e = (refl, refl)
@@ -55,9 +54,6 @@ runs_first l (m ∷ ms) = goes_on l m ms (is_same l m) refl (runs_first m ms)
 pub run_taken : (all : List Letter) (l : Letter) (ls rest : List Letter) (n : ℕ) → all ≡ l ∷ ls → n ≡ repeats l ls → rest ≡ drop n ls
     → runs all ≡ record { letter = l; count = n + 1 } ∷ runs rest
 run_taken all l ls rest n a k r = rw (a, r, k, add-one) (runs_first l ls)
-
-abbrev pub AreOver : ℕ → List Run → Type 0
-AreOver n rs = AllByRecursion (λ (r : Run). r.letter.g < n) rs
 
 over_behind : (n : ℕ) (l : Letter) (rs : List Run) → l.g < n → AreOver n rs → AreOver n (behind l rs)
 over_behind n l [] lt h = (lt, tt)

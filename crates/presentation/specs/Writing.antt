@@ -1,5 +1,6 @@
 -- The one form in which words and presentations are written.
-use Rattle.std.specs.Prelude.{ℕ, suc, Bool, true, false, not, ◌&&◌, ◌||◌, ◌==◌, List, [], ◌∷◌, ◌++◌, map, slice_get, unwrap_or, if◌then◌else◌, codes, decimal}
+use Rattle.std.specs.Prelude.{ℕ, suc, ◌<◌, Bool, true, false, not, ◌&&◌, ◌||◌, ◌==◌, List, [], ◌∷◌, ◌++◌, map, slice_get, unwrap_or, if◌then◌else◌, codes, decimal}
+use Rattle.std.specs.List.{AllByRecursion}
 use Rattle.free_words.specs.declared.letter.Letter.{Letter}
 use Rattle.word_text.specs.Scan.{is_blank, is_name_byte}
 use Rattle.presentation.specs.declared.runs.Run.{Run}
@@ -22,6 +23,10 @@ behind l (r ∷ rs) = if is_same l r.letter then record { letter = l; count = su
 abbrev pub runs : List Letter → List Run
 runs [] = []
 runs (l ∷ ls) = behind l (runs ls)
+
+-- runs of letters of so many generators
+abbrev pub AreOver : ℕ → List Run → Type 0
+AreOver n rs = AllByRecursion (λ (r : Run). r.letter.g < n) rs
 
 -- each text with the separator before it
 abbrev pub led_by : List ℕ → List (List ℕ) → List ℕ
@@ -54,10 +59,13 @@ written_word names (l ∷ ls) = joined (codes " ") (map (written_run names) (run
 abbrev pub written_modulus : ℕ → List ℕ
 written_modulus m = if m == 0 then [] else codes " modulus " ++ decimal m
 
--- `<`, names, ` | `, relators, `>`, and the modulus where there is one
+-- `<`, names, ` | `, relators and `>`
+abbrev pub written_bare : List (List ℕ) → List (List Letter) → List ℕ
+written_bare names relators = codes "<" ++ joined (codes ", ") names ++ codes " | " ++ joined (codes ", ") (map (written_word names) relators) ++ codes ">"
+
+-- the same, and the modulus where there is one
 abbrev pub written_presentation : Presented → List ℕ
-written_presentation p = codes "<" ++ joined (codes ", ") p.names ++ codes " | "
-    ++ joined (codes ", ") (map (written_word p.names) p.relators) ++ codes ">" ++ written_modulus p.modulus
+written_presentation p = written_bare p.names p.relators ++ written_modulus p.modulus
 
 -- a byte at which a factor begins or goes on: of a name or a number, `^`, `*`, `(` or `[`
 abbrev pub is_of_word : ℕ → Bool

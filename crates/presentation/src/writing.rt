@@ -6,7 +6,7 @@ ghost use Rattle.free_words.specs.Words.{IsOver};
 ghost use Rattle.word_text.specs.Machine.{finding};
 ghost use Rattle.word_text.specs.Place.{word_text};
 ghost use Rattle.presentation.specs.Presented.{IsWritten};
-ghost use Rattle.presentation.specs.Writing.{runs, joined, led_by, written_exponent, written_run, written_word, written_modulus, written_presentation};
+ghost use Rattle.presentation.specs.Writing.{runs, AreOver, joined, led_by, written_exponent, written_run, written_word, written_modulus, written_presentation};
 
 use crate::presentation::Presentation;
 use crate::runs::{Run, first_run};
@@ -87,7 +87,7 @@ fn append_word(out: &mut Vec<u8>, p: &Presentation, letters: &[Letter]) -> Resul
 
 // The runs of these letters, each with a space before it.
 fn append_more(out: &mut Vec<u8>, p: &Presentation, letters: &[Letter]) -> Result<(), AllocError>
-    requires { AllByRecursion (λ (r : Run). r.letter.g < length p.now.names) (runs letters.now) }
+    requires { AreOver (length p.now.names) (runs letters.now) }
     ensures { OnOk result (out.new.items ≡ out.old.items ++ led_by (codes " ") (map (written_run p.now.names) (runs letters.now))) }
 {
     let mut rest = letters;

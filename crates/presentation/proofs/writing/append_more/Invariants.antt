@@ -1,6 +1,5 @@
 use Rattle.std.proofs.Common.{◌++◌, length, map, codes}
-use Rattle.presentation.specs.Writing.{runs, led_by, written_run}
-use Rattle.presentation.proofs.WritingRuns.{AreOver}
+use Rattle.presentation.specs.Writing.{AreOver, runs, led_by, written_run}
 use Rattle.presentation.proofs.WritingSteps.{Left}
 use Rattle.presentation.proofs.writing.append_more.Given as goal
 
