@@ -6,3 +6,10 @@ pub mod WritingEnds
 pub mod WritingPowers
 pub mod WritingTurns
 pub mod WritingBack
+pub mod Ends
+pub mod Digits
+pub mod Written
+pub mod Quotients
+pub mod NameLists
+pub mod NameTurns
+pub mod RelatorTurns

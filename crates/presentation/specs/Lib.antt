@@ -1,2 +1,4 @@
 pub mod Presented
 pub mod Writing
+pub mod Line
+pub mod Reading

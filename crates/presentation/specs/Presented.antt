@@ -4,6 +4,7 @@ use Rattle.std.specs.List.{AllByRecursion}
 use Rattle.free_words.specs.declared.letter.Letter.{Letter}
 use Rattle.free_words.specs.Words.{IsOver}
 use Rattle.free_words.specs.declared.TheConstants.{GENERATORS, WRITTEN}
+use Rattle.presentation.specs.declared.TheConstants.{RELATORS, MODULUS}
 use Rattle.word_text.specs.declared.scan.Mark.TheVariants as marks
 use Rattle.word_text.specs.Scan.{mark_of, name_at}
 
@@ -22,9 +23,9 @@ abbrev pub AreDistinct : List (List ℕ) → Type 0
 AreDistinct [] = Unit {0}
 AreDistinct (n ∷ ns) = (Contains ns n → ⊥) × AreDistinct ns
 
--- no modulus, or one from 2 to 1,000,000,000
+-- no modulus, or one from 2 on that is within the limit
 abbrev pub IsModulus : ℕ → Type 0
-IsModulus m = (m ≡ 0) ⊎ ((2 ≤ m) × (m ≤ 1000000000))
+IsModulus m = (m ≡ 0) ⊎ ((2 ≤ m) × (m ≤ MODULUS))
 
 -- a word over so many generators that is no longer than a written word may be
 abbrev pub IsWritten : ℕ → List Letter → Type 0
@@ -36,6 +37,6 @@ pub record IsPresented (p : Presented) : Type 0 where
   pub few_names : length p.names ≤ GENERATORS
   pub names : AllByRecursion IsName p.names
   pub distinct : AreDistinct p.names
-  pub few_relators : length p.relators ≤ 64
+  pub few_relators : length p.relators ≤ RELATORS
   pub relators : AllByRecursion (IsWritten (length p.names)) p.relators
   pub modulus : IsModulus p.modulus
