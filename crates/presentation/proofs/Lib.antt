@@ -13,3 +13,6 @@ pub mod Quotients
 pub mod NameLists
 pub mod NameTurns
 pub mod RelatorTurns
+pub mod WritingFollows
+pub mod WritingLists
+pub mod WritingWhole

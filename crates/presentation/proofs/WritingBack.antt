@@ -6,7 +6,7 @@ use Rattle.free_words.specs.Words.{IsOver, copies}
 use Rattle.word_text.specs.declared.scan.Mark.TheVariants as marks
 use Rattle.word_text.specs.declared.machine.Spot.{Spot}
 use Rattle.word_text.specs.declared.machine.Spot.TheVariants.{Start, After}
-use Rattle.word_text.specs.Scan.{is_blank, is_letter, is_digit, is_name_byte, is_known, after_blanks, mark_byte}
+use Rattle.word_text.specs.Scan.{first_is, is_blank, is_letter, is_digit, is_name_byte, is_known, after_blanks, mark_byte}
 use Rattle.word_text.specs.Powers.{written, powers_at}
 use Rattle.word_text.specs.Machine.{Find, finding, goes_on, factor_ends, turn, word_from, word_at}
 use Rattle.word_text.specs.Place.{word_text}
@@ -18,9 +18,9 @@ use Rattle.presentation.specs.Presented.{Presented, IsPresented, IsWritten, IsNa
 use Rattle.presentation.specs.Writing.{AreOver, is_same, behind, runs, name_of, written_exponent, written_run, written_word, led_by, joined, ends_word}
 use Rattle.presentation.proofs.WritingRuns.{over_runs, runs_first, same_letter}
 use Rattle.presentation.proofs.WritingNames.{name_holds, name_found}
-use Rattle.presentation.proofs.WritingEnds.{skips_le, kept, skipped, Apart, Ends, ends_from}
+use Rattle.presentation.proofs.WritingEnds.{hat_no_name, one_named, name_byte_other, skips_le, kept, skipped, Apart, Ends, ends_from}
 use Rattle.presentation.proofs.WritingPowers.{no_power}
-use Rattle.presentation.proofs.WritingTurns.{letters_of, expanded, at, run_text, name_plain, run_step, run_longer, word_ends}
+use Rattle.presentation.proofs.WritingTurns.{letters_of, expanded, at, run_text, name_plain, name_first, run_step, run_longer, word_ends}
 
 -- names as a presentation has them
 pub record AreNames (names : List (List ℕ)) : Type 0 where
@@ -40,12 +40,12 @@ space = (refl, refl)
 -- a run behind a space
 after_space : (names : List (List ℕ)) (r : Run) (rest : List ℕ) → IsName (name_of names r.letter.g) → after_blanks (32 ∷ text_of names r rest) ≡ text_of names r rest
 after_space names r rest h =
-    skipped 32 (text_of names r rest) space.0 ∙ (name_plain (name_of names r.letter.g) (written_exponent r.letter.inv r.count ++ rest) h).0
+    skipped 32 (text_of names r rest) space.0 ∙ name_plain (name_of names r.letter.g) (written_exponent r.letter.inv r.count ++ rest) h
 
 apart_space : (names : List (List ℕ)) (r : Run) (rest : List ℕ) → IsName (name_of names r.letter.g) → Apart (32 ∷ text_of names r rest)
 apart_space names r rest h = record {
   name = space.1;
-  power = rw (after_space names r rest h) (name_plain (name_of names r.letter.g) (written_exponent r.letter.inv r.count ++ rest) h).1;
+  power = rw (after_space names r rest h) (name_first 94 hat_no_name (name_of names r.letter.g) (written_exponent r.letter.inv r.count ++ rest) h);
 }
 
 more_is : (names : List (List ℕ)) (r : Run) (rs : List Run) (rest : List ℕ) → more names (r ∷ rs) rest ≡ 32 ∷ text_of names r (more names rs rest)
@@ -150,13 +150,28 @@ runs_plain names known [] rest some over = absurd (omega arith)
 runs_plain names known (r ∷ rs) rest some over =
     let more_text : List ℕ = written_exponent r.letter.inv r.count ++ more names rs rest in
     let same : joined (codes " ") (map (written_run names) (r ∷ rs)) ++ rest ≡ name_of names r.letter.g ++ more_text = simp append_assoc in
-    rw same ((name_plain (name_of names r.letter.g) more_text (name_holds IsName names r.letter.g known.each over.0)).0)
+    rw same (name_plain (name_of names r.letter.g) more_text (name_holds IsName names r.letter.g known.each over.0))
 
 -- no blank stands at the head of a written word
 pub word_plain : (names : List (List ℕ)) → AreNames names → (w : List Letter) (rest : List ℕ) → IsOver (length names) w
     → after_blanks (written_word names w ++ rest) ≡ written_word names w ++ rest
 word_plain names known [] rest over = kept 49 rest one.0
 word_plain names known (l ∷ ls) rest over = runs_plain names known (runs (l ∷ ls)) rest (some_run l ls) (over_runs (length names) (l ∷ ls) over)
+
+runs_first_byte : (c : ℕ) → is_name_byte c ≡ false → (names : List (List ℕ)) (known : AreNames names) (rs : List Run) (rest : List ℕ) → 0 < length rs
+    → AreOver (length names) rs → first_is c (joined (codes " ") (map (written_run names) rs) ++ rest) ≡ false
+runs_first_byte c o names known [] rest some over = absurd (omega arith)
+runs_first_byte c o names known (r ∷ rs) rest some over =
+    let more_text : List ℕ = written_exponent r.letter.inv r.count ++ more names rs rest in
+    let same : joined (codes " ") (map (written_run names) (r ∷ rs)) ++ rest ≡ name_of names r.letter.g ++ more_text = simp append_assoc in
+    rw same (name_first c o (name_of names r.letter.g) more_text (name_holds IsName names r.letter.g known.each over.0))
+
+-- a written word begins with a byte of a name
+pub word_first : (c : ℕ) → is_name_byte c ≡ false → (names : List (List ℕ)) → AreNames names → (w : List Letter) (rest : List ℕ) → IsOver (length names) w
+    → first_is c (written_word names w ++ rest) ≡ false
+word_first c o names known [] rest over = name_byte_other 49 c one_named o
+word_first c o names known (l ∷ ls) rest over =
+    runs_first_byte c o names known (runs (l ∷ ls)) rest (some_run l ls) (over_runs (length names) (l ∷ ls) over)
 
 no_rest : Ends []
 no_rest = ends_from [] refl

@@ -58,20 +58,23 @@ unblank_by : (b : ℕ) (t : Bool) → is_blank b ≡ t → is_name_byte b ≡ tr
 unblank_by b true e n = absurd (true_false (sym n ∙ blank_no_name b (blank_cases b e)))
 unblank_by b false e n = e
 
-hat_is : (b : ℕ) → (b == 94) ≡ true → b ≡ 94
-hat_is b e = grind (arith, nat_tests)
-
 pub hat_no_name : is_name_byte 94 ≡ false
 unfolding is_name_byte is_letter is_digit
 hat_no_name = refl
 
-unhat_by : (b : ℕ) (t : Bool) → (b == 94) ≡ t → is_name_byte b ≡ true → (b == 94) ≡ false
-unhat_by b true e n = let k : is_name_byte 94 ≡ true = rw (hat_is b e) at n in absurd (true_false (sym k ∙ hat_no_name))
-unhat_by b false e n = e
+same_byte : (b c : ℕ) → (b == c) ≡ true → b ≡ c
+same_byte b c e = grind (arith, nat_tests)
 
--- a byte of a name is no blank and no `^`
-pub name_byte_plain : (b : ℕ) → is_name_byte b ≡ true → (is_blank b ≡ false) × ((b == 94) ≡ false)
-name_byte_plain b n = (unblank_by b (is_blank b) refl n, unhat_by b (b == 94) refl n)
+other_by : (b c : ℕ) (t : Bool) → (b == c) ≡ t → is_name_byte b ≡ true → is_name_byte c ≡ false → (b == c) ≡ false
+other_by b c true e n o = let k : is_name_byte c ≡ true = rw (same_byte b c e) at n in absurd (true_false (sym k ∙ o))
+other_by b c false e n o = e
+
+-- a byte of a name is no blank, and no byte that stands in no name
+pub name_byte_unblank : (b : ℕ) → is_name_byte b ≡ true → is_blank b ≡ false
+name_byte_unblank b n = unblank_by b (is_blank b) refl n
+
+pub name_byte_other : (b c : ℕ) → is_name_byte b ≡ true → is_name_byte c ≡ false → (b == c) ≡ false
+name_byte_other b c n o = other_by b c (b == c) refl n o
 
 or_false : (p q : Bool) → (p || q) ≡ false → (p ≡ false) × (q ≡ false)
 or_false true q e = cc
@@ -86,15 +89,12 @@ no_letter : (b : ℕ) → is_name_byte b ≡ false → is_letter b ≡ false
 unfolding is_name_byte
 no_letter b e = (or_false (is_letter b) (is_digit b) (or_false (is_letter b || is_digit b) (b == 95) e).0).0
 
-one_is : (b : ℕ) → (b == 49) ≡ true → b ≡ 49
-one_is b e = grind (arith, nat_tests)
-
-named_one : is_name_byte 49 ≡ true
+pub one_named : is_name_byte 49 ≡ true
 unfolding is_name_byte is_letter is_digit
-named_one = refl
+one_named = refl
 
 no_one_by : (b : ℕ) (t : Bool) → (b == 49) ≡ t → is_name_byte b ≡ false → (b == 49) ≡ false
-no_one_by b true e n = let k : is_name_byte 49 ≡ false = rw (one_is b e) at n in absurd (true_false (sym named_one ∙ k))
+no_one_by b true e n = let k : is_name_byte 49 ≡ false = rw (same_byte b 49 e) at n in absurd (true_false (sym one_named ∙ k))
 no_one_by b false e n = e
 
 begins_by : (t : Bool) → BeginsNone (if t then marks.Other else marks.Bad)

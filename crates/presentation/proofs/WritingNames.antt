@@ -51,7 +51,7 @@ other_by : (n m : List ℕ) (t : Bool) → bytes_eq n m ≡ t → (n ≡ m → �
 other_by n m true e ne = absurd (ne ((bytes_eq-Decides n m).0 e))
 other_by n m false e ne = e
 
-other : (n m : List ℕ) → (n ≡ m → ⊥) → bytes_eq n m ≡ false
+pub other : (n m : List ℕ) → (n ≡ m → ⊥) → bytes_eq n m ≡ false
 other n m ne = other_by n m (bytes_eq n m) refl ne
 
 -- the name of a generator stands at its number and not before

@@ -17,11 +17,11 @@ unfolding is_digit is_blank
 digit_plain d e = (grind (arith, nat_tests), grind (arith, nat_tests))
 
 -- digits stand behind no blank and no sign
-digits_plain : (ds rest : List ℕ) → 0 < length ds → Passes is_digit ds → (after_blanks (ds ++ rest) ≡ ds ++ rest) × (first_is 45 (ds ++ rest) ≡ false)
+pub digits_plain : (ds rest : List ℕ) → 0 < length ds → Passes is_digit ds → (after_blanks (ds ++ rest) ≡ ds ++ rest) × (first_is 45 (ds ++ rest) ≡ false)
 digits_plain [] rest some h = absurd (omega arith)
 digits_plain (d ∷ ds) rest some h = let p = digit_plain d h.0 in (kept d (ds ++ rest) p.0, p.1)
 
-not_zero : (n : ℕ) → 0 < n → (n == 0) ≡ false
+pub not_zero : (n : ℕ) → 0 < n → (n == 0) ≡ false
 not_zero n lt = grind (arith, nat_tests)
 
 -- the digits of a number are read as the number

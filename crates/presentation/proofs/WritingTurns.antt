@@ -17,7 +17,7 @@ use Rattle.presentation.specs.Presented.{IsName}
 use Rattle.presentation.specs.Writing.{written_exponent}
 use Rattle.presentation.proofs.WritingBytes.{Stops}
 use Rattle.presentation.proofs.WritingNames.{name_marked, name_passes, name_taken, name_left}
-use Rattle.presentation.proofs.WritingEnds.{kept, hat_no_name, name_byte_plain, Apart, Ends, BeginsNone}
+use Rattle.presentation.proofs.WritingEnds.{kept, hat_no_name, name_byte_unblank, name_byte_other, Apart, Ends, BeginsNone}
 use Rattle.presentation.proofs.WritingPowers.{run_read}
 
 -- the letters of a run, and of runs
@@ -32,10 +32,15 @@ expanded (r ∷ rs) = letters_of r ++ expanded rs
 abbrev pub at : List Letter → Spot → Reading
 at product spot = record { frames = []; product = product; spot = spot }
 
--- a name stands behind no blank, and no power begins with it
-pub name_plain : (n rest : List ℕ) → IsName n → (after_blanks (n ++ rest) ≡ n ++ rest) × (first_is 94 (n ++ rest) ≡ false)
+-- no blank stands before a name
+pub name_plain : (n rest : List ℕ) → IsName n → after_blanks (n ++ rest) ≡ n ++ rest
 name_plain [] rest h = cc h.0
-name_plain (b ∷ bs) rest h = let u = name_byte_plain b (name_passes (b ∷ bs) h).0 in (kept b (bs ++ rest) u.0, u.1)
+name_plain (b ∷ bs) rest h = kept b (bs ++ rest) (name_byte_unblank b (name_passes (b ∷ bs) h).0)
+
+-- a name begins with no other byte
+pub name_first : (c : ℕ) → is_name_byte c ≡ false → (n rest : List ℕ) → IsName n → first_is c (n ++ rest) ≡ false
+name_first c o [] rest h = cc h.0
+name_first c o (b ∷ bs) rest h = name_byte_other b c (name_passes (b ∷ bs) h).0 o
 
 one_apart : (t : Bool) (ds rest : List ℕ) → Stops is_name_byte rest → Stops is_name_byte ((if t then [] else 94 ∷ ds) ++ rest)
 one_apart true ds rest s = s
@@ -61,7 +66,7 @@ run_turn find name r outer spot rest h found le apart =
     let more : List ℕ = written_exponent r.letter.inv r.count ++ rest in
     let s : Stops is_name_byte more = exponent_apart r.letter.inv r.count rest apart.name in
     rw (
-      (name_plain name more h).0,
+      name_plain name more h,
       name_marked name more h,
       name_taken name more h s,
       found,

@@ -7,7 +7,8 @@ ghost use Rattle.word_text.specs.Machine.{finding, word_at};
 ghost use Rattle.word_text.specs.Place.{word_text};
 ghost use Rattle.word_text.specs.Scan.{after_blanks};
 ghost use Rattle.presentation.specs.Presented.{Presented, IsPresented, IsWritten};
-ghost use Rattle.presentation.specs.Writing.{written_word, ends_word};
+ghost use Rattle.presentation.specs.Writing.{written_word, written_presentation, ends_word};
+ghost use Rattle.presentation.specs.Reading.{presentation_at, presentation_text};
 
 /// A written word is in the grammar of words, with the word as its value.
 #[tactic(auto, using(crate::proofs::WritingBack::word_spelled_back))]
@@ -35,4 +36,21 @@ pub fn written_word_is_read_first()
 pub fn written_word_is_read_behind_blanks()
     ensures { (p : Presented) (w : List Letter) (text rest : List ℕ) → IsPresented p → IsWritten (length p.names) w → IsTrue (ends_word rest)
         → after_blanks text ≡ written_word p.names w ++ rest → word_at (finding p.names) text ≡ Ok (w, after_blanks rest) }
+{}
+
+/// A written presentation is read back.
+#[tactic(auto, using(crate::proofs::WritingWhole::presentation_read))]
+pub fn written_presentation_is_read()
+    ensures { (p : Presented) → IsPresented p → presentation_text (written_presentation p) ≡ Ok p }
+{}
+
+/// A written presentation without a modulus is read back at the head of a longer text.
+pub fn written_presentation_is_read_first()
+    ensures { (p : Presented) (rest : List ℕ) → IsPresented p → p.modulus ≡ 0 → presentation_at (written_presentation p ++ rest) ≡ Ok (p, rest) }
+{}
+
+/// The same behind blanks.
+pub fn written_presentation_is_read_behind_blanks()
+    ensures { (p : Presented) (text rest : List ℕ) → IsPresented p → p.modulus ≡ 0 → after_blanks text ≡ written_presentation p ++ rest
+        → presentation_at text ≡ Ok (p, rest) }
 {}

@@ -6,6 +6,7 @@ ghost use Rattle.free_words.specs.Words.{IsOver};
 ghost use Rattle.word_text.specs.Machine.{finding};
 ghost use Rattle.word_text.specs.Place.{word_text};
 ghost use Rattle.presentation.specs.Presented.{IsWritten};
+ghost use Rattle.presentation.specs.Reading.{presentation_text};
 ghost use Rattle.presentation.specs.Writing.{runs, AreOver, joined, led_by, written_exponent, written_run, written_word, written_modulus, written_presentation};
 
 use crate::presentation::Presentation;
@@ -30,14 +31,16 @@ pub fn write_word(alloc: Global, p: &Presentation, w: &Word) -> Result<Vec<u8>, 
 
 /// The presentation as `<a, b | a b a^-1 b^-1>`, with ` modulus ` and the number behind it where there is a modulus.
 /// With no relators it is `<a, b | >`.
+#[tactic(auto, using(crate::proofs::WritingWhole::presentation_read))]
 pub fn write_presentation(alloc: Global, p: &Presentation) -> Result<Vec<u8>, AllocError>
-    ensures { IfOk result (λ v. v.items ≡ written_presentation p.now) }
+    ensures text { IfOk result (λ v. v.items ≡ written_presentation p.now) }
+    ensures read_back { IfOk result (λ v. presentation_text v.items ≡ Ok p.now) }
 {
+    p.known();
     let mut out = Vec::new(alloc);
     out.extend_from_slice(b"<")?;
     append_names(&mut out, p.names())?;
     out.extend_from_slice(b" | ")?;
-    p.known();
     append_relators(&mut out, p, p.relators())?;
     out.extend_from_slice(b">")?;
     append_modulus(&mut out, p.modulus())?;

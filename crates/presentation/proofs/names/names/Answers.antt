@@ -29,6 +29,8 @@ loop-names-preserved c =
     let seen = map string_bytes c.loop-names.names.items in
     let e : name_behind seen c.loop-names.rest.now ≡ Ok (c.in_ok-name.name.now, c.in_ok-name.after.now) = rw c.deref.ensures.value at c.in_ok-name.ensures.exact in
     let few : length seen < GENERATORS = omega (arith, length-map c.loop-names.names.items string_bytes, ap length c.deref.ensures.value, c.in_ok-name.ensures.room) in
-    rw (map-push string_bytes c.loop-names.names.items c.push.new.self.items c.in_ok-text_of.field-0 c.in_ok-name.name.now c.in_ok-push.ensures.items c.in_ok-text_of.ensures,
-    c.after_first-rest.ensures.rest)
+    rw (
+      map-push string_bytes c.loop-names.names.items c.push.new.self.items c.in_ok-text_of.field-0 c.in_ok-name.name.now c.in_ok-push.ensures.items c.in_ok-text_of.ensures,
+      c.after_first-rest.ensures.rest,
+    )
     (more (names_at c.args.text.now) seen c.in_ok-name.name.now c.loop-names.rest.now c.in_ok-name.after.now e (cc) few c.loop-names.invariant)
