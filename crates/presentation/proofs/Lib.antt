@@ -16,3 +16,11 @@ pub mod RelatorTurns
 pub mod WritingFollows
 pub mod WritingLists
 pub mod WritingWhole
+pub mod Steps
+pub mod Distinct
+pub mod Sound
+pub mod Limits
+pub mod SoundWhole
+pub mod WordFacts
+pub mod Complete
+pub mod Found

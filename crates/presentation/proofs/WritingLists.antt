@@ -19,14 +19,6 @@ use Rattle.presentation.proofs.WritingTurns.{name_plain}
 use Rattle.presentation.proofs.WritingBack.{AreNames, word_read, word_plain}
 use Rattle.presentation.proofs.WritingFollows.{comma_ends, angle_ends}
 
-pub byte_is_itself : (b : ℕ) → (b == b) ≡ true
-byte_is_itself b = grind (arith, nat_tests)
-
--- a byte that is due is found behind blanks
-pub byte_found : (b : ℕ) (text rest : List ℕ) → after_blanks text ≡ b ∷ rest → byte_at b text ≡ Ok rest
-unfolding byte_at
-byte_found b text rest e = rw (e, byte_is_itself b) refl
-
 marks_plain : (is_blank 32 ≡ true) × (is_blank 44 ≡ false) × (is_blank 62 ≡ false) × (is_name_byte 44 ≡ false)
 unfolding is_blank is_name_byte is_letter is_digit
 marks_plain = (refl, refl, refl, refl)

@@ -17,7 +17,9 @@ use Rattle.presentation.proofs.WritingEnds.{kept, skipped}
 use Rattle.presentation.proofs.WritingPowers.{digits_plain, not_zero}
 use Rattle.presentation.proofs.WritingTurns.{name_plain}
 use Rattle.presentation.proofs.WritingBack.{AreNames, names_of, word_plain, word_first}
-use Rattle.presentation.proofs.WritingLists.{byte_found, EndsNames, names_after, names_chain, relators_after, relators_chain}
+use Rattle.presentation.specs.Grammar.{IsPresentation}
+use Rattle.presentation.proofs.SoundWhole.{text_sound}
+use Rattle.presentation.proofs.WritingLists.{EndsNames, names_after, names_chain, relators_after, relators_chain}
 
 marks_plain : (is_blank 32 ≡ true) × (is_blank 60 ≡ false) × (is_blank 62 ≡ false) × (is_blank 124 ≡ false) × (is_name_byte 32 ≡ false) × (is_name_byte 62 ≡ false)
 unfolding is_blank is_name_byte is_letter is_digit
@@ -72,13 +74,8 @@ bare_read p text rest h e =
     let known = names_of p h in
     let end : List ℕ = relators_text p.names p.relators rest in
     let front : List ℕ = joined (codes ", ") p.names ++ bar end in
-    rw (
-      byte_found 60 text front (e ∙ bare_is p.names p.relators rest),
-      names_read p.names end known h.some_name h.few_names,
-      byte_found 124 (124 ∷ 32 ∷ end) (32 ∷ end) (kept 124 (32 ∷ end) marks_plain.3),
-      relators_read p.names p.relators rest known h.relators h.few_relators,
-      byte_found 62 (62 ∷ rest) rest (kept 62 rest marks_plain.2),
-    ) refl
+    let skipped_to : after_blanks text ≡ 60 ∷ front = e ∙ bare_is p.names p.relators rest in
+    rw (skipped_to, names_read p.names end known h.some_name h.few_names, relators_read p.names p.relators rest known h.relators h.few_relators) refl
 
 -- no blank stands at the head of a written presentation
 bare_plain : (names : List (List ℕ)) (rs : List (List Letter)) (rest : List ℕ) → after_blanks (written_bare names rs ++ rest) ≡ written_bare names rs ++ rest
@@ -160,3 +157,7 @@ presentation_read p h =
       bare_read p (written_presentation p) (written_modulus p.modulus) h (bare_plain p.names p.relators (written_modulus p.modulus)),
       modulus_read p.modulus h.modulus,
     ) refl
+
+-- a written presentation is in the grammar
+pub presentation_spelled_back : (p : Presented) → IsPresented p → IsPresentation (written_presentation p) p
+presentation_spelled_back p h = text_sound (written_presentation p) p (presentation_read p h)

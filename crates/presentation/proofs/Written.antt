@@ -16,7 +16,7 @@ use Rattle.word_text.specs.Place.{ReadsText, word_text}
 use Rattle.word_text.proofs.Reached.{word_spelled, text_spelled}
 use Rattle.presentation.specs.Presented.{IsWritten}
 
-over_append : (n : ℕ) (u v : List Letter) → IsOver n u → IsOver n v → IsOver n (u ++ v)
+pub over_append : (n : ℕ) (u v : List Letter) → IsOver n u → IsOver n v → IsOver n (u ++ v)
 over_append n [] v a b = b
 over_append n (x ∷ u) v a b = (a.0, over_append n u v a.1 b)
 

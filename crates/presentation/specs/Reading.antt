@@ -3,21 +3,20 @@ use Rattle.std.specs.Prelude.{ℕ, zero, suc, ◌==◌, nat_le, nat_lt, ◌||◌
 use Rattle.std.specs.List.{list_any}
 use Rattle.std.specs.Str.{bytes_eq}
 use Rattle.free_words.specs.declared.letter.Letter.{Letter}
-use Rattle.free_words.specs.declared.TheConstants.{GENERATORS}
+use Rattle.free_words.specs.declared.TheConstants.{GENERATORS, WRITTEN}
 use Rattle.free_words.specs.Words.{inverse}
 use Rattle.word_text.specs.declared.fault.Fault.{Fault}
-use Rattle.word_text.specs.declared.fault.TextKind.TheVariants.{TooManyNames, RepeatedName, TooManyRelators, ModulusOutOfRange}
+use Rattle.word_text.specs.declared.fault.TextKind.TheVariants.{TooManyNames, RepeatedName, TooManyRelators, ModulusOutOfRange, WordTooLong}
 use Rattle.word_text.specs.declared.scan.Mark.{Mark}
 use Rattle.word_text.specs.declared.scan.Mark.TheVariants as marks
 use Rattle.word_text.specs.Scan.{◌>>=◌, first_is, after_blanks, name_at, after_name, digits_at, after_digits, mark_of, number, due}
-use Rattle.word_text.specs.Powers.{within_limit}
 use Rattle.word_text.specs.Machine.{Find, finding, word_at}
 use Rattle.presentation.specs.declared.TheConstants.{RELATORS, MODULUS}
 use Rattle.presentation.specs.Presented.{Presented}
 
--- what follows the byte that is due, behind blanks
-unfoldable pub byte_at : ℕ → List ℕ → Result (List ℕ) Fault
-byte_at b bs = if first_is b (after_blanks bs) then Ok (drop 1 (after_blanks bs)) else Err (due (after_blanks bs))
+-- what follows the byte that is due
+abbrev pub byte_at : ℕ → List ℕ → Result (List ℕ) Fault
+byte_at b bs = if first_is b bs then Ok (drop 1 bs) else Err (due bs)
 
 -- a name that stands here behind others
 abbrev pub new_name : List (List ℕ) → List ℕ → Result (List ℕ × List ℕ) Fault
@@ -50,9 +49,14 @@ names_from (suc n) seen bs =
 unfoldable pub names_at : List ℕ → Result (List (List ℕ) × List ℕ) Fault
 names_at bs = names_from (suc GENERATORS) [] bs
 
+-- the word u v^-1, where it isn't too long for a written one
+abbrev pub quotient : ℕ → List Letter → List Letter → Result (List Letter) Fault
+quotient start u v =
+    if nat_lt WRITTEN (length (u ++ inverse v)) then Err (record { kind = WordTooLong; left = start }) else Ok (u ++ inverse v)
+
 -- the equation of a word with the word behind the `=` that stands here
 unfoldable pub equation_at : Find → List Letter → List ℕ → Result (List Letter × List ℕ) Fault
-equation_at find u bs = word_at find (drop 1 bs) >>= λ v. (within_limit (length bs) (u ++ inverse v.0) >>= λ w. Ok (w, v.1))
+equation_at find u bs = word_at find (drop 1 bs) >>= λ v. (quotient (length bs) u v.0 >>= λ w. Ok (w, v.1))
 
 -- a word, or an equation of two words
 unfoldable pub relator_at : Find → List ℕ → Result (List Letter × List ℕ) Fault
@@ -75,7 +79,7 @@ relators_at find bs = if first_is 62 (after_blanks bs) then Ok ([], after_blanks
 -- a presentation without a modulus, and what follows its `>`
 unfoldable pub presentation_at : List ℕ → Result (Presented × List ℕ) Fault
 presentation_at bs = do
-  names ← byte_at 60 bs >>= names_at
+  names ← byte_at 60 (after_blanks bs) >>= names_at
   relators ← byte_at 124 names.1 >>= relators_at (finding names.0)
   rest ← byte_at 62 relators.1
   Ok (record { names = names.0; relators = relators.0; modulus = 0 }, rest)

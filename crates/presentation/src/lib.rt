@@ -1,6 +1,7 @@
 //! Finite presentations of groups, and their texts.
 #![tactic(auto)]
 
+pub mod laws;
 mod line;
 mod modulus;
 mod names;
@@ -8,11 +9,13 @@ mod presentation;
 pub mod reading_back;
 mod relators;
 mod runs;
+mod text;
 mod word;
 mod writing;
 
 pub use line::WordReader;
 pub use presentation::Presentation;
+pub use text::read_presentation;
 pub use word::read_word;
 pub use writing::{write_presentation, write_word};
 

@@ -5,9 +5,11 @@ ghost use Rattle.word_text.specs.Scan.{after_digits};
 ghost use Rattle.word_text.specs.Machine.{finding, word_at};
 ghost use Rattle.word_text.specs.Place.{on_line};
 ghost use Rattle.presentation.specs.Presented.{IsWritten};
+ghost use Rattle.presentation.specs.Reading.{presentation_at};
 ghost use Rattle.presentation.specs.Line.{IsEnd, ReadsOn, Reads, six_digits, number_at, comes_next, after_mark};
 
 use crate::presentation::Presentation;
+use crate::text::presentation;
 use free_words::Word;
 use std::alloc::Global;
 use word_text::{
@@ -80,6 +82,27 @@ impl<'a> WordReader<'a> {
             Ok((word, rest)) => {
                 self.goes_to(rest);
                 Ok(word)
+            }
+            Err(ReadError::NoMemory) => Err(ReadFault::NoMemory),
+            Err(ReadError::Text(fault)) => Err(ReadFault::Text(on_line(
+                self.text, self.line, fault,
+            ))),
+        }
+    }
+
+    /// Reads a presentation without a modulus, and stays behind its `>`.
+    pub fn at_presentation(&mut self, alloc: Global) -> Result<Presentation, ReadFault>
+        requires { self.old.at ≤ length self.old.text.now }
+        // The presentation that stands here, and the place behind it, or the first fault.
+        ensures exact { ReadsOn (λ p. p) self.old.text.now self.old.line self.old.at self.new.at
+            (presentation_at (drop self.old.at self.old.text.now)) result }
+        ensures text { self.new.text ≡ self.old.text }
+        ensures line { self.new.line ≡ self.old.line }
+    {
+        match presentation(alloc, self.rest()) {
+            Ok((p, rest)) => {
+                self.goes_to(rest);
+                Ok(p)
             }
             Err(ReadError::NoMemory) => Err(ReadFault::NoMemory),
             Err(ReadError::Text(fault)) => Err(ReadFault::Text(on_line(

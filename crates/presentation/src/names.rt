@@ -1,6 +1,6 @@
 //! The names of a presentation's text.
 
-ghost use Rattle.std.specs.Prelude.{◌≡◌, ◌<◌, IfOk, length, map, string_bytes};
+ghost use Rattle.std.specs.Prelude.{◌≡◌, ◌<◌, ◌≤◌, IfOk, length, map, string_bytes};
 ghost use Rattle.std.specs.List.{list_any};
 ghost use Rattle.std.specs.Str.{bytes_eq, IsUtf8};
 ghost use Rattle.word_text.specs.Scan.{Gives, mark_of, name_at};
@@ -75,7 +75,8 @@ fn name_behind<'a>(seen: &[String], text: &'a [u8]) -> Result<(&'a [u8], &'a [u8
 
 /// The names that stand here with commas between them, and what follows them and their blanks.
 pub fn names<'a>(alloc: Global, text: &'a [u8]) -> Result<(Vec<String>, &'a [u8]), ReadError>
-    ensures { Gives (λ x. (map string_bytes x.0.items, x.1.now)) result (names_at text.now) }
+    ensures exact { Gives (λ x. (map string_bytes x.0.items, x.1.now)) result (names_at text.now) }
+    ensures few { IfOk result (λ x. length x.0.items ≤ GENERATORS) }
 {
     let mut names = Vec::new(alloc);
     let mut rest = text;

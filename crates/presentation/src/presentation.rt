@@ -1,7 +1,7 @@
 //! A finite presentation: names of generators, relators, and the exponent of the derived subgroup.
 
 ghost use Rattle.std.specs.Prelude.{◌≡◌, ◌<◌, ◌≤◌, ◌^◌, length, map, string_bytes, slice_get, Some, IfSome};
-ghost use Rattle.presentation.specs.Presented.{Presented, IsPresented};
+ghost use Rattle.presentation.specs.Presented.{Presented, IsPresented, IsModulus};
 
 use free_words::Word;
 use std::marker::Model;
@@ -31,6 +31,21 @@ impl Presentation {
         requires { IsPresented (record { names = map string_bytes names.items; relators = relators.items; modulus = modulus }) }
         ensures { result ≡ record { names = map string_bytes names.items; relators = relators.items; modulus = modulus } }
     {
+        Presentation {
+            names,
+            relators,
+            modulus,
+        }
+    }
+
+    /// The presentation with this modulus in place of its own.
+    pub(crate) fn with_modulus(self, modulus: u32) -> Presentation
+        requires { IsModulus modulus }
+        ensures { result ≡ record self { modulus = modulus } }
+    {
+        let Presentation {
+            names, relators, ..
+        } = self;
         Presentation {
             names,
             relators,

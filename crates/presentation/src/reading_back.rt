@@ -7,6 +7,7 @@ ghost use Rattle.word_text.specs.Machine.{finding, word_at};
 ghost use Rattle.word_text.specs.Place.{word_text};
 ghost use Rattle.word_text.specs.Scan.{after_blanks};
 ghost use Rattle.presentation.specs.Presented.{Presented, IsPresented, IsWritten};
+ghost use Rattle.presentation.specs.Grammar.{IsPresentation};
 ghost use Rattle.presentation.specs.Writing.{written_word, written_presentation, ends_word};
 ghost use Rattle.presentation.specs.Reading.{presentation_at, presentation_text};
 
@@ -42,6 +43,12 @@ pub fn written_word_is_read_behind_blanks()
 #[tactic(auto, using(crate::proofs::WritingWhole::presentation_read))]
 pub fn written_presentation_is_read()
     ensures { (p : Presented) → IsPresented p → presentation_text (written_presentation p) ≡ Ok p }
+{}
+
+/// A written presentation is in the grammar of presentations, with the presentation as its value.
+#[tactic(auto, using(crate::proofs::WritingWhole::presentation_spelled_back))]
+pub fn written_presentation_is_in_grammar()
+    ensures { (p : Presented) → IsPresented p → IsPresentation (written_presentation p) p }
 {}
 
 /// A written presentation without a modulus is read back at the head of a longer text.

@@ -1,11 +1,9 @@
 //! The relators of a presentation's text.
 
-ghost use Rattle.std.specs.Prelude.{◌≡◌, ◌≤◌, ◌++◌, [], length, map, string_bytes};
-ghost use Rattle.free_words.specs.Words.{inverse};
+ghost use Rattle.std.specs.Prelude.{◌≡◌, ◌≤◌, [], length, map, string_bytes};
 ghost use Rattle.word_text.specs.Scan.{Gives};
-ghost use Rattle.word_text.specs.Powers.{within_limit};
 ghost use Rattle.word_text.specs.Machine.{finding};
-ghost use Rattle.presentation.specs.Reading.{equation_at, relator_at, relators_from, relators_at};
+ghost use Rattle.presentation.specs.Reading.{quotient, equation_at, relator_at, relators_from, relators_at};
 
 use crate::RELATORS;
 use free_words::{WRITTEN, Word};
@@ -15,7 +13,7 @@ use word_text::{Fault, ReadError, TextKind, after_first, first_is, skip_blanks, 
 // The word u v^-1, where it is within the limit.
 #[tactic(auto, using(crate::proofs::Quotients::quotient_fits, crate::proofs::Quotients::quotient_long))]
 fn quotient(alloc: Global, u: Word, v: &Word, start: usize) -> Result<Word, ReadError>
-    ensures { Gives (λ w. w) result (within_limit start (u ++ inverse v.now)) }
+    ensures { Gives (λ w. w) result (quotient start u v.now) }
 {
     if u.len() as u64 + v.len() as u64 > WRITTEN as u64 {
         return Err(ReadError::Text(Fault {
