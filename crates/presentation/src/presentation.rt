@@ -44,7 +44,9 @@ impl Presentation {
         ensures { result ≡ record self { modulus = modulus } }
     {
         let Presentation {
-            names, relators, ..
+            names,
+            relators,
+            ..
         } = self;
         Presentation {
             names,

@@ -140,3 +140,6 @@ fn append_modulus(out: &mut Vec<u8>, modulus: u32) -> Result<(), AllocError>
     out.extend_from_slice(b" modulus ")?;
     append_number(out, modulus as usize)
 }
+
+#[cfg(test)]
+mod tests;
