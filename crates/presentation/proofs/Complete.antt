@@ -1,22 +1,20 @@
 -- What is in the grammar is read.
-use Rattle.std.proofs.Common.{◌≡◌, ◌==◌, ◌||◌, ℕ, zero, suc, ◌+◌, ◌<◌, ◌≤◌, Bool, true, false, nat_le, nat_lt, List, [], ◌∷◌, ◌++◌, length, drop, Result, Ok, refl, sym, ◌∙◌, ap, append_assoc, length-append, codes, arith}
+use Rattle.std.proofs.Common.{◌≡◌, ◌==◌, ◌||◌, ℕ, zero, suc, ◌+◌, ◌<◌, ◌≤◌, true, false, nat_le, nat_lt, List, [], ◌∷◌, ◌++◌, length, drop, Ok, refl, ◌∙◌, ap, append_assoc, length-append, codes, arith}
 use Rattle.std.specs.List.{list_any}
 use Rattle.std.specs.Str.{bytes_eq}
 use Rattle.std.proofs.lemmas.Bool.Decides.{nat_tests}
 use Rattle.std.proofs.lemmas.Slice.Eq.{bytes_eq-Decides}
 use Rattle.free_words.specs.declared.letter.Letter.{Letter}
-use Rattle.free_words.specs.declared.TheConstants.{GENERATORS, WRITTEN}
-use Rattle.free_words.specs.Words.{inverse}
-use Rattle.word_text.specs.declared.scan.Mark.TheVariants as marks
-use Rattle.word_text.specs.Scan.{first_is, after_blanks, name_at, after_name, digits_at, after_digits, number, mark_of}
-use Rattle.word_text.specs.Machine.{Find, finding, word_at}
+use Rattle.free_words.specs.declared.TheConstants.{GENERATORS}
+use Rattle.word_text.specs.Scan.{first_is, after_blanks, name_at, after_name, digits_at, after_digits, number}
+use Rattle.word_text.specs.Machine.{Find, finding}
 use Rattle.presentation.specs.declared.TheConstants.{RELATORS, MODULUS}
 use Rattle.presentation.specs.Presented.{Presented, AreDistinct}
-use Rattle.presentation.specs.Reading.{new_name, name_on, name_behind, names_from, names_at, equation_at, relator_at, relators_from, relators_at, presentation_at, ending, modulus_number, modulus_at, presentation_text}
-use Rattle.presentation.specs.Grammar.{NameAt, NamesAt, RelatorAt, SomeRelatorsAt, RelatorsAt, PresentationAt, WrittenModulus, ModulusAt, IsPresentation}
+use Rattle.presentation.specs.Reading.{new_name, name_behind, names_from, names_at, equation_at, relator_at, relators_from, relators_at, presentation_at, ending, modulus_number, modulus_at, presentation_text}
+use Rattle.presentation.specs.Grammar.{NameAt, NamesAt, RelatorAt, SomeRelatorsAt, RelatorsAt, PresentationAt, ModulusAt, IsPresentation}
 use Rattle.presentation.proofs.Distinct.{distinct_before}
 use Rattle.presentation.proofs.Quotients.{quotient_again}
-use Rattle.presentation.proofs.WordFacts.{Shuts, comma, equals, greater, word_again}
+use Rattle.presentation.proofs.WordAgain.{Shuts, comma, equals, greater, word_again}
 
 -- a byte stands first in one way
 other_byte : (b c : ℕ) (bs : List ℕ) → (b == c) ≡ false → first_is b bs ≡ true → first_is c bs ≡ false

@@ -21,6 +21,7 @@ pub mod Distinct
 pub mod Sound
 pub mod Limits
 pub mod SoundWhole
-pub mod WordFacts
+pub mod WordAgain
 pub mod Complete
 pub mod Found
+pub mod SameLists

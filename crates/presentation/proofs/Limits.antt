@@ -1,10 +1,10 @@
 -- What stands in a text by the grammar is within the limits, and it leaves an end of the text.
-use Rattle.std.proofs.Common.{inl, ◌≡◌, ℕ, ◌<◌, ◌≤◌, Bool, true, false, List, [], ◌∷◌, ◌++◌, length, drop, take_while, refl, ap, ◌∙◌, arith}
+use Rattle.std.proofs.Common.{inl, ◌≡◌, ℕ, ◌<◌, Bool, true, false, List, [], ◌∷◌, length, drop, take_while, refl, ap, arith}
 use Rattle.std.specs.List.{AllByRecursion}
 use Rattle.std.proofs.lemmas.List.Sums.{take_while-cons}
 use Rattle.free_words.specs.declared.letter.Letter.{Letter}
 use Rattle.word_text.specs.declared.scan.Mark.TheVariants as marks
-use Rattle.word_text.specs.Scan.{is_name_byte, first_is, after_blanks, name_at, after_name, mark_byte, mark_of}
+use Rattle.word_text.specs.Scan.{is_name_byte, after_blanks, name_at, after_name, mark_byte, mark_of}
 use Rattle.word_text.specs.Machine.{Find, finding}
 use Rattle.word_text.specs.Grammar.{Product}
 use Rattle.word_text.proofs.Marks.{name_some}

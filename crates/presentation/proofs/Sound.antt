@@ -1,16 +1,15 @@
 -- What is read is in the grammar.
-use Rattle.std.proofs.Common.{◌≡◌, ◌==◌, ℕ, zero, suc, ◌+◌, ◌<◌, ◌≤◌, Bool, true, false, nat_le, nat_lt, List, [], ◌∷◌, ◌++◌, length, drop, Result, Ok, Err, refl, sym, ◌∙◌, ap, subst, append_assoc, length-append, arith, if◌then◌else◌}
+use Rattle.std.proofs.Common.{◌≡◌, ℕ, zero, suc, ◌<◌, ◌≤◌, Bool, true, false, nat_le, nat_lt, List, [], ◌∷◌, ◌++◌, length, drop, Ok, Err, refl, sym, ◌∙◌, ap, subst, append_assoc, length-append, arith, if◌then◌else◌}
 use Rattle.std.specs.List.{list_any}
 use Rattle.std.specs.Str.{bytes_eq}
 use Rattle.std.proofs.lemmas.Bool.Decides.{nat_tests}
 use Rattle.free_words.specs.declared.letter.Letter.{Letter}
 use Rattle.free_words.specs.declared.TheConstants.{GENERATORS, WRITTEN}
 use Rattle.free_words.specs.Words.{inverse}
-use Rattle.word_text.specs.declared.fault.Fault.{Fault}
 use Rattle.word_text.specs.declared.fault.TextKind.TheVariants.{TooManyNames, RepeatedName, TooManyRelators, WordTooLong}
 use Rattle.word_text.specs.declared.scan.Mark.{Mark}
 use Rattle.word_text.specs.declared.scan.Mark.TheVariants as marks
-use Rattle.word_text.specs.Scan.{◌>>=◌, first_is, after_blanks, name_at, after_name, mark_of, due}
+use Rattle.word_text.specs.Scan.{first_is, after_blanks, name_at, after_name, mark_of}
 use Rattle.word_text.specs.Machine.{Find, word_at}
 use Rattle.word_text.specs.declared.machine.Spot.{Spot}
 use Rattle.word_text.specs.Grammar.{Product, Spelled}
@@ -19,7 +18,7 @@ use Rattle.presentation.specs.declared.TheConstants.{RELATORS}
 use Rattle.presentation.specs.Presented.{AreDistinct}
 use Rattle.presentation.specs.Reading.{new_name, name_on, name_behind, names_from, quotient, equation_at, relator_at, relators_from, relators_at}
 use Rattle.presentation.specs.Grammar.{NameAt, NamesAt, RelatorAt, SomeRelatorsAt, RelatorsAt}
-use Rattle.presentation.proofs.Steps.{bind_ok, ok_is, guard_ok, test_ok}
+use Rattle.presentation.proofs.Steps.{bind_ok, ok_is, guard_ok}
 use Rattle.presentation.proofs.Distinct.{distinct_push}
 
 not_past : (m n : ℕ) → nat_lt m n ≡ false → n ≤ m

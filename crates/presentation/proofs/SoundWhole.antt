@@ -1,5 +1,5 @@
 -- A presentation that is read is in the grammar.
-use Rattle.std.proofs.Common.{◌≡◌, ◌==◌, ◌||◌, ℕ, zero, suc, ◌<◌, ◌≤◌, Bool, true, false, nat_lt, List, [], ◌∷◌, length, drop, Ok, Err, refl, sym, ◌∙◌, ap, subst, codes, arith, if◌then◌else◌}
+use Rattle.std.proofs.Common.{◌≡◌, ◌==◌, ◌||◌, ℕ, zero, suc, ◌<◌, ◌≤◌, Bool, true, false, nat_lt, List, [], ◌∷◌, length, drop, Ok, Err, refl, sym, subst, codes, arith, if◌then◌else◌}
 use Rattle.std.specs.Str.{bytes_eq}
 use Rattle.std.proofs.lemmas.Bool.Decides.{nat_tests}
 use Rattle.std.proofs.lemmas.Slice.Eq.{bytes_eq-Decides}
@@ -8,7 +8,7 @@ use Rattle.free_words.specs.declared.TheConstants.{GENERATORS}
 use Rattle.word_text.specs.declared.fault.TextKind.TheVariants.{ModulusOutOfRange}
 use Rattle.word_text.specs.Scan.{◌>>=◌, first_is, after_blanks, name_at, after_name, digits_at, after_digits, number, due}
 use Rattle.word_text.specs.Machine.{finding}
-use Rattle.presentation.specs.declared.TheConstants.{RELATORS, MODULUS}
+use Rattle.presentation.specs.declared.TheConstants.{MODULUS}
 use Rattle.presentation.specs.Presented.{Presented}
 use Rattle.presentation.specs.Reading.{byte_at, names_at, relators_at, presentation_at, ending, modulus_number, modulus_at, presentation_text}
 use Rattle.presentation.specs.Grammar.{PresentationAt, WrittenModulus, ModulusAt, IsPresentation}

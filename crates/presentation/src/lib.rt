@@ -9,6 +9,7 @@ mod presentation;
 pub mod reading_back;
 mod relators;
 mod runs;
+mod same;
 mod text;
 mod word;
 mod writing;
@@ -24,3 +25,6 @@ pub const RELATORS: u32 = 64;
 
 /// A modulus is at most so large.
 pub const MODULUS: u32 = 1_000_000_000;
+
+#[cfg(test)]
+mod tests;

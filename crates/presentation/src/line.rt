@@ -96,6 +96,7 @@ impl<'a> WordReader<'a> {
         // The presentation that stands here, and the place behind it, or the first fault.
         ensures exact { ReadsOn (λ p. p) self.old.text.now self.old.line self.old.at self.new.at
             (presentation_at (drop self.old.at self.old.text.now)) result }
+        ensures no_modulus { IfOk result (λ p. p.modulus ≡ 0) }
         ensures text { self.new.text ≡ self.old.text }
         ensures line { self.new.line ≡ self.old.line }
     {

@@ -1,5 +1,5 @@
 use Rattle.presentation.proofs.Complete.{text_again}
-use Rattle.presentation.proofs.laws.grammar_is_read.Goals as goal
+use Rattle.presentation.proofs.laws.spelled_is_read.Goals as goal
 
 pub returns : goal.returns
 returns c = text_again
