@@ -1,5 +1,5 @@
 -- Written names and relators are read one after another.
-use Rattle.std.proofs.Common.{◌≡◌, ℕ, zero, suc, ◌<◌, ◌≤◌, ◌==◌, true, false, nat_le, List, [], ◌∷◌, ◌++◌, length, map, Contains, Ok, refl, ap, ◌∙◌, arith, append_assoc, length-append, codes}
+use Rattle.std.proofs.Common.{◌≡◌, ℕ, zero, suc, ◌<◌, ◌≤◌, true, false, nat_le, List, [], ◌∷◌, ◌++◌, length, map, Contains, Ok, refl, ap, ◌∙◌, arith, append_assoc, length-append, codes}
 use Rattle.std.proofs.lemmas.Bool.Decides.{nat_tests}
 use Rattle.std.proofs.lemmas.List.Elements.{Contains-append_right}
 use Rattle.std.specs.List.{AllByRecursion, list_any}
@@ -10,7 +10,7 @@ use Rattle.word_text.specs.Scan.{is_blank, is_letter, is_digit, is_name_byte, af
 use Rattle.word_text.specs.Machine.{finding}
 use Rattle.presentation.specs.declared.TheConstants.{RELATORS}
 use Rattle.presentation.specs.Presented.{IsName, AreDistinct, IsWritten}
-use Rattle.presentation.specs.Reading.{byte_at, name_behind, names_from, relator_at, relators_from}
+use Rattle.presentation.specs.Reading.{name_behind, names_from, relator_at, relators_from}
 use Rattle.presentation.specs.Writing.{led_by, written_word}
 use Rattle.presentation.proofs.WritingBytes.{Stops}
 use Rattle.presentation.proofs.WritingNames.{other, name_marked, name_taken, name_left}

@@ -47,7 +47,7 @@ pub fn written_presentation_is_read()
 
 /// A written presentation is in the grammar of presentations, with the presentation as its value.
 #[tactic(auto, using(crate::proofs::WritingWhole::presentation_spelled_back))]
-pub fn written_presentation_is_in_grammar()
+pub fn written_presentation_is_spelled()
     ensures { (p : Presented) → IsPresented p → IsPresentation (written_presentation p) p }
 {}
 
