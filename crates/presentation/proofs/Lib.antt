@@ -1,3 +1,11 @@
+pub mod WritingRuns
+pub mod WritingSteps
+pub mod WritingBytes
+pub mod WritingNames
+pub mod WritingEnds
+pub mod WritingPowers
+pub mod WritingTurns
+pub mod WritingBack
 pub mod Ends
 pub mod Digits
 pub mod Written
@@ -5,6 +13,9 @@ pub mod Quotients
 pub mod NameLists
 pub mod NameTurns
 pub mod RelatorTurns
+pub mod WritingFollows
+pub mod WritingLists
+pub mod WritingWhole
 pub mod Steps
 pub mod Distinct
 pub mod Sound

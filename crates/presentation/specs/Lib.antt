@@ -1,4 +1,5 @@
 pub mod Presented
+pub mod Writing
 pub mod Line
 pub mod Reading
 pub mod Grammar
