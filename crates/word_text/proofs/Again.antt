@@ -79,7 +79,8 @@ powers_le _ _ _ _ (Powers.none w bs t) = omega arith
 powers_le _ _ _ _ (Powers.more w v bs mid rest negative k t x le p) =
     omega (arith, powers_le (power_of negative k w) v (after_blanks mid) rest p, skip_le mid, exponent_le (after_blanks (drop 1 bs)) negative k mid x, skip_le (drop 1 bs), first_lt 94 bs t)
 
-powers_skip : (w v : List Letter) (bs rest : List ℕ) → Powers w bs v rest → after_blanks bs ≡ bs → after_blanks rest ≡ rest
+-- powers leave bytes behind blanks
+pub powers_skip : (w v : List Letter) (bs rest : List ℕ) → Powers w bs v rest → after_blanks bs ≡ bs → after_blanks rest ≡ rest
 powers_skip _ _ _ _ (Powers.none w bs t) sk = sk
 powers_skip _ _ _ _ (Powers.more w v bs mid rest negative k t x le p) sk = powers_skip (power_of negative k w) v (after_blanks mid) rest p (blanks_once mid)
 

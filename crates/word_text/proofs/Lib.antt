@@ -9,3 +9,5 @@ pub mod Again
 pub mod Reading
 pub mod Tails
 pub mod Finding
+pub mod Naming
+pub mod Letters

@@ -7,6 +7,8 @@ use Rattle.free_words.specs.declared.letter.Letter.{Letter}
 use Rattle.word_text.specs.Scan.{is_blank, is_digit, is_name_byte, after_blanks, after_name, after_digits}
 use Rattle.word_text.specs.Machine.{Find, word_at}
 use Rattle.word_text.proofs.Reached.{word_spelled}
+use Rattle.word_text.proofs.Soundness.{blanks_once}
+use Rattle.word_text.proofs.Again.{powers_skip}
 use Rattle.word_text.specs.Grammar.{IsSize, IsExponent, Part, Product, Factor, Atom, Spelled, Powers}
 
 abbrev pub Tail : List ℕ → List ℕ → Type 0
@@ -78,6 +80,28 @@ place bs rest t =
     let e : length rest ≡ length bs - t.0 = ap length t.2 ∙ length-drop t.0 bs in
     let n : length bs - length rest ≡ t.0 = omega (arith, e, t.1) in
     rw n (t.2)
+
+-- the blanks behind a factor are skipped with it
+abbrev Clear : Part → List ℕ → List ℕ → Type 0
+Clear (Product s) bs rest = after_blanks bs ≡ bs → after_blanks rest ≡ rest
+Clear Factor bs rest = after_blanks rest ≡ rest
+Clear Atom bs rest = Unit {0}
+
+clear : (find : Find) (p : Part) (bs : List ℕ) (w : List Letter) (rest : List ℕ) → Spelled find p bs w rest → Clear p bs rest
+clear find _ _ _ _ (Spelled.nothing bs) = λ c. c
+clear find _ _ _ _ (Spelled.follows s bs mid rest u v a f le) = λ c. clear find Factor mid v rest f
+clear find _ _ _ _ (Spelled.times bs mid rest u v a m f le) = λ c. clear find Factor (after_blanks (drop 1 mid)) v rest f
+clear find _ _ _ _ (Spelled.powers bs mid rest w v a p) = powers_skip w v (after_blanks mid) rest p (blanks_once mid)
+clear find _ _ _ _ (Spelled.name bs g m f) = tt
+clear find _ _ _ _ (Spelled.one bs m) = tt
+clear find _ _ _ _ (Spelled.round s bs mid w m a c) = tt
+clear find _ _ _ _ (Spelled.square s t bs mid last u v m a c b d le) = tt
+
+-- a word at the head of the bytes leaves bytes behind blanks
+pub word_clear : (find : Find) (bs : List ℕ) (w : List Letter) (rest : List ℕ) → word_at find bs ≡ Ok (w, rest) → after_blanks rest ≡ rest
+word_clear find bs w rest e =
+    let h = word_spelled find bs w rest e in
+    clear find (Product h.0) (after_blanks bs) w rest h.1 (blanks_once bs)
 
 -- a word at the head of the bytes leaves an end of them
 pub word_left : (find : Find) (bs : List ℕ) (w : List Letter) (rest : List ℕ) → word_at find bs ≡ Ok (w, rest) → rest ≡ drop (length bs - length rest) bs

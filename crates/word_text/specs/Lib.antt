@@ -1,5 +1,6 @@
 pub mod Scan
 pub mod Powers
 pub mod Machine
+pub mod Naming
 pub mod Place
 pub mod Grammar
