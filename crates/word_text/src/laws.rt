@@ -22,7 +22,6 @@ pub fn spelled_is_read()
 {}
 
 /// The letters of a word of the grammar are generators that its names gave.
-#[tactic(auto, using(crate::proofs::Letters::word_over))]
 pub fn spelled_is_over()
     ensures { (n : ℕ) (find : Find) (text : List ℕ) (w : List Letter) → ((name : List ℕ) (g : ℕ) → find name ≡ Some g → g < n)
         → IsWord find text w → IsOver n w }
