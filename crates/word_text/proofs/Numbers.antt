@@ -16,7 +16,7 @@ pub number_more : (all : List ℕ) (i n : ℕ) → i < length all → number 0 a
     → number 0 all ≡ number (n * 10 + (get_or all i 0 - 48)) (drop (i + 1) all)
 number_more all i n lt so_far = so_far ∙ rw (drop-cons all i 0 lt, add-one) refl
 
-within_none : (limit n : ℕ) → limit < n → within limit n ≡ None
+pub within_none : (limit n : ℕ) → limit < n → within limit n ≡ None
 within_none limit n lt = grind (arith, nat_tests)
 
 pub within_some : (limit n : ℕ) → n ≤ limit → within limit n ≡ Some n

@@ -1,5 +1,12 @@
 pub mod Scan
 pub mod Powers
+pub mod Program
+pub mod Spell
 pub mod Machine
+pub mod Inner
+pub mod Draft
+pub mod State
+pub mod Naming
 pub mod Place
 pub mod Grammar
+pub mod Fronts

@@ -6,7 +6,8 @@ use Rattle.word_text.specs.declared.fault.TextFault.{TextFault}
 use Rattle.word_text.specs.declared.fault.ReadFault.{ReadFault}
 use Rattle.word_text.specs.declared.fault.ReadFault.TheVariants as faults
 use Rattle.word_text.specs.Scan.{◌>>=◌, due}
-use Rattle.word_text.specs.Machine.{Find, word_at}
+use Rattle.word_text.specs.Powers.{written}
+use Rattle.word_text.specs.Machine.{Find, word_within}
 
 abbrev pub capped : ℕ → ℕ
 capped n = min n 4294967295
@@ -40,6 +41,14 @@ ReadsLine text line read (Ok x) = Unit {0}
 ReadsLine text line read (Err faults.NoMemory) = Unit {0}
 ReadsLine text line read (Err (faults.Text f)) = (e : Fault) × (read ≡ Err e) × (f ≡ on_line text line e)
 
--- the word that is the whole text
-unfoldable pub word_text : Find → List ℕ → Result (List Letter) Fault
-word_text find bs = word_at find bs >>= λ x. if length x.1 == 0 then Ok x.0 else Err (due x.1)
+-- a word behind which the text has to end
+abbrev pub whole : Result (List Letter × List ℕ) Fault → Result (List Letter) Fault
+whole read = read >>= λ x. if length x.1 == 0 then Ok x.0 else Err (due x.1)
+
+-- the word that is the whole text, where each word that is made has at most `limit` letters
+unfoldable pub text_within : ℕ → Find → List ℕ → Result (List Letter) Fault
+text_within limit find bs = whole (word_within limit find bs)
+
+-- the same with the limit of a written word
+abbrev pub word_text : Find → List ℕ → Result (List Letter) Fault
+word_text = text_within written

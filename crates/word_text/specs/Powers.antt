@@ -11,6 +11,10 @@ use Rattle.word_text.specs.Scan.{◌>>=◌, first_is, after_blanks, digits_at, a
 abbrev pub written : ℕ
 written = WRITTEN
 
+-- so many copies of a word, or of its inverse
+abbrev pub power_of : Bool → ℕ → List Letter → List Letter
+power_of negative n w = copies n (if negative then inverse w else w)
+
 -- an exponent, and what follows it
 pub record Exponent : Type 0 where
   pub negative : Bool
@@ -30,20 +34,25 @@ size_at negative bs =
 unfoldable pub exponent_at : List ℕ → Result Exponent Fault
 exponent_at bs = if first_is 45 bs then size_at true (after_blanks (drop 1 bs)) else size_at false bs
 
--- the word, where it is within the limit
-abbrev pub within_limit : ℕ → List Letter → Result (List Letter) Fault
-within_limit start w = if nat_lt written (length w) then Err (record { kind = WordTooLong; left = start }) else Ok w
+-- the word, where it has at most `limit` letters; else the fault at the place where `start` bytes are left
+abbrev pub within_limit : ℕ → ℕ → List Letter → Result (List Letter) Fault
+within_limit limit start w = if nat_lt limit (length w) then Err (record { kind = WordTooLong; left = start }) else Ok w
 
-abbrev pub raised : ℕ → Bool → ℕ → List Letter → Result (List Letter) Fault
-raised start negative size w = within_limit start (copies size (if negative then inverse w else w))
+abbrev pub raised : ℕ → ℕ → Bool → ℕ → List Letter → Result (List Letter) Fault
+raised limit start negative size w = within_limit limit start (power_of negative size w)
 
 -- the powers that stand here, with no blanks before them; the factor begins where `start` bytes are left
-unfoldable pub powers_from : ℕ → ℕ → List Letter → List ℕ → Result (List Letter × List ℕ) Fault
-powers_from zero start w bs = Err (due bs)
-powers_from (suc n) start w bs =
+unfoldable pub powers_from : ℕ → ℕ → ℕ → List Letter → List ℕ → Result (List Letter × List ℕ) Fault
+powers_from limit zero start w bs = Err (due bs)
+powers_from limit (suc n) start w bs =
     if first_is 94 bs
-    then (exponent_at (after_blanks (drop 1 bs)) >>= λ k. (raised start k.negative k.size w >>= λ v. powers_from n start v (after_blanks k.rest)))
+    then (exponent_at (after_blanks (drop 1 bs)) >>= λ k.
+    (raised limit start k.negative k.size w >>= λ v. powers_from limit n start v (after_blanks k.rest)))
     else Ok (w, bs)
 
-unfoldable pub powers_at : ℕ → List Letter → List ℕ → Result (List Letter × List ℕ) Fault
-powers_at start w bs = powers_from (suc (length (after_blanks bs))) start w (after_blanks bs)
+unfoldable pub powers_within : ℕ → ℕ → List Letter → List ℕ → Result (List Letter × List ℕ) Fault
+powers_within limit start w bs = powers_from limit (suc (length (after_blanks bs))) start w (after_blanks bs)
+
+-- the same with the limit of a written word
+abbrev pub powers_at : ℕ → List Letter → List ℕ → Result (List Letter × List ℕ) Fault
+powers_at = powers_within written

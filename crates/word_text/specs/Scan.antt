@@ -22,6 +22,11 @@ abbrev pub Gives : {X Y : Type 0} → (X → Y) → Result X ReadError → Resul
 Gives view (Ok x) read = read ≡ Ok (view x)
 Gives view (Err e) read = Fails e read
 
+-- the same of a function that takes no memory
+abbrev pub Tells : {X Y : Type 0} → (X → Y) → Result X Fault → Result Y Fault → Type 0
+Tells view (Ok x) read = read ≡ Ok (view x)
+Tells view (Err f) read = read ≡ Err f
+
 -- space, tab, CR and LF
 unfoldable pub is_blank : ℕ → Bool
 is_blank b = (b == 32) || (b == 9) || (b == 13) || (b == 10)

@@ -1,7 +1,7 @@
 //! Why a text is not read.
 
 ghost use Rattle.std.specs.Prelude.{◌≡◌};
-ghost use Rattle.word_text.specs.declared.fault.ReadError.TheVariants.{NoMemory};
+ghost use Rattle.word_text.specs.declared.fault.ReadError.TheVariants.{NoMemory, Text};
 
 use std::alloc::{AllocError, AllocFailed};
 
@@ -48,6 +48,14 @@ impl<T: Drop> From<AllocFailed<T>> for ReadError {
 
     fn from(_e: AllocFailed<T>) -> ReadError {
         ReadError::NoMemory
+    }
+}
+
+impl From<Fault> for ReadError {
+    ghost from_gives = { λ f e. e ≡ Text f };
+
+    fn from(fault: Fault) -> ReadError {
+        ReadError::Text(fault)
     }
 }
 

@@ -1,11 +1,13 @@
 //! Laws of the reader.
 
-ghost use Rattle.std.specs.Prelude.{◌≡◌, ℕ, List, Ok};
+ghost use Rattle.std.specs.Prelude.{◌≡◌, ℕ, ◌-◌, ◌<◌, ◌≤◌, List, Some, Ok, length, drop};
 ghost use Rattle.free_words.specs.declared.letter.Letter.{Letter};
-ghost use Rattle.word_text.specs.Machine.{Find};
-ghost use Rattle.word_text.specs.Powers.{powers_from};
+ghost use Rattle.free_words.specs.Words.{IsOver};
+ghost use Rattle.word_text.specs.Machine.{Find, finding, word_at};
+ghost use Rattle.word_text.specs.Naming.{IsNumberOf};
+ghost use Rattle.word_text.specs.Powers.{written};
 ghost use Rattle.word_text.specs.Place.{word_text};
-ghost use Rattle.word_text.specs.Grammar.{IsWord, Powers};
+ghost use Rattle.word_text.specs.Grammar.{IsWord};
 ghost use Rattle.word_text.specs.Scan.{after_blanks};
 
 /// What is read of a whole text is a word of the grammar, with its value.
@@ -17,4 +19,54 @@ pub fn read_is_spelled()
 /// A word of the grammar that is the whole text is read, with its value.
 pub fn spelled_is_read()
     ensures { (find : Find) (text : List ℕ) (w : List Letter) → IsWord find text w → word_text find text ≡ Ok w }
+{}
+
+/// The letters of a word of the grammar are generators that its names gave.
+pub fn spelled_is_over()
+    ensures { (n : ℕ) (find : Find) (text : List ℕ) (w : List Letter) → ((name : List ℕ) (g : ℕ) → find name ≡ Some g → g < n)
+        → IsWord find text w → IsOver n w }
+{}
+
+/// A word of the grammar has no more letters than a written word may have.
+#[tactic(auto, using(crate::proofs::Letters::word_short))]
+pub fn spelled_is_short()
+    ensures { (find : Find) (text : List ℕ) (w : List Letter) → IsWord find text w → length w ≤ written }
+{}
+
+/// The letters of a word that stands at the head of a text are generators that its names gave.
+#[tactic(auto, using(crate::proofs::Letters::read_over))]
+pub fn head_is_over()
+    ensures { (n : ℕ) (find : Find) (text : List ℕ) (w : List Letter) (rest : List ℕ) → ((name : List ℕ) (g : ℕ) → find name ≡ Some g → g < n)
+        → word_at find text ≡ Ok (w, rest) → IsOver n w }
+{}
+
+/// A word that stands at the head of a text has no more letters than a written word may have.
+#[tactic(auto, using(crate::proofs::Letters::read_short))]
+pub fn head_is_short()
+    ensures { (find : Find) (text : List ℕ) (w : List Letter) (rest : List ℕ) → word_at find text ≡ Ok (w, rest) → length w ≤ written }
+{}
+
+/// What follows a word at the head of a text is an end of the text.
+#[tactic(auto, using(crate::proofs::Tails::word_left))]
+pub fn rest_is_an_end()
+    ensures { (find : Find) (text : List ℕ) (w : List Letter) (rest : List ℕ) → word_at find text ≡ Ok (w, rest)
+        → rest ≡ drop (length text - length rest) text }
+{}
+
+/// What follows a word at the head of a text begins behind blanks.
+#[tactic(auto, using(crate::proofs::Tails::word_clear))]
+pub fn rest_is_behind_blanks()
+    ensures { (find : Find) (text : List ℕ) (w : List Letter) (rest : List ℕ) → word_at find text ≡ Ok (w, rest) → after_blanks rest ≡ rest }
+{}
+
+/// The number of a name is that of the first of the names that is the same.
+#[tactic(auto, using(crate::proofs::Naming::finding_first))]
+pub fn number_is_of_the_first()
+    ensures { (names : List (List ℕ)) (name : List ℕ) → IsNumberOf names name (finding names name) }
+{}
+
+/// The number of a name is below the number of names.
+#[tactic(auto, using(crate::proofs::Naming::finding_below))]
+pub fn number_is_below()
+    ensures { (names : List (List ℕ)) (name : List ℕ) (g : ℕ) → finding names name ≡ Some g → g < length names }
 {}

@@ -1,12 +1,16 @@
 //! The texts of words: tokens, powers, brackets, and the first fault of a text that spells no word.
 #![tactic(auto)]
 
+mod draft;
 mod fault;
 pub mod laws;
 mod machine;
 mod place;
 mod powers;
+mod program;
+mod raise;
 mod scan;
+mod spell;
 mod whole;
 
 pub use fault::{Fault, ReadError, ReadFault, TextFault, TextKind};

@@ -1,20 +1,20 @@
-//! Words: the brackets that are open are a list, so that their depth takes no stack.
+//! Words, read from left to right: the brackets that are open are a list, so that their depth takes no stack.
 
-ghost use Rattle.std.specs.Prelude.{◌≡◌, ◌≤◌, ◌<◌, ◌++◌, ◌∷◌, [], List, ℕ, Option, length, drop, true, false, Result, IfOk, map, position, string_bytes};
+ghost use Rattle.std.specs.Prelude.{◌≡◌, ◌≤◌, ◌<◌, ◌++◌, ◌∷◌, [], ℕ, List, Some, length, false, IfOk, map, position, string_bytes};
 ghost use Rattle.std.specs.Str.{bytes_eq};
 ghost use Rattle.free_words.specs.declared.letter.Letter.{Letter};
 ghost use Rattle.word_text.specs.Scan.{Gives, name_at, mark_of};
-ghost use Rattle.word_text.specs.Powers.{within_limit};
-ghost use Rattle.word_text.specs.Machine.{Reading, Turned, factor_ends, opens, shuts, closes, stands_no_factor, starred, named, turn_on, turn, word_at, fresh, finding};
+ghost use Rattle.word_text.specs.Powers.{written};
+ghost use Rattle.word_text.specs.Draft.{awaited_in};
+ghost use Rattle.word_text.specs.Machine.{Round, Square, Reading, factor_ends, opens, closes, stands_no_factor, starred, named, turn_on, turn, word_at, fresh, finding};
+ghost use Rattle.word_text.specs.State.{reading};
 
+use crate::draft::{Awaited, Draft};
 use crate::fault::{Fault, ReadError, TextKind};
-use crate::powers::{fitting, powers};
+use crate::powers::powers;
 use crate::scan::{Mark, after_first, due, first_is, mark_at, skip_blanks, split_name};
 use free_words::{Letter, WRITTEN, Word};
 use std::alloc::Global;
-use std::collections::VecDeque;
-use std::marker::Model;
-use std::mem;
 
 /// What stands before a place in a word.
 #[derive(Clone, Copy, Debug, PartialEq, Eq)]
@@ -27,37 +27,11 @@ pub enum Spot {
     Starred,
 }
 
-/// How an open bracket began.
-#[derive(Drop)]
-pub enum Opening {
-    Round,
-    Square,
-    /// A square bracket behind its comma, with its first word.
-    Second(Word),
-}
-
-/// An open bracket: the product before it, and how many bytes are left from its first byte on.
-#[derive(Drop)]
-pub struct Frame {
-    outer: Word,
-    start: usize,
-    opening: Opening,
-}
-
 /// Where the reading of a word stands.
 #[derive(Drop)]
 pub struct State {
-    frames: VecDeque<Frame>,
-    product: Word,
+    draft: Draft,
     spot: Spot,
-}
-
-impl Model for State {
-    ghost use Rattle.word_text.specs.Machine.{Reading};
-
-    ghost Value = { Reading };
-
-    ghost view = { λ s. record { frames = s.frames.items; product = s.product; spot = s.spot } };
 }
 
 // The place of this name in the list.
@@ -74,13 +48,21 @@ fn generator(names: &[String], name: &[u8]) -> Option<usize>
     place_of(names, name)
 }
 
+fn too_long(start: usize) -> ReadError
+    ensures { result ≡ ReadError.Text (record { kind = TextKind.WordTooLong; left = start }) }
+{
+    ReadError::Text(Fault {
+        kind: TextKind::WordTooLong,
+        left: start,
+    })
+}
+
 impl State {
     fn new(alloc: Global) -> State
-        ensures { result ≡ fresh }
+        ensures { reading result ≡ fresh }
     {
         State {
-            frames: VecDeque::new(alloc),
-            product: Word::new(alloc),
+            draft: Draft::new(alloc),
             spot: Spot::Start,
         }
     }
@@ -89,167 +71,129 @@ impl State {
     #[tactic(auto, unfolding(crate::specs::Machine::factor_ends))]
     fn factor_ends<'a>(
         &mut self,
-        alloc: Global,
         start: usize,
-        atom: Word,
         text: &'a [u8],
     ) -> Result<(bool, &'a [u8]), ReadError>
-        ensures exact { Gives (λ x. record { state = self.new; ended = x.0; rest = x.1.now }) result
-            (factor_ends self.old.frames self.old.product start atom text.now) }
+        ensures exact { Gives (λ x. record { state = reading self.new; ended = x.0; rest = x.1.now }) result
+            (factor_ends written self.old.draft.frames self.old.draft.product start self.old.draft.atom text.now) }
         ensures shorter { IfOk result (λ x. length x.1.now ≤ length text.now) }
     {
-        let (factor, rest) = powers(alloc, atom, start, text)?;
-        self.join(factor, start)?;
+        let atom = self.draft.atom_letters();
+        let (raise, rest) = powers(atom, start, text)?;
+        let factor = raise.times as u64 * atom as u64;
+        if self.draft.letters() as u64 + factor > WRITTEN as u64 {
+            return Err(too_long(start));
+        }
+        self.draft.join(raise)?;
         self.spot = Spot::After;
         Ok((false, rest))
     }
 
-    // Puts a factor at the end of the product.
-    #[tactic(auto, using(crate::proofs::Limits::made_ok, crate::proofs::Limits::made_long))]
-    fn join(&mut self, factor: Word, start: usize) -> Result<(), ReadError>
-        ensures product { Gives (λ _. self.new.product) result (within_limit start (self.old.product ++ factor)) }
-        ensures frames { self.new.frames ≡ self.old.frames }
-        ensures spot { self.new.spot ≡ self.old.spot }
-    {
-        let total = self.product.len() as u64 + factor.len() as u64;
-        if total > WRITTEN as u64 {
-            return Err(ReadError::Text(Fault {
-                kind: TextKind::WordTooLong,
-                left: start,
-            }));
-        }
-        self.product.append(factor)?;
-        Ok(())
-    }
-
-    // A bracket opens here.
-    fn opens<'a>(
-        &mut self,
-        alloc: Global,
-        opening: Opening,
-        text: &'a [u8],
-    ) -> Result<(bool, &'a [u8]), ReadError>
+    // A round bracket opens here.
+    fn opens_round<'a>(&mut self, text: &'a [u8]) -> Result<(bool, &'a [u8]), ReadError>
         requires { 0 < length text.now }
-        ensures exact { Gives (λ x. record { state = self.new; ended = x.0; rest = x.1.now }) result (opens opening self.old text.now) }
+        ensures exact { Gives (λ x. record { state = reading self.new; ended = x.0; rest = x.1.now }) result (opens Round (reading self.old) text.now) }
         ensures shorter { IfOk result (λ x. x.0 ≡ false → length x.1.now < length text.now) }
     {
-        let outer = mem::replace(&mut self.product, Word::new(alloc));
-        self.frames.push_front(Frame {
-            outer,
-            start: text.len(),
-            opening,
-        })?;
+        self.draft.open_round(text.len())?;
         self.spot = Spot::Start;
         Ok((false, after_first(text)))
     }
 
-    // The comma of a bracket that the frame opened: its first word is read.
-    fn goes_second<'a>(
-        &mut self,
-        alloc: Global,
-        outer: Word,
-        start: usize,
-        text: &'a [u8],
-    ) -> Result<(bool, &'a [u8]), ReadError>
-        ensures exact { Gives (λ x. record { state = self.new; ended = x.0; rest = x.1.now }) result
-            (shuts Opening.Square self.old.frames outer start self.old.product text.now) }
+    // A square bracket opens here.
+    fn opens_square<'a>(&mut self, text: &'a [u8]) -> Result<(bool, &'a [u8]), ReadError>
+        requires { 0 < length text.now }
+        ensures exact { Gives (λ x. record { state = reading self.new; ended = x.0; rest = x.1.now }) result (opens Square (reading self.old) text.now) }
         ensures shorter { IfOk result (λ x. x.0 ≡ false → length x.1.now < length text.now) }
     {
-        if !first_is(b',', text) {
-            return Err(ReadError::Text(due(text)));
-        }
-        let left = mem::replace(&mut self.product, Word::new(alloc));
-        self.frames.push_front(Frame {
-            outer,
-            start,
-            opening: Opening::Second(left),
-        })?;
+        self.draft.open_square(text.len())?;
         self.spot = Spot::Start;
         Ok((false, after_first(text)))
     }
 
-    fn shuts_round<'a>(
-        &mut self,
-        alloc: Global,
-        outer: Word,
-        start: usize,
-        text: &'a [u8],
-    ) -> Result<(bool, &'a [u8]), ReadError>
-        ensures exact { Gives (λ x. record { state = self.new; ended = x.0; rest = x.1.now }) result
-            (shuts Opening.Round self.old.frames outer start self.old.product text.now) }
+    // A round bracket has to close here.
+    #[tactic(auto, using(crate::proofs::Closing::closes_round))]
+    fn closes_round<'a>(&mut self, text: &'a [u8]) -> Result<(bool, &'a [u8]), ReadError>
+        requires { awaited_in self.old.draft.frames ≡ Some Awaited.Parenthesis }
+        ensures exact { Gives (λ x. record { state = reading self.new; ended = x.0; rest = x.1.now }) result
+            (closes written self.old.draft.frames (reading self.old) text.now) }
         ensures shorter { IfOk result (λ x. x.0 ≡ false → length x.1.now < length text.now) }
     {
         if !first_is(b')', text) {
-            return Err(ReadError::Text(due(text)));
+            return Err(due(text).into());
         }
-        let inner = mem::replace(&mut self.product, outer);
-        self.factor_ends(alloc, start, inner, after_first(text))
+        let start = self.draft.close_round();
+        self.factor_ends(start, after_first(text))
     }
 
-    fn shuts_second<'a>(
-        &mut self,
-        alloc: Global,
-        left: Word,
-        outer: Word,
-        start: usize,
-        text: &'a [u8],
-    ) -> Result<(bool, &'a [u8]), ReadError>
-        ensures exact { Gives (λ x. record { state = self.new; ended = x.0; rest = x.1.now }) result
-            (shuts (Opening.Second left) self.old.frames outer start self.old.product text.now) }
+    // The comma of a square bracket has to stand here.
+    #[tactic(auto, using(crate::proofs::Closing::closes_comma))]
+    fn passes_comma<'a>(&mut self, text: &'a [u8]) -> Result<(bool, &'a [u8]), ReadError>
+        requires { awaited_in self.old.draft.frames ≡ Some Awaited.Comma }
+        ensures exact { Gives (λ x. record { state = reading self.new; ended = x.0; rest = x.1.now }) result
+            (closes written self.old.draft.frames (reading self.old) text.now) }
+        ensures shorter { IfOk result (λ x. x.0 ≡ false → length x.1.now < length text.now) }
+    {
+        if !first_is(b',', text) {
+            return Err(due(text).into());
+        }
+        self.draft.pass_comma();
+        self.spot = Spot::Start;
+        Ok((false, after_first(text)))
+    }
+
+    // A square bracket has to close here.
+    #[tactic(auto, using(crate::proofs::Closing::closes_square))]
+    fn closes_square<'a>(&mut self, text: &'a [u8]) -> Result<(bool, &'a [u8]), ReadError>
+        requires { awaited_in self.old.draft.frames ≡ Some Awaited.Bracket }
+        ensures exact { Gives (λ x. record { state = reading self.new; ended = x.0; rest = x.1.now }) result
+            (closes written self.old.draft.frames (reading self.old) text.now) }
         ensures shorter { IfOk result (λ x. x.0 ≡ false → length x.1.now < length text.now) }
     {
         if !first_is(b']', text) {
-            return Err(ReadError::Text(due(text)));
+            return Err(due(text).into());
         }
-        let inner = mem::replace(&mut self.product, outer);
-        let atom = fitting(start, left.commutator(alloc, &inner, WRITTEN))?;
-        self.factor_ends(alloc, start, atom, after_first(text))
+        if self.draft.commutator_letters() > WRITTEN as u64 {
+            return Err(too_long(self.draft.start()));
+        }
+        let start = self.draft.close_square()?;
+        self.factor_ends(start, after_first(text))
     }
 
     // No factor stands here: the word ends, or the innermost bracket goes on.
-    fn closes<'a>(&mut self, alloc: Global, text: &'a [u8]) -> Result<(bool, &'a [u8]), ReadError>
-        ensures exact { Gives (λ x. record { state = self.new; ended = x.0; rest = x.1.now }) result (closes self.old.frames self.old text.now) }
+    fn closes<'a>(&mut self, text: &'a [u8]) -> Result<(bool, &'a [u8]), ReadError>
+        ensures exact { Gives (λ x. record { state = reading self.new; ended = x.0; rest = x.1.now }) result
+            (closes written self.old.draft.frames (reading self.old) text.now) }
         ensures shorter { IfOk result (λ x. x.0 ≡ false → length x.1.now < length text.now) }
     {
-        match self.frames.pop_front() {
+        match self.draft.awaited() {
             None => Ok((true, text)),
-            Some(frame) => {
-                let Frame {
-                    outer,
-                    start,
-                    opening,
-                } = frame;
-                match opening {
-                    Opening::Round => self.shuts_round(alloc, outer, start, text),
-                    Opening::Square => self.goes_second(alloc, outer, start, text),
-                    Opening::Second(left) => self.shuts_second(alloc, left, outer, start, text),
-                }
-            }
+            Some(Awaited::Parenthesis) => self.closes_round(text),
+            Some(Awaited::Comma) => self.passes_comma(text),
+            Some(Awaited::Bracket) => self.closes_square(text),
         }
     }
 
-    fn stands_no_factor<'a>(
-        &mut self,
-        alloc: Global,
-        text: &'a [u8],
-    ) -> Result<(bool, &'a [u8]), ReadError>
-        ensures exact { Gives (λ x. record { state = self.new; ended = x.0; rest = x.1.now }) result (stands_no_factor self.old.spot self.old text.now) }
+    fn stands_no_factor<'a>(&mut self, text: &'a [u8]) -> Result<(bool, &'a [u8]), ReadError>
+        ensures exact { Gives (λ x. record { state = reading self.new; ended = x.0; rest = x.1.now }) result
+            (stands_no_factor written self.old.spot (reading self.old) text.now) }
         ensures shorter { IfOk result (λ x. x.0 ≡ false → length x.1.now < length text.now) }
     {
         match self.spot {
-            Spot::Starred => Err(ReadError::Text(due(text))),
-            _ => self.closes(alloc, text),
+            Spot::Starred => Err(due(text).into()),
+            _ => self.closes(text),
         }
     }
 
-    fn starred<'a>(&mut self, alloc: Global, text: &'a [u8]) -> Result<(bool, &'a [u8]), ReadError>
+    fn starred<'a>(&mut self, text: &'a [u8]) -> Result<(bool, &'a [u8]), ReadError>
         requires { 0 < length text.now }
-        ensures exact { Gives (λ x. record { state = self.new; ended = x.0; rest = x.1.now }) result (starred self.old.spot self.old text.now) }
+        ensures exact { Gives (λ x. record { state = reading self.new; ended = x.0; rest = x.1.now }) result
+            (starred written self.old.spot (reading self.old) text.now) }
         ensures shorter { IfOk result (λ x. x.0 ≡ false → length x.1.now < length text.now) }
     {
         match self.spot {
-            Spot::Starred => Err(ReadError::Text(due(text))),
-            Spot::Start => self.closes(alloc, text),
+            Spot::Starred => Err(due(text).into()),
+            Spot::Start => self.closes(text),
             Spot::After => {
                 self.spot = Spot::Starred;
                 Ok((false, after_first(text)))
@@ -257,16 +201,11 @@ impl State {
         }
     }
 
-    fn named<'a>(
-        &mut self,
-        alloc: Global,
-        names: &[String],
-        text: &'a [u8],
-    ) -> Result<(bool, &'a [u8]), ReadError>
+    fn named<'a>(&mut self, names: &[String], text: &'a [u8]) -> Result<(bool, &'a [u8]), ReadError>
         requires few { length names.now ≤ 24 }
         requires letter { mark_of text.now ≡ Mark.Letter }
-        ensures exact { Gives (λ x. record { state = self.new; ended = x.0; rest = x.1.now }) result
-            (named (finding (map string_bytes names.now) (name_at text.now)) self.old text.now) }
+        ensures exact { Gives (λ x. record { state = reading self.new; ended = x.0; rest = x.1.now }) result
+            (named written (finding (map string_bytes names.now) (name_at text.now)) (reading self.old) text.now) }
         ensures shorter { IfOk result (λ x. x.0 ≡ false → length x.1.now < length text.now) }
     {
         let (name, rest) = split_name(text);
@@ -276,61 +215,56 @@ impl State {
                 left: text.len(),
             })),
             Some(g) => {
-                let letter = Letter {
+                self.draft.read_letter(Letter {
                     g: g as u8,
                     inv: false,
-                };
-                let mut letters = Vec::new(alloc);
-                letters.push(letter)?;
-                self.factor_ends(alloc, text.len(), Word::of(letters), rest)
+                })?;
+                self.factor_ends(text.len(), rest)
             }
         }
     }
 
     fn turn_on<'a>(
         &mut self,
-        alloc: Global,
         names: &[String],
         text: &'a [u8],
     ) -> Result<(bool, &'a [u8]), ReadError>
         requires { length names.now ≤ 24 }
-        ensures exact { Gives (λ x. record { state = self.new; ended = x.0; rest = x.1.now }) result
-            (turn_on (finding (map string_bytes names.now)) (mark_of text.now) self.old text.now) }
+        ensures exact { Gives (λ x. record { state = reading self.new; ended = x.0; rest = x.1.now }) result
+            (turn_on written (finding (map string_bytes names.now)) (mark_of text.now) (reading self.old) text.now) }
         ensures shorter { IfOk result (λ x. x.0 ≡ false → length x.1.now < length text.now) }
     {
         if text.is_empty() {
-            return self.stands_no_factor(alloc, text);
+            return self.stands_no_factor(text);
         }
         match mark_at(text) {
-            Mark::Letter => self.named(alloc, names, text),
-            Mark::One => self.factor_ends(alloc, text.len(), Word::new(alloc), after_first(text)),
-            Mark::Round => self.opens(alloc, Opening::Round, text),
-            Mark::Square => self.opens(alloc, Opening::Square, text),
-            Mark::Star => self.starred(alloc, text),
-            Mark::Bad => self.stands_no_factor(alloc, text),
-            Mark::Other => self.stands_no_factor(alloc, text),
+            Mark::Letter => self.named(names, text),
+            Mark::One => {
+                self.draft.read_one();
+                self.factor_ends(text.len(), after_first(text))
+            }
+            Mark::Round => self.opens_round(text),
+            Mark::Square => self.opens_square(text),
+            Mark::Star => self.starred(text),
+            Mark::Bad => self.stands_no_factor(text),
+            Mark::Other => self.stands_no_factor(text),
         }
     }
 
     // One token, or a whole factor's end.
     #[tactic(auto, unfolding(crate::specs::Machine::turn))]
-    fn turn<'a>(
-        &mut self,
-        alloc: Global,
-        names: &[String],
-        text: &'a [u8],
-    ) -> Result<(bool, &'a [u8]), ReadError>
+    fn turn<'a>(&mut self, names: &[String], text: &'a [u8]) -> Result<(bool, &'a [u8]), ReadError>
         requires { length names.now ≤ 24 }
-        ensures exact { Gives (λ x. record { state = self.new; ended = x.0; rest = x.1.now }) result
-            (turn (finding (map string_bytes names.now)) self.old text.now) }
+        ensures exact { Gives (λ x. record { state = reading self.new; ended = x.0; rest = x.1.now }) result
+            (turn written (finding (map string_bytes names.now)) (reading self.old) text.now) }
         ensures shorter { IfOk result (λ x. x.0 ≡ false → length x.1.now < length text.now) }
     {
-        self.turn_on(alloc, names, skip_blanks(text))
+        self.turn_on(names, skip_blanks(text))
     }
 }
 
 /// The word at the head of the text, and what follows it and its blanks.
-#[tactic(auto, unfolding(crate::specs::Machine::word_at))]
+#[tactic(auto, unfolding(crate::specs::Machine::word_within))]
 pub fn word_at<'a>(
     alloc: Global,
     names: &[String],
@@ -342,9 +276,9 @@ pub fn word_at<'a>(
     let mut state = State::new(alloc);
     let mut rest = text;
     loop {
-        let (ended, after) = state.turn(alloc, names, rest)?;
+        let (ended, after) = state.turn(names, rest)?;
         if ended {
-            return Ok((state.product, after));
+            return Ok((state.draft.word(alloc)?, after));
         }
         rest = after;
     }

@@ -12,7 +12,7 @@ use free_words::Word;
 use std::alloc::Global;
 
 /// The word that the whole text spells, expanded and not reduced, or the first fault.
-#[tactic(auto, unfolding(crate::specs::Place::word_text))]
+#[tactic(auto, unfolding(crate::specs::Place::text_within))]
 pub fn whole_word(alloc: Global, names: &[String], text: &[u8]) -> Result<Word, ReadError>
     requires { length names.now ≤ 24 }
     ensures { Gives (λ x. x) result (word_text (finding (map string_bytes names.now)) text.now) }
