@@ -1,0 +1,87 @@
+-- Lists of terms in falling order: what taking out, putting in and joining keeps.
+use Rattle.std.proofs.Common.{◌≡◌, ◌≢◌, ℕ, ◌+◌, ◌≤◌, ℤ, pos, ◌+ℤ◌, ◌-ℤ◌, ◌*ℤ◌, Bool, true, false, cond, List, [], ◌∷◌, ◌++◌, length, ◌⊎◌, inl, inr, refl, sym, ap, ◌∙◌, arith, subst}
+use Rattle.std.specs.List.{AllByRecursion}
+use borrow.Author.Differences.{ints}
+use Rattle.std.proofs.Math.IntN.{+ℤ_idl, +ℤ_idr}
+use Rattle.formal_sums.specs.FormalSum.{FormalSum, coefficient, scale, rename, AllBelow, AllAbove, Falling}
+use Rattle.formal_sums.proofs.Falling.{coefficient-above, coefficient-below, AllBelow_transitive, AllAbove_transitive}
+use Rattle.module_vec.specs.declared.places.Place.{Place}
+use Rattle.module_vec.specs.declared.places.Term.{Term}
+use Rattle.module_vec.specs.Places.{IsBelow, same_place}
+use Rattle.module_vec.specs.Vectors.{sum_of, coefficient_at, IsTerm, IsSparse}
+use Rattle.module_vec.proofs.Order.{test, order}
+
+module _ {A : Type 0} (P : A → Type 0) where
+  pub all_insert : (a : List A) (x : A) (b : List A) → AllByRecursion P (a ++ b) → P x → AllByRecursion P (a ++ x ∷ b)
+  all_insert [] x b h p = (p, h)
+  all_insert (s ∷ a) x b h p = (h.0, all_insert a x b h.1 p)
+
+  pub all_remove : (a : List A) (x : A) (b : List A) → AllByRecursion P (a ++ x ∷ b) → AllByRecursion P (a ++ b)
+  all_remove [] x b h = h.1
+  all_remove (s ∷ a) x b h = (h.0, all_remove a x b h.1)
+
+  pub all_front : (a b : List A) → AllByRecursion P (a ++ b) → AllByRecursion P a
+  all_front [] b h = tt
+  all_front (s ∷ a) b h = (h.0, all_front a b h.1)
+
+  pub all_back : (a b : List A) → AllByRecursion P (a ++ b) → AllByRecursion P b
+  all_back [] b h = h
+  all_back (s ∷ a) b h = all_back a b h.1
+
+  pub all_join : (a b : List A) → AllByRecursion P a → AllByRecursion P b → AllByRecursion P (a ++ b)
+  all_join [] b h g = g
+  all_join (s ∷ a) b h g = (h.0, all_join a b h.1 g)
+
+-- terms above and below a place, and in falling order
+abbrev pub Above : Place → List Term → Type 0
+Above p v = AllAbove IsBelow p (sum_of v)
+
+abbrev pub Below : Place → List Term → Type 0
+Below p v = AllBelow IsBelow p (sum_of v)
+
+abbrev pub Falls : List Term → Type 0
+Falls v = Falling IsBelow (sum_of v)
+
+pub above_join : (p : Place) (a b : List Term) → Above p a → Above p b → Above p (a ++ b)
+above_join p [] b h g = g
+above_join p (s ∷ a) b h g = (h.0, above_join p a b h.1 g)
+
+pub below_back : (p : Place) (a b : List Term) → Below p (a ++ b) → Below p b
+below_back p [] b h = h
+below_back p (s ∷ a) b h = below_back p a b h.1
+
+below_insert : (p : Place) (a : List Term) (x : Term) (b : List Term) → Below p (a ++ b) → IsBelow x.at p → Below p (a ++ x ∷ b)
+below_insert p [] x b h e = (e, h)
+below_insert p (s ∷ a) x b h e = (h.0, below_insert p a x b h.1 e)
+
+below_remove : (p : Place) (a : List Term) (x : Term) (b : List Term) → Below p (a ++ x ∷ b) → Below p (a ++ b)
+below_remove p [] x b h = h.1
+below_remove p (s ∷ a) x b h = (h.0, below_remove p a x b h.1)
+
+pub falls_insert : (a : List Term) (x : Term) (b : List Term) → Falls (a ++ b) → Above x.at a → Below x.at b → Falls (a ++ x ∷ b)
+falls_insert [] x b f above below = (below, f)
+falls_insert (s ∷ a) x b f above below = (below_insert s.at a x b f.0 above.0, falls_insert a x b f.1 above.1 below)
+
+pub falls_remove : (a : List Term) (x : Term) (b : List Term) → Falls (a ++ x ∷ b) → Falls (a ++ b)
+falls_remove [] x b f = f.1
+falls_remove (s ∷ a) x b f = (below_remove s.at a x b f.0, falls_remove a x b f.1)
+
+pub falls_back : (a b : List Term) → Falls (a ++ b) → Falls b
+falls_back [] b f = f
+falls_back (s ∷ a) b f = falls_back a b f.1
+
+-- below the first of falling terms stand the others
+pub below_from_first : (p : Place) (t : Term) (v : List Term) → IsBelow t.at p → Falls (t ∷ v) → Below p (t ∷ v)
+below_from_first p t v h f = (h, AllBelow_transitive test order t.at p h (sum_of v) f.0)
+
+-- ---- coefficients
+
+pub at_join : (a b : List Term) (x : Place) → coefficient_at (a ++ b) x ≡ coefficient_at a x +ℤ coefficient_at b x
+at_join [] b x = sym (+ℤ_idl (coefficient_at b x))
+at_join (s ∷ a) b x = omega (arith, ints, at_join a b x)
+
+pub at_above : (p : Place) (v : List Term) → Below p v → coefficient_at v p ≡ pos 0
+at_above p v h = coefficient-above test order p (sum_of v) h
+
+pub at_below : (p : Place) (v : List Term) → Above p v → coefficient_at v p ≡ pos 0
+at_below p v h = coefficient-below test order p (sum_of v) h

@@ -1,0 +1,3 @@
+pub mod Places
+pub mod Vectors
+pub mod Results

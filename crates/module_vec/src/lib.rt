@@ -1,0 +1,25 @@
+//! Sparse vectors over the integers: finite maps from places to nonzero coefficients.
+//!
+//! A place is a monomial and a component. A `ModVec` keeps its terms in strictly falling order of their places, in one
+//! allocation, and contracts see it as the list of its terms. What a call answers is stated by coefficients, over the
+//! formal sums of the crate `formal_sums`: such a sum is given by its coefficients alone.
+//!
+//! Coefficients stand in a range of 128 bits, and a vector has a limited number of terms. A result that leaves the range
+//! is named as wide, at the greatest place where that happens, and one with too many terms as long.
+#![tactic(auto)]
+
+mod differences;
+mod faults;
+mod places;
+mod sums;
+mod vectors;
+
+pub use faults::{Stop, VecFault};
+pub use places::{Place, Term};
+pub use vectors::ModVec;
+
+/// The greatest absolute value of a coefficient, 2^127 - 1.
+pub const COEFFICIENT: u128 = 170_141_183_460_469_231_731_687_303_715_884_105_727;
+
+/// The most terms that a vector has.
+pub const TERMS: u32 = 50_000;
