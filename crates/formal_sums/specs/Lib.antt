@@ -2,3 +2,4 @@ pub mod FormalSum
 pub mod Keys
 pub mod Evaluation
 pub mod IntegerTuple
+pub mod Span

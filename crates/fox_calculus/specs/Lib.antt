@@ -1,0 +1,3 @@
+pub mod Fox
+pub mod Generators
+pub mod Module

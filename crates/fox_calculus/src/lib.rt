@@ -1,0 +1,2 @@
+//! Fox's free differential calculus, and the module of a presentation.
+#![tactic(auto)]
