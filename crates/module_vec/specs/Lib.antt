@@ -1,3 +1,4 @@
 pub mod Places
 pub mod Vectors
 pub mod Results
+pub mod Merging

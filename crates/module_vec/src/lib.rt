@@ -11,11 +11,13 @@
 mod differences;
 mod faults;
 mod places;
+mod range;
 mod sums;
 mod vectors;
 
 pub use faults::{Stop, VecFault};
 pub use places::{Place, Term};
+pub use range::{checked_difference, checked_product};
 pub use vectors::ModVec;
 
 /// The greatest absolute value of a coefficient, 2^127 - 1.
