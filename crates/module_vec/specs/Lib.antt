@@ -2,3 +2,4 @@ pub mod Places
 pub mod Vectors
 pub mod Results
 pub mod Merging
+pub mod Collecting
