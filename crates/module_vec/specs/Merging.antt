@@ -1,6 +1,7 @@
 -- How the terms of a vector and those of a multiple are merged.
 use Rattle.std.specs.Ordering.{is_gt}
-use Rattle.std.specs.Prelude.{◌≡◌, ◌≢◌, ◌⊎◌, ℕ, ℤ, pos, ◌-ℤ◌, ◌*ℤ◌, Bool, List, [], ◌∷◌, ◌++◌, Option, Some, None}
+use Rattle.std.specs.Prelude.{◌≡◌, ◌≢◌, ◌⊎◌, ℕ, ℤ, pos, ◌-ℤ◌, ◌*ℤ◌, Bool, List, [], ◌∷◌, ◌++◌, Option, Some, None, Result, Ok, Err, length, ◌<◌, ◌≤◌}
+use Rattle.module_vec.specs.declared.TheConstants.{TERMS}
 use Rattle.formal_sums.specs.FormalSum.{AllAbove}
 use Rattle.module_vec.specs.declared.places.Place.{Place}
 use Rattle.module_vec.specs.declared.places.Term.{Term}
@@ -56,3 +57,12 @@ TakesFirst p v k v' = (v ≡ record { at = p; k = k } ∷ v') ⊎ ((k ≡ pos 0)
 abbrev pub Reduces : ℤ → ℤ → ℤ → Option ℤ → Type 0
 Reduces a q k None = IsWide (q *ℤ k) ⊎ IsWide (a -ℤ q *ℤ k)
 Reduces a q k (Some z) = (z ≡ a -ℤ q *ℤ k) × InRange z × InRange (q *ℤ k)
+
+-- the vector with the terms v, or their number where that passes the limit
+abbrev pub IsLimited : List Term → Result (List Term) VecFault → Type 0
+IsLimited v (Ok made) = (made ≡ v) × (length v ≤ TERMS)
+IsLimited v (Err (faults.Stop (Wide p n))) = ⊥
+IsLimited v (Err (faults.Stop (Long terms n))) = (n ≡ 0) × (terms ≡ length v) × (TERMS < length v)
+IsLimited v (Err (faults.Stop Deep)) = ⊥
+IsLimited v (Err (faults.Stop (Steep d))) = ⊥
+IsLimited v (Err faults.NoMemory) = ⊥

@@ -9,6 +9,7 @@
 #![tactic(auto)]
 
 mod differences;
+mod falling;
 mod faults;
 mod places;
 mod range;
