@@ -1,5 +1,8 @@
 -- Lists of terms in falling order: what taking out, putting in and joining keeps.
-use Rattle.std.proofs.Common.{◌≡◌, ◌≢◌, ℕ, ◌+◌, ◌≤◌, ℤ, pos, ◌+ℤ◌, ◌-ℤ◌, ◌*ℤ◌, Bool, true, false, cond, List, [], ◌∷◌, ◌++◌, length, ◌⊎◌, inl, inr, refl, sym, ap, ◌∙◌, arith, subst}
+use Rattle.std.proofs.Common.{◌≡◌, ◌≢◌, ℕ, ◌+◌, ◌≤◌, ℤ, pos, ◌+ℤ◌, ◌-ℤ◌, ◌*ℤ◌, Bool, true, false, cond, List, [], ◌∷◌, ◌++◌, length, drop, get_or, zero, suc, ◌<◌, ◌⊎◌, inl, inr, refl, sym, ap, ◌∙◌, arith, subst}
+use Rattle.std.proofs.lemmas.List.{drop_more}
+use Rattle.laurent_terms.specs.declared.TheConstants.{DEGREE}
+use Rattle.laurent_terms.specs.Monomials.{degree}
 use Rattle.std.specs.List.{AllByRecursion}
 use borrow.Author.Differences.{ints}
 use Rattle.std.proofs.Math.IntN.{+ℤ_idl, +ℤ_idr}
@@ -8,8 +11,8 @@ use Rattle.formal_sums.proofs.Falling.{coefficient-above, coefficient-below, All
 use Rattle.module_vec.specs.declared.places.Place.{Place}
 use Rattle.module_vec.specs.declared.places.Term.{Term}
 use Rattle.module_vec.specs.Places.{IsBelow, same_place}
-use Rattle.module_vec.specs.Vectors.{sum_of, coefficient_at, IsTerm, IsSparse}
-use Rattle.module_vec.proofs.Order.{test, order}
+use Rattle.module_vec.specs.Vectors.{sum_of, coefficient_at, IsTerm, IsSparse, HasRoom}
+use Rattle.module_vec.proofs.Order.{test, order, below_degree}
 
 module _ {A : Type 0} (P : A → Type 0) where
   pub all_insert : (a : List A) (x : A) (b : List A) → AllByRecursion P (a ++ b) → P x → AllByRecursion P (a ++ x ∷ b)
@@ -85,3 +88,30 @@ at_above p v h = coefficient-above test order p (sum_of v) h
 
 pub at_below : (p : Place) (v : List Term) → Above p v → coefficient_at v p ≡ pos 0
 at_below p v h = coefficient-below test order p (sum_of v) h
+
+-- ---- the back of a list
+
+pub all_drop : {A : Type 0} (P : A → Type 0) (n : ℕ) (v : List A) → AllByRecursion P v → AllByRecursion P (drop n v)
+all_drop P zero v h = h
+all_drop P (suc n) [] h = tt
+all_drop P (suc n) (t ∷ v) h = all_drop P n v h.1
+
+pub falls_drop : (n : ℕ) (v : List Term) → Falls v → Falls (drop n v)
+falls_drop zero v f = f
+falls_drop (suc n) [] f = tt
+falls_drop (suc n) (t ∷ v) f = falls_drop n v f.1
+
+-- what is left of a list after n of its elements, the next of which is x
+pub drop_read : {A : Type 0} (v : List A) (n : ℕ) (x : A) → n < length v → x ≡ get_or v n x → drop n v ≡ x ∷ drop (n + 1) v
+drop_read v n x h e = drop_more v n x h ∙ ap (λ y. y ∷ drop (n + 1) v) (sym e)
+
+-- ---- degrees
+
+-- the lead has the greatest degree
+pub room_each : (t : List ℕ) (g : List Term) → Falls g → HasRoom t g → AllByRecursion (λ u. degree t + degree u.at.m ≤ DEGREE) g
+room_each t [] f h = tt
+room_each t (e ∷ g) f h = (h, each g f.0)
+  where
+    each : (w : List Term) → Below e.at w → AllByRecursion (λ u. degree t + degree u.at.m ≤ DEGREE) w
+    each [] below = tt
+    each (u ∷ w) below = (omega (arith, h, below_degree u.at e.at below.0), each w below.1)

@@ -45,3 +45,12 @@ moved_cmp t p q e f = rw (mono_cmp-product t p.m q.m e f) refl
 
 pub moved_below : (t : List ℕ) (p q : Place) → length p.m ≡ length t → length q.m ≡ length t → IsBelow p q → IsBelow (moved t p) (moved t q)
 moved_below t p q e f h = moved_cmp t p q e f ∙ h
+
+-- the greater place has no smaller degree
+pub below_degree : (p q : Place) → IsBelow p q → degree p.m ≤ degree q.m
+below_degree p q h = by (nat_cmp (degree p.m) (degree q.m)) refl
+  where
+    by : (r : Ordering) → nat_cmp (degree p.m) (degree q.m) ≡ r → degree p.m ≤ degree q.m
+    by Less e = grind arith
+    by Equal e = grind arith
+    by Greater e = let wrong : Greater ≡ Less = sym (rw e refl) ∙ h in cc

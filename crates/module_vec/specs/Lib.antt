@@ -1,3 +1,5 @@
 pub mod Places
 pub mod Vectors
 pub mod Results
+pub mod Merging
+pub mod Collecting

@@ -1,1 +1,83 @@
-//! x
+//! A multiple of one vector taken from another: their terms are merged once.
+
+ghost use Rattle.std.specs.Prelude.{◌≡◌, ◌≤◌, ◌+◌, length, MatchResult, IfOk, take_while};
+ghost use Rattle.module_vec.specs.Vectors.{coefficient_at, multiple_at, difference_at, InRange, IsVector, HasRoom};
+ghost use Rattle.module_vec.specs.Results.{DifferenceIsWide};
+ghost use Rattle.module_vec.specs.Merging.{IsFound, FailsBy, Passes, TakesFirst, Reduces, stands_above};
+
+use crate::range::{checked_difference, checked_product};
+use crate::{Place, Stop, Term, VecFault};
+use laurent_terms::Mono;
+use std::alloc::{AllocError, Global};
+
+/// The terms of `v - q·t·g`, of which there may be more than a vector has.
+pub fn difference(alloc: Global, v: &[Term], q: i128, t: &Mono, g: &[Term]) -> Result<Vec<Term>, VecFault>
+    requires v { IsVector v.now }
+    requires g { IsVector g.now }
+    requires range { InRange q }
+    requires room { HasRoom t.now g.now }
+    ensures {
+        let f = coefficient_at v.now in
+        let multiple = multiple_at q t.now g.now in
+        let IsWideAt = DifferenceIsWide f multiple in
+        MatchResult result
+            (λ made. IsFound IsWideAt (difference_at f multiple) made.items × (length made.items ≤ length v.now + length g.now))
+            (FailsBy IsWideAt)
+    }
+{
+    // The proof needs that t is a monomial, and the call says so.
+    let _ = t.degree();
+    let mut made = Vec::with_capacity(alloc, v.len() + g.len())?;
+    let mut rest = v;
+    for term in g {
+        let at = Place {
+            m: t.product(&term.at.m),
+            c: term.at.c,
+        };
+        let from = pass(&mut made, rest, &at)?;
+        let (before, behind) = take_first(from, &at);
+        rest = behind;
+        let Some(k) = reduced(before, q, term.k) else {
+            return Err(VecFault::Stop(Stop::Wide { at, step: 0 }));
+        };
+        if k != 0 {
+            made.push(Term { at, k })?;
+        }
+    }
+    made.extend_from_slice(rest)?;
+    Ok(made)
+}
+
+/// Moves what stands above `at` from the front of `rest` to the end of `made`, and gives what is left of `rest`.
+fn pass<'a>(made: &mut Vec<Term>, rest: &'a [Term], at: &Place) -> Result<&'a [Term], AllocError>
+    ensures { IfOk result (λ left. Passes at.now made.old.items rest.now made.new.items left.now) }
+{
+    let (front, left) = rest.split_at(count_above(rest, at));
+    made.extend_from_slice(front)?;
+    Ok(left)
+}
+
+/// How many terms at the front of `v` stand above `at`.
+fn count_above(v: &[Term], at: &Place) -> usize
+    ensures is { result ≡ length (take_while (stands_above at.now) v.now) }
+    ensures bound { result ≤ length v.now }
+{
+    v.iter().take_while(|u| u.at.compare(at).is_gt()).count()
+}
+
+/// The coefficient of the first term, if that stands at `at`, and the terms behind it.
+fn take_first<'a>(rest: &'a [Term], at: &Place) -> (i128, &'a [Term])
+    ensures { TakesFirst at.now rest.now result.0 result.1.now }
+{
+    match rest.split_first() {
+        Some((first, behind)) if first.at == *at => (first.k, behind),
+        _ => (0, rest),
+    }
+}
+
+/// `before - q * k`, or `None` where the product or the difference leaves the range.
+fn reduced(before: i128, q: i128, k: i128) -> Option<i128>
+    ensures { Reduces before q k result }
+{
+    checked_difference(before, checked_product(q, k)?)
+}

@@ -9,13 +9,16 @@
 #![tactic(auto)]
 
 mod differences;
+mod falling;
 mod faults;
 mod places;
+mod range;
 mod sums;
 mod vectors;
 
 pub use faults::{Stop, VecFault};
 pub use places::{Place, Term};
+pub use range::{checked_difference, checked_product};
 pub use vectors::ModVec;
 
 /// The greatest absolute value of a coefficient, 2^127 - 1.

@@ -2,10 +2,15 @@
 
 ghost use Rattle.std.specs.Prelude.{◌≡◌, ℤ, negsuc, ◌*ℤ◌, ◌<◌, ◌^◌, length, [], slice_get};
 ghost use Rattle.formal_sums.specs.FormalSum.{scale};
-ghost use Rattle.module_vec.specs.Vectors.{sum_of, coefficient_at, multiple_at, difference_at, InRange, IsVector, HasRoom};
+ghost use Rattle.module_vec.specs.Vectors.{sum_of, coefficient_at, multiple_at, difference_at, InRange, IsSparse, IsVector, HasRoom};
 ghost use Rattle.module_vec.specs.Results.{SumIsWide, DifferenceIsWide, Makes};
+ghost use Rattle.module_vec.specs.Merging.{IsLimited};
 
-use crate::Term;
+use crate::differences::difference;
+use crate::falling::{coefficient, negate};
+use crate::sums::sum;
+use crate::{Place, Stop, TERMS, Term, VecFault};
+use laurent_terms::Mono;
 use std::alloc::Global;
 use std::marker::Model;
 
@@ -60,4 +65,62 @@ impl ModVec {
     {
         self.terms.first().copied()
     }
+
+    /// The coefficient at the place, 0 where the vector has no term there.
+    pub fn coefficient(&self, at: &Place) -> i128
+        ensures { result ≡ coefficient_at self.now at.now }
+    {
+        coefficient(self.terms.as_slice(), at)
+    }
+
+    /// The sum of the terms, in any order and with any coefficients of 128 bits; there are fewer than 2^32 of them.
+    ///
+    /// `Wide` names the greatest place at which the whole sum leaves the range of coefficients, and `Long` comes where
+    /// none does and the sum has more than [`TERMS`](crate::TERMS) terms.
+    pub fn from_terms(alloc: Global, list: &[Term]) -> Result<ModVec, VecFault>
+        requires { length list.now < 2 ^ 32 }
+        ensures { let f = coefficient_at list.now in Makes (SumIsWide f) f result }
+    {
+        limited(sum(alloc, list)?)
+    }
+
+    /// Turns the sign of each coefficient.
+    pub fn negate(&mut self)
+        ensures { sum_of self.new ≡ scale (negsuc 0) (sum_of self.old) }
+    {
+        negate(self.terms.as_mut_slice());
+    }
+
+    /// `self - q·t·g`. The degree of t and the greatest degree in g add up to at most
+    /// [`DEGREE`](laurent_terms::DEGREE).
+    ///
+    /// `Wide` names the greatest place at which a product or a difference leaves the range of coefficients, and `Long`
+    /// comes where none does and the result has more than [`TERMS`](crate::TERMS) terms.
+    pub fn sub_multiple(&self, alloc: Global, q: i128, t: &Mono, g: &ModVec) -> Result<ModVec, VecFault>
+        requires range { InRange q }
+        requires room { HasRoom t.now g.now }
+        ensures {
+            let f = coefficient_at self.now in
+            let multiple = multiple_at q t.now g.now in
+            Makes (DifferenceIsWide f multiple) (difference_at f multiple) result
+        }
+    {
+        limited(difference(alloc, self.terms(), q, t, g.terms())?)
+    }
+}
+
+/// The vector with these terms, where they are not too many.
+fn limited(terms: Vec<Term>) -> Result<ModVec, VecFault>
+    requires sparse { IsSparse terms.items }
+    requires count { length terms.items < 2 ^ 32 }
+    ensures { IsLimited terms.items result }
+{
+    let count = terms.len() as u32;
+    if count > TERMS {
+        return Err(VecFault::Stop(Stop::Long {
+            terms: count,
+            step: 0,
+        }));
+    }
+    Ok(ModVec { terms })
 }

@@ -1,0 +1,25 @@
+use Rattle.std.proofs.Common.{rules, arith, ◌≡◌, ◌≤◌, ◌<◌, ◌+◌, ◌++◌, ℕ, ℤ, pos, ◌-ℤ◌, List, length, take, drop, map, get_or, set, subst, ap, sym, ◌∙◌, FitsSigned, to_z, of_z}
+use Rattle.std.specs.Prelude.{neg_ℤ, slice_set}
+use mir.Syntax.{w128}
+use borrow.Author.Differences.{ints}
+use Rattle.std.proofs.lemmas.Int.{to_z-of_z}
+use Rattle.std.proofs.lemmas.List.Edits.{map_over_more}
+use Rattle.module_vec.specs.declared.places.Term.{Term}
+use Rattle.module_vec.specs.Vectors.{sum_of, InRange, IsTerm}
+use Rattle.module_vec.proofs.Lookups.{turned, still, all_read, all_turned, sum_turned, narrow_turn}
+use Rattle.module_vec.proofs.falling.negate.Goals as goal
+
+pub loop-t-preserved : goal.loop-t-preserved
+loop-t-preserved c =
+    let old = still c.args.terms.now c.loop-t.terms c.loop-t.t-index c.t-item.result c.loop-t-test.true c.loop-t.invariant c.t-item.is in
+    let term : IsTerm (get_or c.args.terms.now c.loop-t.t-index c.t-item.result) = all_read IsTerm c.args.terms.now c.loop-t.t-index c.t-item.result c.loop-t-test.true c.requires in
+    let y : Term = get_or c.loop-t.terms c.loop-t.t-index c.t-item.result in
+    let same : get_or c.args.terms.now c.loop-t.t-index c.t-item.result ≡ y = sym old ∙ c.t-item.is in
+    let range : InRange y.k = subst (λ (t : Term). InRange t.k) same term.range in
+    let sign : to_z w128 (of_z w128 (pos 0 -ℤ to_z w128 (of_z w128 y.k))) ≡ neg_ℤ y.k = narrow_turn y.k range in
+    ap (λ k. set c.loop-t.terms c.loop-t.t-index (record { at = y.at; k = k })) sign
+    ∙ ap (λ t. set c.loop-t.terms c.loop-t.t-index (turned t)) (sym c.t-item.is)
+    ∙ map_over_more turned c.args.terms.now c.loop-t.terms c.loop-t.t-index c.t-item.result c.loop-t-test.true c.loop-t.invariant c.t-item.is
+
+pub returns : goal.returns
+returns c = ap sum_of (all_turned c.args.terms.now c.loop-t.terms c.loop-t.t-index c.loop-t-test.false c.loop-t.invariant) ∙ sum_turned c.args.terms.now

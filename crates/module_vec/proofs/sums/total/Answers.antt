@@ -1,0 +1,19 @@
+use Rattle.std.proofs.Common.{rules, arith, ◌≡◌, ◌≤◌, ◌<◌, ◌+◌, ℤ, ◌+ℤ◌, take, ap, ◌∙◌, FitsSigned, to_z, of_z}
+use mir.Syntax.{w128}
+use borrow.Author.Differences.{ints}
+use Rattle.std.proofs.lemmas.Int.{to_z-of_z}
+use Rattle.std.proofs.lemmas.List.{take_more}
+use Rattle.std.proofs.lemmas.List.{get_or_read}
+use Rattle.module_vec.specs.Collecting.{total_of, value_of}
+use Rattle.module_vec.proofs.Collecting.{total_more}
+use Rattle.module_vec.proofs.sums.total.Goals as goal
+
+pub loop-t-preserved : goal.loop-t-preserved
+loop-t-preserved c =
+    let k : FitsSigned w128 c.t-item.result.k = search rules in
+    let sum = simp to_z-of_z at c.plus-total.ensures.value in
+    let more = total_more c.args.terms.now c.loop-t.t-index c.t-item.result c.loop-t-test.true c.t-item.is in
+    record {
+      value = omega (arith, ints, sum, more, c.loop-t.invariant.value);
+      carry = omega (arith, c.plus-total.ensures.carry, c.loop-t.invariant.carry);
+    }
