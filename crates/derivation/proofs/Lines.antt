@@ -22,7 +22,7 @@ no_end b = not (b == 10)
 pub lines-first : (bs : List ℕ) → lines_of bs ≡ take (prefix_len no_end bs) bs ∷ later_lines (drop (prefix_len no_end bs) bs)
 lines-first [] = refl
 lines-first (b ∷ bs) = by (b == 10) refl (lines-first bs)
-    where
+  where
     by : (t : Bool) → (b == 10) ≡ t → lines_of bs ≡ take (prefix_len no_end bs) bs ∷ later_lines (drop (prefix_len no_end bs) bs)
         → lines_of (b ∷ bs) ≡ take (prefix_len no_end (b ∷ bs)) (b ∷ bs) ∷ later_lines (drop (prefix_len no_end (b ∷ bs)) (b ∷ bs))
     by true e so = rw e refl

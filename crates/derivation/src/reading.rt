@@ -56,11 +56,7 @@ fn read_line(
 
 /// The moves that the text spells, one a line. Lines of blanks alone have none. A fault has the number of its line, and
 /// its column there.
-pub fn read_derivation(
-    alloc: Global,
-    p: &Presentation,
-    text: &[u8],
-) -> Result<Vec<Move>, ReadFault>
+pub fn read_derivation(alloc: Global, p: &Presentation, text: &[u8]) -> Result<Vec<Move>, ReadFault>
     // Which moves, or which fault, and where.
     ensures exact { ReadsMoves (derivation_text p.now text.now) result }
     // Letters and words are over the presentation, and the words are within the limit on written words.

@@ -80,8 +80,11 @@ fn shown(alloc: Global, moves: &[Move]) -> Result<String, AllocError> {
 }
 
 const COMMUTING: &str = "<a, b | a b a^-1 b^-1, a^2>";
+
 const WITH_MODULUS: &str = "<a, b | > modulus 2";
+
 const LARGE_MODULUS: &str = "<a, b | > modulus 1000000000";
+
 const LONG_RELATOR: &str = "<a, b | a^16384>";
 
 #[test]
@@ -139,8 +142,18 @@ fn moves_are_refused(rt: HostRuntime) {
         (COMMUTING, "a b", "ins 3 pow a, b", MoveReason::Place),
         (COMMUTING, "a b", "ins 0 rel 0", MoveReason::NoRelator),
         (COMMUTING, "a b", "del 2 rel 3 inv", MoveReason::NoRelator),
-        (COMMUTING, "[a, b]^2", "del 0 pow a, b", MoveReason::NoModulus),
-        (COMMUTING, "a^16384", "ins 0 pow a^9000, b", MoveReason::NoModulus),
+        (
+            COMMUTING,
+            "[a, b]^2",
+            "del 0 pow a, b",
+            MoveReason::NoModulus,
+        ),
+        (
+            COMMUTING,
+            "a^16384",
+            "ins 0 pow a^9000, b",
+            MoveReason::NoModulus,
+        ),
         (COMMUTING, "a b a^-1", "del 0 pair a", MoveReason::NotThere),
         (COMMUTING, "a a^-1", "del 0 pair a^-1", MoveReason::NotThere),
         (COMMUTING, "b a", "del 1 pair a", MoveReason::NotThere),
@@ -154,11 +167,26 @@ fn moves_are_refused(rt: HostRuntime) {
             "del 0 dbl b, a, a, b",
             MoveReason::NotThere,
         ),
-        (WITH_MODULUS, "[a, b]", "del 0 pow a, b", MoveReason::NotThere),
-        (WITH_MODULUS, "[b, a]^2", "del 0 pow a, b", MoveReason::NotThere),
+        (
+            WITH_MODULUS,
+            "[a, b]",
+            "del 0 pow a, b",
+            MoveReason::NotThere,
+        ),
+        (
+            WITH_MODULUS,
+            "[b, a]^2",
+            "del 0 pow a, b",
+            MoveReason::NotThere,
+        ),
         (LARGE_MODULUS, "a", "ins 0 pow a, b", MoveReason::TooLong),
         (LARGE_MODULUS, "a", "del 0 pow a, b", MoveReason::NotThere),
-        (LONG_RELATOR, "a^16384", "ins 9 pow a, b", MoveReason::NoModulus),
+        (
+            LONG_RELATOR,
+            "a^16384",
+            "ins 9 pow a, b",
+            MoveReason::NoModulus,
+        ),
         (
             LONG_RELATOR,
             "1",
@@ -336,7 +364,12 @@ fn faults_have_their_places(rt: HostRuntime) {
         // Later lines.
         ("ins 0 pow a\n, b", 1, 12, TextKind::Expected),
         ("ins 0 pow a, \n b", 2, 2, TextKind::Expected),
-        ("ins 0 pair a\r\n\r\n ins 0 rel 1 \u{a7}\n\0", 3, 14, TextKind::BadByte),
+        (
+            "ins 0 pair a\r\n\r\n ins 0 rel 1 \u{a7}\n\0",
+            3,
+            14,
+            TextKind::BadByte,
+        ),
         ("\n\ndel 0", 3, 6, TextKind::Expected),
         ("ins 0 pair a\ndel", 2, 4, TextKind::Expected),
     ] {
