@@ -9,6 +9,9 @@ mod top;
 mod words;
 mod writing;
 
+#[cfg(test)]
+mod tests;
+
 pub use status::Status;
 pub use top::metab_alone;
 

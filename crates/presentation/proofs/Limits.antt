@@ -3,16 +3,19 @@ use Rattle.std.proofs.Common.{inl, ◌≡◌, ℕ, ◌<◌, Bool, true, false, L
 use Rattle.std.specs.List.{AllByRecursion}
 use Rattle.std.proofs.lemmas.List.Sums.{take_while-cons}
 use Rattle.free_words.specs.declared.letter.Letter.{Letter}
+use Rattle.free_words.proofs.OverLemmas.{IsOver-append, IsOver-inverse}
 use Rattle.word_text.specs.declared.scan.Mark.TheVariants as marks
 use Rattle.word_text.specs.Scan.{is_name_byte, after_blanks, name_at, after_name, mark_byte, mark_of}
 use Rattle.word_text.specs.Machine.{Find, finding}
 use Rattle.word_text.specs.Grammar.{Product}
 use Rattle.word_text.proofs.Marks.{name_some}
-use Rattle.word_text.proofs.Tails.{Tail, spelled}
+use Rattle.word_text.specs.Powers.{written}
+use Rattle.word_text.proofs.Tails.{Tail}
+use Rattle.word_text.proofs.Suffixes.{spelled}
 use Rattle.presentation.specs.Presented.{IsName, IsWritten, IsPresented}
 use Rattle.presentation.specs.Grammar.{NameAt, NamesAt, RelatorAt, SomeRelatorsAt, RelatorsAt, PresentationAt}
 use Rattle.presentation.proofs.Ends.{join, blanks, name, first}
-use Rattle.presentation.proofs.Written.{over_append, over_inverse, product_written}
+use Rattle.presentation.proofs.Written.{product_written}
 
 -- a name is the name at its own head
 again_by : (p : ℕ → Bool) (b : ℕ) (bs : List ℕ) (t : Bool) → p b ≡ t → take_while p (take_while p bs) ≡ take_while p bs
@@ -53,7 +56,7 @@ is_written names _ _ _ (RelatorAt.word s bs rest w h) = product_written names s 
 is_written names _ _ _ (RelatorAt.equation s t bs mid rest u v h e k le) =
     let a = product_written names s (after_blanks bs) u mid h in
     let b = product_written names t (after_blanks (drop 1 mid)) v rest k in
-    (over_append (length names) u _ a.0 (over_inverse (length names) v b.0), le)
+    (IsOver-append (length names) u _ a.0 (IsOver-inverse (length names) v b.0), le)
 
 some_written : (names : List (List ℕ)) (bs : List ℕ) (rs : List (List Letter)) (rest : List ℕ) → SomeRelatorsAt (finding names) bs rs rest
     → AllByRecursion (IsWritten (length names)) rs
@@ -92,11 +95,11 @@ names_end bs (n ∷ m ∷ ns) rest h =
     join bs h.0 rest (name_end bs n h.0 h.1) (join h.0 (drop 1 h.0) rest (first h.0) (names_end (drop 1 h.0) (m ∷ ns) rest h.3))
 
 relator_end : (find : Find) (bs : List ℕ) (w : List Letter) (rest : List ℕ) → RelatorAt find bs w rest → Tail bs rest
-relator_end find _ _ _ (RelatorAt.word s bs rest w h) = join bs (after_blanks bs) rest (blanks bs) (spelled find (Product s) (after_blanks bs) w rest h)
+relator_end find _ _ _ (RelatorAt.word s bs rest w h) = join bs (after_blanks bs) rest (blanks bs) (spelled written find (Product s) (after_blanks bs) w rest h)
 relator_end find _ _ _ (RelatorAt.equation s t bs mid rest u v h e k le) =
     let next : List ℕ = after_blanks (drop 1 mid) in
-    join bs (after_blanks bs) rest (blanks bs) (join (after_blanks bs) mid rest (spelled find (Product s) (after_blanks bs) u mid h)
-    (join mid (drop 1 mid) rest (first mid) (join (drop 1 mid) next rest (blanks (drop 1 mid)) (spelled find (Product t) next v rest k))))
+    join bs (after_blanks bs) rest (blanks bs) (join (after_blanks bs) mid rest (spelled written find (Product s) (after_blanks bs) u mid h)
+    (join mid (drop 1 mid) rest (first mid) (join (drop 1 mid) next rest (blanks (drop 1 mid)) (spelled written find (Product t) next v rest k))))
 
 some_end : (find : Find) (bs : List ℕ) (rs : List (List Letter)) (rest : List ℕ) → SomeRelatorsAt find bs rs rest → Tail bs rest
 some_end find bs [] rest h = absurd h

@@ -7,11 +7,11 @@ use Rattle.word_text.specs.declared.scan.Mark.TheVariants as marks
 use Rattle.word_text.specs.declared.machine.Spot.{Spot}
 use Rattle.word_text.specs.declared.machine.Spot.TheVariants.{Start, After}
 use Rattle.word_text.specs.Scan.{first_is, is_blank, is_letter, is_digit, is_name_byte, is_known, after_blanks, mark_byte}
-use Rattle.word_text.specs.Powers.{written, powers_at}
-use Rattle.word_text.specs.Machine.{Find, finding, goes_on, factor_ends, turn, word_from, word_at}
-use Rattle.word_text.specs.Place.{word_text}
+use Rattle.word_text.specs.Powers.{written, powers_within}
+use Rattle.word_text.specs.Machine.{Find, finding, goes_on, factor_ends, turn, word_from, word_at, word_within}
+use Rattle.word_text.specs.Place.{word_text, text_within}
 use Rattle.word_text.specs.Grammar.{IsWord}
-use Rattle.word_text.proofs.Soundness.{no_blanks, blanks_once}
+use Rattle.word_text.proofs.Lexing.{no_blanks, blanks_once}
 use Rattle.word_text.proofs.Reached.{text_spelled}
 use Rattle.presentation.specs.declared.runs.Run.{Run}
 use Rattle.presentation.specs.Presented.{Presented, IsPresented, IsWritten, IsName, AreDistinct}
@@ -53,7 +53,7 @@ more_is names r rs rest = simp append_assoc
 
 pub chain : (names : List (List ℕ)) (known : AreNames names) (r : Run) (rs : List Run) (outer : List Letter) (spot : Spot) (rest : List ℕ) (fuel : ℕ)
     → AreOver (length names) (r ∷ rs) → length (outer ++ expanded (r ∷ rs)) ≤ written → Ends rest → length (text_of names r (more names rs rest)) < fuel
-    → word_from fuel (finding names) (at outer spot) (text_of names r (more names rs rest)) ≡ Ok (outer ++ expanded (r ∷ rs), after_blanks rest)
+    → word_from written fuel (finding names) (at outer spot) (text_of names r (more names rs rest)) ≡ Ok (outer ++ expanded (r ∷ rs), after_blanks rest)
 chain names known r rs outer spot rest zero over le ends lt = absurd (omega arith)
 chain names known r [] outer spot rest (suc fuel) over le ends lt =
     let h = name_holds IsName names r.letter.g known.each over.0 in
@@ -76,7 +76,7 @@ chain names known r (q ∷ rs) outer spot rest (suc fuel) over le ends lt =
     ∙ rw (after_space names q (more names rs rest) k, ← assoc) (chain names known q rs (outer ++ letters_of r) After rest fuel over.1 all ends room))
 
 -- blanks at the head are skipped
-skips : (find : Find) (fuel : ℕ) (text bs : List ℕ) → after_blanks text ≡ bs → 0 < fuel → word_from fuel find (at [] Start) text ≡ word_from fuel find (at [] Start) bs
+skips : (find : Find) (fuel : ℕ) (text bs : List ℕ) → after_blanks text ≡ bs → 0 < fuel → word_from written fuel find (at [] Start) text ≡ word_from written fuel find (at [] Start) bs
 unfolding word_from turn
 skips find zero text bs e lt = absurd (omega arith)
 skips find (suc fuel) text bs e lt = rw (← e, blanks_once text) refl
@@ -88,7 +88,7 @@ fits text bs e = omega (arith, skips_le text, ap length e)
 runs_read : (names : List (List ℕ)) (known : AreNames names) (rs : List Run) (text rest : List ℕ) → 0 < length rs → AreOver (length names) rs
     → length (expanded rs) ≤ written → Ends rest → after_blanks text ≡ joined (codes " ") (map (written_run names) rs) ++ rest
     → word_at (finding names) text ≡ Ok (expanded rs, after_blanks rest)
-unfolding word_at
+unfolding word_within
 runs_read names known [] text rest some over le ends e = absurd (omega arith)
 runs_read names known (r ∷ rs) text rest some over le ends e =
     let whole : List ℕ = text_of names r (more names rs rest) in
@@ -123,13 +123,13 @@ unfolding is_blank mark_byte is_letter is_known is_name_byte is_digit
 one = (refl, refl)
 
 -- `1` is the empty word
-one_turn : (find : Find) (rest : List ℕ) → Ends rest → turn find (at [] Start) (49 ∷ rest) ≡ goes_on [] [] After (after_blanks rest)
-unfolding turn factor_ends powers_at
+one_turn : (find : Find) (rest : List ℕ) → Ends rest → turn written find (at [] Start) (49 ∷ rest) ≡ goes_on [] [] After (after_blanks rest)
+unfolding turn factor_ends powers_within
 one_turn find rest ends =
     rw (kept 49 rest one.0, one.1, no_power (suc (length (after_blanks rest))) (length (49 ∷ rest)) [] (after_blanks rest) (omega arith) ends.apart.power) refl
 
 one_read : (find : Find) (text rest : List ℕ) → Ends rest → after_blanks text ≡ 49 ∷ rest → word_at find text ≡ Ok ([], after_blanks rest)
-unfolding word_at word_from
+unfolding word_within word_from
 one_read find text rest ends e =
     skips find (suc (length text)) text (49 ∷ rest) e (omega arith)
     ∙ rw (one_turn find rest ends) (word_ends find (length text) [] rest (omega (arith, fits text (49 ∷ rest) e)) ends)
@@ -179,7 +179,7 @@ no_rest = ends_from [] refl
 -- a written word that is the whole text is read
 pub whole_read : (names : List (List ℕ)) → AreNames names → (w : List Letter) → IsOver (length names) w → length w ≤ written
     → word_text (finding names) (written_word names w) ≡ Ok w
-unfolding word_text
+unfolding text_within
 whole_read names known w over le =
     let e = word_read names known w (written_word names w ++ []) [] over le no_rest (word_plain names known w [] over) in
     let k : word_at (finding names) (written_word names w) ≡ Ok (w, after_blanks []) = rw (append-nil (written_word names w)) at e in

@@ -11,7 +11,7 @@ use Rattle.word_text.specs.Scan.{is_name_byte, after_blanks, first_is, mark_of}
 use Rattle.word_text.specs.Powers.{written}
 use Rattle.word_text.specs.Machine.{Reading, Find, goes_on, factor_ends, turn_on, turn, word_from}
 use Rattle.word_text.proofs.Limits.{made_ok}
-use Rattle.word_text.proofs.Soundness.{blanks_once}
+use Rattle.word_text.proofs.Lexing.{blanks_once}
 use Rattle.presentation.specs.declared.runs.Run.{Run}
 use Rattle.presentation.specs.Presented.{IsName}
 use Rattle.presentation.specs.Writing.{written_exponent}
@@ -60,7 +60,7 @@ run_text name r rest = name ++ (written_exponent r.letter.inv r.count ++ rest)
 -- a run is read in one turn
 pub run_turn : (find : Find) (name : List ℕ) (r : Run) (outer : List Letter) (spot : Spot) (rest : List ℕ) → IsName name → find name ≡ Some r.letter.g
     → length (outer ++ letters_of r) ≤ written → Apart rest
-    → turn find (at outer spot) (run_text name r rest) ≡ goes_on [] (outer ++ letters_of r) After (after_blanks rest)
+    → turn written find (at outer spot) (run_text name r rest) ≡ goes_on [] (outer ++ letters_of r) After (after_blanks rest)
 unfolding turn factor_ends
 run_turn find name r outer spot rest h found le apart =
     let more : List ℕ = written_exponent r.letter.inv r.count ++ rest in
@@ -72,7 +72,7 @@ run_turn find name r outer spot rest h found le apart =
       found,
       name_left name more h s,
       run_read (length (name ++ more)) r.letter.g r.count r.letter.inv rest (few outer r le) apart,
-      made_ok (length (name ++ more)) (outer ++ letters_of r) le,
+      made_ok written (length (name ++ more)) (outer ++ letters_of r) le,
     ) refl
 
 name_some : (n : List ℕ) → IsName n → 0 < length n
@@ -81,7 +81,7 @@ name_some (b ∷ bs) h = omega arith
 
 pub run_step : (find : Find) (name : List ℕ) (r : Run) (outer : List Letter) (spot : Spot) (rest : List ℕ) (fuel : ℕ) → IsName name → find name ≡ Some r.letter.g
     → length (outer ++ letters_of r) ≤ written → Apart rest
-    → word_from (suc fuel) find (at outer spot) (run_text name r rest) ≡ word_from fuel find (at (outer ++ letters_of r) After) (after_blanks rest)
+    → word_from written (suc fuel) find (at outer spot) (run_text name r rest) ≡ word_from written fuel find (at (outer ++ letters_of r) After) (after_blanks rest)
 unfolding word_from
 run_step find name r outer spot rest fuel h found le apart = rw (run_turn find name r outer spot rest h found le apart) refl
 
@@ -90,7 +90,7 @@ run_longer name r rest h =
     omega (arith, name_some name h, length-append name (written_exponent r.letter.inv r.count ++ rest), length-append (written_exponent r.letter.inv r.count) rest)
 
 -- where no factor begins the word ends
-ends_by : (find : Find) (m : Mark) (w : List Letter) (bs : List ℕ) → BeginsNone m → turn_on find m (at w After) bs ≡ Ok (record { state = at w After; ended = true; rest = bs })
+ends_by : (find : Find) (m : Mark) (w : List Letter) (bs : List ℕ) → BeginsNone m → turn_on written find m (at w After) bs ≡ Ok (record { state = at w After; ended = true; rest = bs })
 ends_by find marks.Letter w bs n = absurd n
 ends_by find marks.One w bs n = absurd n
 ends_by find marks.Round w bs n = absurd n
@@ -99,7 +99,7 @@ ends_by find marks.Star w bs n = absurd n
 ends_by find marks.Bad w bs n = refl
 ends_by find marks.Other w bs n = refl
 
-pub word_ends : (find : Find) (fuel : ℕ) (w : List Letter) (rest : List ℕ) → 0 < fuel → Ends rest → word_from fuel find (at w After) (after_blanks rest) ≡ Ok (w, after_blanks rest)
+pub word_ends : (find : Find) (fuel : ℕ) (w : List Letter) (rest : List ℕ) → 0 < fuel → Ends rest → word_from written fuel find (at w After) (after_blanks rest) ≡ Ok (w, after_blanks rest)
 unfolding word_from turn
 word_ends find zero w rest lt ends = absurd (omega arith)
 word_ends find (suc fuel) w rest lt ends = rw (blanks_once rest, ends_by find (mark_of (after_blanks rest)) w (after_blanks rest) ends.factor) refl

@@ -6,7 +6,7 @@ use Rattle.std.specs.List.{AllByRecursion}
 use Rattle.free_words.specs.declared.letter.Letter.{Letter}
 use Rattle.word_text.specs.Scan.{is_blank, is_letter, is_digit, is_name_byte, is_known, after_blanks, name_at, digits_at, after_digits, mark_byte}
 use Rattle.word_text.specs.Machine.{finding}
-use Rattle.word_text.proofs.Soundness.{no_blanks}
+use Rattle.word_text.proofs.Lexing.{no_blanks}
 use Rattle.presentation.specs.declared.TheConstants.{MODULUS}
 use Rattle.presentation.specs.Presented.{Presented, IsPresented, IsName, IsModulus, IsWritten}
 use Rattle.presentation.specs.Reading.{names_at, relators_at, presentation_at, ending, modulus_number, modulus_at, presentation_text}

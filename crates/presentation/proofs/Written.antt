@@ -1,83 +1,23 @@
 -- The letters of a word that is read belong to the names, and it is no longer than a written word may be.
-use Rattle.std.proofs.Common.{◌≡◌, ℕ, zero, suc, ◌<◌, ◌≤◌, Bool, true, false, List, [], ◌∷◌, ◌++◌, length, Some, Result, Ok, Err, IfOk, arith}
-use Rattle.std.specs.Str.{bytes_eq}
-use Rattle.std.proofs.lemmas.List.{map-append, reverse-append}
-use Rattle.std.proofs.lemmas.List.Quantifiers.{position-Some}
+use Rattle.std.proofs.Common.{◌≡◌, ℕ, List, [], length, Result, Ok, Err, IfOk}
 use Rattle.free_words.specs.declared.letter.Letter.{Letter}
-use Rattle.free_words.specs.Words.{IsOver, flipped, inverse, commutator, copies}
 use Rattle.word_text.specs.declared.machine.Spot.{Spot}
-use Rattle.word_text.specs.Powers.{written}
-use Rattle.word_text.specs.Machine.{Find, finding, word_at}
-use Rattle.word_text.specs.Grammar.{power_of, Powers, Part, Product, Factor, Atom, Spelled}
-use Rattle.word_text.specs.Scan.{after_blanks}
 use Rattle.word_text.specs.declared.fault.ReadFault.{ReadFault}
 use Rattle.word_text.specs.declared.fault.ReadFault.TheVariants as faults
+use Rattle.word_text.specs.Powers.{written}
+use Rattle.word_text.specs.Machine.{finding, word_at}
+use Rattle.word_text.specs.Grammar.{Product, Spelled}
+use Rattle.word_text.specs.Scan.{after_blanks}
 use Rattle.word_text.specs.Place.{ReadsText, word_text}
+use Rattle.word_text.proofs.Letters.{over_spelled, short}
+use Rattle.word_text.proofs.Naming.{finding_below}
 use Rattle.word_text.proofs.Reached.{word_spelled, text_spelled}
 use Rattle.presentation.specs.Presented.{IsWritten}
-
-pub over_append : (n : ℕ) (u v : List Letter) → IsOver n u → IsOver n v → IsOver n (u ++ v)
-over_append n [] v a b = b
-over_append n (x ∷ u) v a b = (a.0, over_append n u v a.1 b)
-
-pub over_inverse : (n : ℕ) (w : List Letter) → IsOver n w → IsOver n (inverse w)
-over_inverse n [] a = tt
-over_inverse n (x ∷ w) a = rw (reverse-append (x ∷ []) w, map-append) (over_append n (inverse w) (flipped x ∷ []) (over_inverse n w a.1) (a.0, tt))
-
-over_copies : (n k : ℕ) (w : List Letter) → IsOver n w → IsOver n (copies k w)
-over_copies n zero w a = tt
-over_copies n (suc k) w a = over_append n (copies k w) w (over_copies n k w a) a
-
-over_power : (n k : ℕ) (negative : Bool) (w : List Letter) → IsOver n w → IsOver n (power_of negative k w)
-over_power n k true w a = over_copies n k (inverse w) (over_inverse n w a)
-over_power n k false w a = over_copies n k w a
-
-over_powers : (n : ℕ) (w v : List Letter) (bs rest : List ℕ) → Powers w bs v rest → IsOver n w → IsOver n v
-over_powers n _ _ _ _ (Powers.none w bs t) a = a
-over_powers n _ _ _ _ (Powers.more w v bs mid rest negative k t x le p) a =
-    over_powers n (power_of negative k w) v (after_blanks mid) rest p (over_power n k negative w a)
-
-over_commutator : (n : ℕ) (u v : List Letter) → IsOver n u → IsOver n v → IsOver n (commutator u v)
-over_commutator n u v a b =
-    over_append n (u ++ v ++ inverse u) (inverse v) (over_append n (u ++ v) (inverse u) (over_append n u v a b) (over_inverse n u a)) (over_inverse n v b)
-
--- where each name that is found has a number below n
-over_spelled : (n : ℕ) (find : Find) → ((name : List ℕ) (g : ℕ) → find name ≡ Some g → g < n)
-    → (p : Part) (bs : List ℕ) (w : List Letter) (rest : List ℕ) → Spelled find p bs w rest → IsOver n w
-over_spelled n find below _ _ _ _ (Spelled.nothing bs) = tt
-over_spelled n find below _ _ _ _ (Spelled.follows s bs mid rest u v a f le) =
-    over_append n u v (over_spelled n find below (Product s) bs u mid a) (over_spelled n find below Factor mid v rest f)
-over_spelled n find below _ _ _ _ (Spelled.times bs mid rest u v a m f le) =
-    over_append n u v (over_spelled n find below _ bs u mid a) (over_spelled n find below Factor _ v rest f)
-over_spelled n find below _ _ _ _ (Spelled.powers bs mid rest w v a p) = over_powers n w v (after_blanks mid) rest p (over_spelled n find below Atom bs w mid a)
-over_spelled n find below _ _ _ _ (Spelled.name bs g m f) = (below _ g f, tt)
-over_spelled n find below _ _ _ _ (Spelled.one bs m) = tt
-over_spelled n find below _ _ _ _ (Spelled.round s bs mid w m a c) = over_spelled n find below (Product s) _ w mid a
-over_spelled n find below _ _ _ _ (Spelled.square s t bs mid last u v m a c b d le) =
-    over_commutator n u v (over_spelled n find below (Product s) _ u mid a) (over_spelled n find below (Product t) _ v last b)
-
-abbrev Short : Part → List Letter → Type 0
-Short (Product s) w = length w ≤ written
-Short Factor w = Unit {0}
-Short Atom w = Unit {0}
-
-short_spelled : (find : Find) (p : Part) (bs : List ℕ) (w : List Letter) (rest : List ℕ) → Spelled find p bs w rest → Short p w
-short_spelled find _ _ _ _ (Spelled.nothing bs) = omega arith
-short_spelled find _ _ _ _ (Spelled.follows s bs mid rest u v a f le) = le
-short_spelled find _ _ _ _ (Spelled.times bs mid rest u v a m f le) = le
-short_spelled find _ _ _ _ (Spelled.powers bs mid rest w v a p) = tt
-short_spelled find _ _ _ _ (Spelled.name bs g m f) = tt
-short_spelled find _ _ _ _ (Spelled.one bs m) = tt
-short_spelled find _ _ _ _ (Spelled.round s bs mid w m a c) = tt
-short_spelled find _ _ _ _ (Spelled.square s t bs mid last u v m a c b d le) = tt
-
-found_below : (names : List (List ℕ)) (name : List ℕ) (g : ℕ) → finding names name ≡ Some g → g < length names
-found_below names name g e = (position-Some (λ n. bytes_eq n name) names g [] e).0
 
 pub product_written : (names : List (List ℕ)) (s : Spot) (bs : List ℕ) (w : List Letter) (rest : List ℕ)
     → Spelled (finding names) (Product s) bs w rest → IsWritten (length names) w
 product_written names s bs w rest h =
-    (over_spelled (length names) (finding names) (found_below names) (Product s) bs w rest h, short_spelled (finding names) (Product s) bs w rest h)
+    (over_spelled written (length names) (finding names) (finding_below names) (Product s) bs w rest h, short written (finding names) (Product s) bs w rest h)
 
 pub word_written : (names : List (List ℕ)) (bs : List ℕ) (w : List Letter) (rest : List ℕ) → word_at (finding names) bs ≡ Ok (w, rest)
     → IsWritten (length names) w

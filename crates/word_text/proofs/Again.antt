@@ -74,14 +74,14 @@ unfolding turn
 turn_at limit find m s bs e sk = rw (sk, e) refl
 
 -- `*` never ends a product
-abbrev Unstarred : Part → Type 0
+abbrev pub Unstarred : Part → Type 0
 Unstarred (Product Start) = Unit {0}
 Unstarred (Product After) = Unit {0}
 Unstarred (Product Starred) = ⊥
 Unstarred Factor = Unit {0}
 Unstarred Atom = Unit {0}
 
-no_star : (limit : ℕ) (find : Find) (p : Part) (bs : List ℕ) (w : List Letter) (rest : List ℕ) → SpelledWithin limit find p bs w rest → Unstarred p
+pub no_star : (limit : ℕ) (find : Find) (p : Part) (bs : List ℕ) (w : List Letter) (rest : List ℕ) → SpelledWithin limit find p bs w rest → Unstarred p
 no_star limit find _ _ _ _ (SpelledWithin.nothing bs) = tt
 no_star limit find _ _ _ _ (SpelledWithin.follows s bs mid rest u v a f le) = tt
 no_star limit find _ _ _ _ (SpelledWithin.times bs mid rest u v a m f le) = tt
@@ -100,7 +100,7 @@ abbrev pub at : List Frame → List Letter → Spot → Reading
 at frames product spot = record { frames = frames; product = product; spot = spot }
 
 -- the bytes that go on with a bracket
-closes_at : (limit : ℕ) (find : Find) (s : Spot) (frames : List Frame) (w : List Letter) (c : ℕ) (bs : List ℕ) → Unstarred (Product s)
+pub closes_at : (limit : ℕ) (find : Find) (s : Spot) (frames : List Frame) (w : List Letter) (c : ℕ) (bs : List ℕ) → Unstarred (Product s)
     → mark_byte c ≡ marks.Other → is_blank c ≡ false → first_is c bs ≡ true → turn limit find (at frames w s) bs ≡ closes limit frames (at frames w s) bs
 closes_at limit find s frames w c bs u m n e =
     let k = closing c m n bs e in

@@ -51,12 +51,12 @@ over_spelled limit n find below _ _ _ _ (SpelledWithin.round s bs mid w m a c) =
 over_spelled limit n find below _ _ _ _ (SpelledWithin.square s t bs mid last u v m a c b d le) =
     over_commutator n u v (over_spelled limit n find below (Product s) _ u mid a) (over_spelled limit n find below (Product t) _ v last b)
 
-abbrev Short : ℕ → Part → List Letter → Type 0
+abbrev pub Short : ℕ → Part → List Letter → Type 0
 Short limit (Product s) w = length w ≤ limit
 Short limit Factor w = Unit {0}
 Short limit Atom w = Unit {0}
 
-short : (limit : ℕ) (find : Find) (p : Part) (bs : List ℕ) (w : List Letter) (rest : List ℕ) → SpelledWithin limit find p bs w rest → Short limit p w
+pub short : (limit : ℕ) (find : Find) (p : Part) (bs : List ℕ) (w : List Letter) (rest : List ℕ) → SpelledWithin limit find p bs w rest → Short limit p w
 short limit find _ _ _ _ (SpelledWithin.nothing bs) = omega arith
 short limit find _ _ _ _ (SpelledWithin.follows s bs mid rest u v a f le) = le
 short limit find _ _ _ _ (SpelledWithin.times bs mid rest u v a m f le) = le

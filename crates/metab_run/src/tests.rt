@@ -1,0 +1,292 @@
+//! What no clause says: that the runs below end as a user expects, with ample memory.
+
+use super::{DERIVATION_BYTES, PRESENTATION_BYTES, Status, metab_alone};
+use mb_io::{MemShelf, MemSink, NamedBytes};
+use std::alloc::{AllocError, Global};
+use std::test::Fail;
+
+// A run: its presentation, word and derivation, and how it ends.
+#[derive(Drop)]
+struct Row {
+    presentation: &'static [u8],
+    word: &'static str,
+    derivation: &'static [u8],
+    text: &'static str,
+    status: Status,
+}
+
+fn run_of(
+    presentation: &'static str,
+    word: &'static str,
+    derivation: &'static str,
+    text: &'static str,
+    status: Status,
+) -> Row {
+    Row {
+        presentation: presentation.as_bytes(),
+        word,
+        derivation: derivation.as_bytes(),
+        text,
+        status,
+    }
+}
+
+fn named(alloc: Global, name: &str, bytes: &[u8]) -> Result<NamedBytes, AllocError> {
+    let name = String::from_str(alloc, name)?;
+    Ok(NamedBytes::new(name, Vec::from_slice(alloc, bytes)?))
+}
+
+fn words(alloc: Global, texts: &[&str]) -> Result<Vec<String>, AllocError> {
+    let mut words = Vec::new(alloc);
+    for text in texts {
+        words.push(String::from_str(alloc, text)?)?;
+    }
+    Ok(words)
+}
+
+// The presentation under p and the derivation under d; the calls of these numbers fail.
+fn shelf(alloc: Global, p: &[u8], d: &[u8], failing: &[u32]) -> Result<MemShelf, AllocError> {
+    let mut files = Vec::new(alloc);
+    files.push(named(alloc, "p", p)?)?;
+    files.push(named(alloc, "d", d)?)?;
+    Ok(MemShelf::new(files, Vec::from_slice(alloc, failing)?))
+}
+
+fn sink(alloc: Global, failing: &[u32]) -> Result<MemSink, AllocError> {
+    MemSink::new(alloc, 4096, Vec::from_slice(alloc, failing)?)
+}
+
+// Whether a run prints and ends as its row says, where texts may come and go byte by byte.
+fn ends_so(alloc: Global, row: &Row, in_pieces: bool) -> Result<bool, AllocError> {
+    let words = words(alloc, &["steps", "p", row.word, "d"])?;
+    let mut shelf = shelf(alloc, row.presentation, row.derivation, &[])?;
+    let mut out = sink(alloc, &[])?;
+    if in_pieces {
+        shelf.pieces(1);
+        out.pieces(1);
+    }
+    let status = metab_alone(alloc, words.as_slice(), &mut shelf, &mut out);
+    Ok(out.taken() == row.text.as_bytes() && status == row.status)
+}
+
+const SQUARE: &str = "<a,b | a b a^-1 b^-1>";
+const COMMUTATOR: &str = "a b a^-1 b^-1";
+const DOUBLE: &str = "[[a,b],[a^2,b]]";
+
+#[test]
+fn steps_are_made_or_refused(rt: HostRuntime) -> Result<(), Fail> {
+    let rows = [
+        run_of("<a,b|>", "1", "", "trivial\n", Status::Done),
+        run_of("<a,b|>", "", "", "trivial\n", Status::Done),
+        run_of("<a,b|>", "a a^-1", "", "not-empty 2\n", Status::Fails),
+        run_of("<a|>", "a^2", "", "not-empty 2\n", Status::Fails),
+        run_of(SQUARE, COMMUTATOR, "del 0 rel 1", "trivial\n", Status::Done),
+        run_of(
+            "<a,b | [a,b]>",
+            COMMUTATOR,
+            "del 0 rel 1\n",
+            "trivial\n",
+            Status::Done,
+        ),
+        run_of(
+            SQUARE,
+            COMMUTATOR,
+            "del 0 rel 2",
+            "bad move 1 no-relator\n",
+            Status::Fails,
+        ),
+        run_of(
+            SQUARE,
+            COMMUTATOR,
+            "del 5 pair a",
+            "bad move 1 place\n",
+            Status::Fails,
+        ),
+        run_of(
+            SQUARE,
+            COMMUTATOR,
+            "\r\n ins 4 pair a\r\n\tdel 0 pair a \r\n",
+            "bad move 2 not-there\n",
+            Status::Fails,
+        ),
+        run_of(
+            SQUARE,
+            COMMUTATOR,
+            "ins 4 pair a",
+            "not-empty 6\n",
+            Status::Fails,
+        ),
+        run_of(
+            "<a,b|>",
+            "a b a^-1 b^-1 a a b a^-1 a^-1 b^-1 b a b^-1 a^-1 b a a b^-1 a^-1 a^-1",
+            "del 0 dbl a, b, a a, b",
+            "trivial\n",
+            Status::Done,
+        ),
+        run_of(
+            "<a,b|>",
+            DOUBLE,
+            "del 0 dbl a, b, a^2, b",
+            "trivial\n",
+            Status::Done,
+        ),
+        run_of(
+            "<a,b|> modulus 2",
+            "[a,b]^2",
+            "del 0 pow a, b",
+            "trivial\n",
+            Status::Done,
+        ),
+        run_of(
+            "<a,b|>",
+            "[a,b]^2",
+            "del 0 pow a, b",
+            "bad move 1 no-modulus\n",
+            Status::Fails,
+        ),
+        run_of(
+            "<a | a^16384>",
+            "a^16384",
+            "ins 0 rel 1\nins 0 rel 1",
+            "bad move 2 too-long\n",
+            Status::Fails,
+        ),
+    ];
+    let alloc = rt.alloc();
+    for row in &rows {
+        assert!(rt; ends_so(alloc, row, false)?, "{} {}", row.word, row.text);
+        assert!(rt; ends_so(alloc, row, true)?, "in pieces: {} {}", row.word, row.text);
+    }
+    Ok(())
+}
+
+#[test]
+fn texts_are_refused_at_their_first_fault(rt: HostRuntime) -> Result<(), Fail> {
+    let refused = [
+        ("<a | a c>", "1", "", "p line 1 column 8 unknown-name"),
+        ("<a|> modulus 1", "1", "", "p line 1 column 14 modulus-out-of-range"),
+        ("<a|> mod 2", "1", "", "p line 1 column 6 expected"),
+        ("<a,a|>", "1", "", "p line 1 column 4 repeated-name"),
+        ("", "1", "", "p line 1 column 1 expected"),
+        (" \r\n\t", "1", "", "p line 2 column 2 expected"),
+        ("<a|>\0", "1", "", "p line 1 column 5 bad-byte"),
+        ("<a|>\u{e9}", "1", "", "p line 1 column 5 bad-byte"),
+        (
+            "<a | a^16000 = a^-385>",
+            "1",
+            "",
+            "p line 1 column 14 word-too-long",
+        ),
+        ("<a|>", "a^16384 a", "", "word line 1 column 9 word-too-long"),
+        ("<a|>", "a^16385", "", "word line 1 column 3 exponent-too-large"),
+        ("<a|>", "(a a)^8193", "", "word line 1 column 1 word-too-long"),
+        ("<a|>", "a^+2", "", "word line 1 column 3 bad-byte"),
+        ("<a|>", "a^", "", "word line 1 column 3 expected"),
+        ("<a|>", "1", "del 0 pair b", "d line 1 column 12 unknown-name"),
+        ("<a|>", "1", "del 0 pair a\nskip", "d line 2 column 1 expected"),
+        // The presentation is read before the word, and the word before the derivation.
+        ("<a", "b", "skip", "p line 1 column 3 expected"),
+        ("<a|>", "b", "skip", "word line 1 column 1 unknown-name"),
+    ];
+    let alloc = rt.alloc();
+    for (presentation, word, derivation, place) in refused {
+        let words = words(alloc, &["steps", "--", "p", word, "d"])?;
+        let mut shelf = shelf(alloc, presentation.as_bytes(), derivation.as_bytes(), &[])?;
+        let mut out = sink(alloc, &[])?;
+        let status = metab_alone(alloc, words.as_slice(), &mut shelf, &mut out);
+        let text = format!(in alloc; "refused {place}\n")?;
+        assert!(rt; out.taken() == text.as_bytes(), "{place} is printed");
+        assert!(rt; status == Status::TextRefused, "{place} is refused");
+    }
+    Ok(())
+}
+
+#[test]
+fn words_outside_the_table_are_refused(rt: HostRuntime) -> Result<(), Fail> {
+    let alloc = rt.alloc();
+    let lines: [&[&str]; 9] = [
+        &[],
+        &["step"],
+        &["steps"],
+        &["steps", "p", "1"],
+        &["steps", "p", "1", "d", "e"],
+        &["steps", "--help", "p", "1", "d"],
+        &["steps", "-x", "1", "d"],
+        &["run", "--workers", "0", "p", "q"],
+        &["solo", "p"],
+    ];
+    for line in lines {
+        let words = words(alloc, line)?;
+        let mut shelf = shelf(alloc, b"<a|>", b"", &[])?;
+        let mut out = sink(alloc, &[])?;
+        let status = metab_alone(alloc, words.as_slice(), &mut shelf, &mut out);
+        assert!(rt; out.taken() == b"refused words\n".as_slice(), "{} words", line.len());
+        assert!(rt; status == Status::WordsRefused, "{} words", line.len());
+    }
+    Ok(())
+}
+
+#[test]
+fn reads_and_writes_may_fail(rt: HostRuntime) -> Result<(), Fail> {
+    let alloc = rt.alloc();
+    // A good run makes six calls on the shelf: each text is started, read to its end, and read once more.
+    for number in 1..=7u32 {
+        let words = words(alloc, &["steps", "p", "1", "d"])?;
+        let mut shelf = shelf(alloc, b"<a|>", b" ", &[number])?;
+        let mut out = sink(alloc, &[])?;
+        let status = metab_alone(alloc, words.as_slice(), &mut shelf, &mut out);
+        let (text, end): (&[u8], Status) = match number {
+            1..=3 => (b"read fault p\n", Status::ReadFault),
+            4..=6 => (b"read fault d\n", Status::ReadFault),
+            _ => (b"trivial\n", Status::Done),
+        };
+        assert!(rt; out.taken() == text, "read {number}");
+        assert!(rt; status == end, "read {number}");
+    }
+    for line in [["steps", "p", "1", "d"], ["steps", "q", "1", "d"]] {
+        let words = words(alloc, &line)?;
+        let mut shelf = shelf(alloc, b"<a|>", b"", &[])?;
+        let mut out = sink(alloc, &[1])?;
+        let status = metab_alone(alloc, words.as_slice(), &mut shelf, &mut out);
+        assert!(rt; status == Status::WriteFault, "no write");
+        assert!(rt; out.taken().is_empty(), "nothing is written");
+    }
+    Ok(())
+}
+
+// Blanks, one more than the limit or just as many, with a text before them.
+fn long(alloc: Global, text: &str, length: usize) -> Result<Vec<u8>, AllocError> {
+    let mut bytes = Vec::from_slice(alloc, text.as_bytes())?;
+    bytes.resize(length, b' ')?;
+    Ok(bytes)
+}
+
+#[test]
+fn texts_have_limits(rt: HostRuntime) -> Result<(), Fail> {
+    let alloc = rt.alloc();
+    let most = PRESENTATION_BYTES as usize;
+    for (length, text, end) in [
+        (most, "trivial\n", Status::Done),
+        (
+            most + 1,
+            "refused p too long 65536\n",
+            Status::TextRefused,
+        ),
+    ] {
+        let words = words(alloc, &["steps", "p", "1", "d"])?;
+        let p = long(alloc, "<a|>", length)?;
+        let mut shelf = shelf(alloc, &p, b"", &[])?;
+        let mut out = sink(alloc, &[])?;
+        let status = metab_alone(alloc, words.as_slice(), &mut shelf, &mut out);
+        assert!(rt; out.taken() == text.as_bytes(), "{length} bytes");
+        assert!(rt; status == end, "{length} bytes");
+    }
+    let words = words(alloc, &["steps", "missing", "1", "d"])?;
+    let mut shelf = shelf(alloc, b"<a|>", b"", &[])?;
+    let mut out = sink(alloc, &[])?;
+    let status = metab_alone(alloc, words.as_slice(), &mut shelf, &mut out);
+    assert!(rt; out.taken() == b"read fault missing\n".as_slice());
+    assert!(rt; status == Status::ReadFault);
+    assert_eq!(rt; DERIVATION_BYTES, 67_108_864);
+    Ok(())
+}
