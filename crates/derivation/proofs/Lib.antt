@@ -10,3 +10,8 @@ pub mod OneAnswer
 pub mod OneOutcome
 pub mod Staying
 pub mod Lines
+pub mod WordEnds
+pub mod LineLists
+pub mod Spelled
+pub mod ReadAgain
+pub mod TextLaws

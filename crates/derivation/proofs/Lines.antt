@@ -1,5 +1,5 @@
 -- Reading a text line after line.
-use Rattle.std.proofs.Common.{◌≡◌, ◌==◌, ℕ, suc, ◌+◌, ◌<◌, ◌≤◌, Bool, true, false, not, List, [], ◌∷◌, ◌++◌, length, take, drop, Result, Ok, Err, refl, sym, ◌∙◌, ap, add-one, append_assoc, append-nil, cond, arith}
+use Rattle.std.proofs.Common.{◌≡◌, ◌==◌, ℕ, suc, ◌+◌, ◌<◌, ◌≤◌, Bool, true, false, not, List, [], ◌∷◌, ◌++◌, length, take, drop, Result, Ok, Err, refl, sym, ◌∙◌, ap, append_assoc, append-nil, arith}
 use Rattle.std.proofs.lemmas.Bool.Decides.{nat_tests}
 use Rattle.std.specs.List.{prefix_len}
 use Rattle.word_text.specs.declared.fault.TextFault.{TextFault}
@@ -8,7 +8,7 @@ use Rattle.word_text.specs.Place.{capped}
 use Rattle.derivation.specs.declared.moves.Move.{Move}
 use Rattle.word_text.specs.declared.fault.ReadFault.{ReadFault}
 use Rattle.word_text.specs.declared.fault.ReadFault.TheVariants as faults
-use Rattle.derivation.specs.Reading.{onto_first, lines_of, fronted, followed, line_moves, moves_of, ReadsLine, ReadsMoves}
+use Rattle.derivation.specs.Reading.{onto_first, lines_of, fronted, line_moves, moves_of, ReadsLine, ReadsMoves}
 
 -- the lines behind the first, where what follows it begins with its LF
 abbrev pub later_lines : List ℕ → List (List ℕ)
@@ -22,7 +22,7 @@ no_end b = not (b == 10)
 pub lines-first : (bs : List ℕ) → lines_of bs ≡ take (prefix_len no_end bs) bs ∷ later_lines (drop (prefix_len no_end bs) bs)
 lines-first [] = refl
 lines-first (b ∷ bs) = by (b == 10) refl (lines-first bs)
-    where
+  where
     by : (t : Bool) → (b == 10) ≡ t → lines_of bs ≡ take (prefix_len no_end bs) bs ∷ later_lines (drop (prefix_len no_end bs) bs)
         → lines_of (b ∷ bs) ≡ take (prefix_len no_end (b ∷ bs)) (b ∷ bs) ∷ later_lines (drop (prefix_len no_end (b ∷ bs)) (b ∷ bs))
     by true e so = rw e refl

@@ -2,3 +2,4 @@ pub mod Moves
 pub mod Making
 pub mod Pieces
 pub mod Reading
+pub mod Grammar

@@ -1,6 +1,6 @@
-//! Laws of moves, each as the contract of a function with an empty body.
+//! Laws of moves and of the texts of derivations, each as the contract of a function with an empty body.
 
-ghost use Rattle.std.specs.Prelude.{[], ◌++◌, ◌≡◌, ◌≢◌, List, Contains, Result, Err};
+ghost use Rattle.std.specs.Prelude.{[], ◌++◌, ◌≡◌, ◌≢◌, ℕ, List, Contains, Result, Ok, Err};
 ghost use Rattle.free_words.specs.declared.letter.Letter.{Letter};
 ghost use Rattle.free_words.specs.Words.{inverse};
 ghost use Rattle.presentation.specs.Presented.{Presented, IsPresented};
@@ -8,6 +8,8 @@ ghost use Rattle.derivation.specs.declared.moves.Move.{Move};
 ghost use Rattle.derivation.specs.declared.moves.MoveFault.{MoveFault};
 ghost use Rattle.derivation.specs.declared.moves.StepsFault.{StepsFault};
 ghost use Rattle.derivation.specs.Making.{MoveGives, StepsGive};
+ghost use Rattle.derivation.specs.Reading.{derivation_text};
+ghost use Rattle.derivation.specs.Grammar.{IsDerivation};
 ghost use Rattle.derivation.specs.Moves.{IsWordOver, IsPiece, Reaches, Trivial, Equal};
 
 /// The empty word is trivial.
@@ -93,4 +95,20 @@ pub fn one_outcome()
 #[tactic(auto, using(crate::proofs::Staying::reaches_over))]
 pub fn staying()
     ensures { (p : Presented) (u v : List Letter) → IsPresented p → Reaches p u v → IsWordOver p u → IsWordOver p v }
+{}
+
+/// What is read of a text is a derivation of the grammar, with its moves.
+#[tactic(auto, using(crate::proofs::TextLaws::text_spelled))]
+pub fn read_is_spelled()
+    ensures { (p : Presented) (text : List ℕ) (ms : List Move) → derivation_text p text ≡ Ok ms → IsDerivation p text ms }
+{}
+
+/// A derivation of the grammar is read, with its moves.
+pub fn spelled_is_read()
+    ensures { (p : Presented) (text : List ℕ) (ms : List Move) → IsDerivation p text ms → derivation_text p text ≡ Ok ms }
+{}
+
+/// A text spells one list of moves at most.
+pub fn one_value()
+    ensures { (p : Presented) (text : List ℕ) (ms ns : List Move) → IsDerivation p text ms → IsDerivation p text ns → ms ≡ ns }
 {}

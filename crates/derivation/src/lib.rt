@@ -13,3 +13,6 @@ mod steps;
 pub use moves::{Insert, Move, MoveFault, MoveReason, StepsFault};
 pub use reading::read_derivation;
 pub use steps::{apply, check_steps};
+
+#[cfg(test)]
+mod tests;

@@ -163,7 +163,11 @@ fn ending(reader: &WordReader) -> Result<(), ReadFault>
 
 /// The move that stands in the line, from the reader's place to its end.
 #[tactic(auto, unfolding(crate::specs::Reading::move_at))]
-pub fn line_move(alloc: Global, reader: &mut WordReader, p: &Presentation) -> Result<Move, ReadFault>
+pub fn line_move(
+    alloc: Global,
+    reader: &mut WordReader,
+    p: &Presentation,
+) -> Result<Move, ReadFault>
     requires { reader.old.at ≤ length reader.old.text.now }
     ensures exact { GoesOn (λ m. m) reader.old.text.now reader.old.line reader.new.at (move_at (finding p.now.names) (drop reader.old.at reader.old.text.now)) result }
     ensures over { IfOk result (λ m. IsInsertOver p.now m.what) }

@@ -1,9 +1,11 @@
 //! Derivations as texts: one move a line.
 
-ghost use Rattle.std.specs.Prelude.{◌≡◌, ◌≤◌, ◌==◌, not, length, take_while, take, drop, All, IfOk, OnOk};
+ghost use Rattle.std.specs.Prelude.{◌≡◌, ◌≤◌, ◌==◌, not, List, length, take_while, take, drop, All, Ok, IfOk, OnOk};
 ghost use Rattle.std.specs.List.{prefix_len};
 ghost use Rattle.word_text.specs.Machine.{finding};
 ghost use Rattle.derivation.specs.Making.{IsInsertOver};
+ghost use Rattle.derivation.specs.declared.moves.Move.{Move};
+ghost use Rattle.derivation.specs.Grammar.{IsDerivation};
 ghost use Rattle.derivation.specs.Reading.{line_moves, derivation_text, ReadsMoves, ReadsLine};
 
 use crate::line_moves::line_move;
@@ -54,16 +56,9 @@ fn read_line(
     }
 }
 
-/// The moves that the text spells, one a line. Lines of blanks alone have none. A fault has the number of its line, and
-/// its column there.
-pub fn read_derivation(
-    alloc: Global,
-    p: &Presentation,
-    text: &[u8],
-) -> Result<Vec<Move>, ReadFault>
-    // Which moves, or which fault, and where.
+// The moves that the text spells, or the first fault.
+fn read_exactly(alloc: Global, p: &Presentation, text: &[u8]) -> Result<Vec<Move>, ReadFault>
     ensures exact { ReadsMoves (derivation_text p.now text.now) result }
-    // Letters and words are over the presentation, and the words are within the limit on written words.
     ensures over { IfOk result (λ moves. All (λ m. IsInsertOver p.now m.what) moves.items) }
 {
     let mut moves = Vec::new(alloc);
@@ -78,4 +73,19 @@ pub fn read_derivation(
         rest = after_first(after);
         number = number.saturating_add(1);
     }
+}
+
+/// The moves that the text spells, one a line. Lines of blanks alone have none. A fault has the number of its line, and
+/// its column there.
+pub fn read_derivation(alloc: Global, p: &Presentation, text: &[u8]) -> Result<Vec<Move>, ReadFault>
+    // The text is a derivation of the grammar, with these moves.
+    ensures found { IfOk result (λ moves. IsDerivation p.now text.now moves.items) }
+    // Where the text is a derivation of the grammar, its moves are read, unless memory runs out.
+    ensures only { (ms : List Move) → IsDerivation p.now text.now ms → ReadsMoves (Ok ms) result }
+    // Which moves, or which fault, and where.
+    ensures exact { ReadsMoves (derivation_text p.now text.now) result }
+    // Letters and words are over the presentation, and the words are within the limit on written words.
+    ensures over { IfOk result (λ moves. All (λ m. IsInsertOver p.now m.what) moves.items) }
+{
+    read_exactly(alloc, p, text)
 }

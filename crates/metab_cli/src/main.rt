@@ -3,9 +3,8 @@
 
 use mb_io::{FsShelf, OutSink};
 use metab_run::metab_alone;
-use std::env;
-use std::io;
 use std::process::ExitCode;
+use std::{env, io};
 
 // The words after the program's name, or none where one of them is no text.
 fn words(rt: &HostRuntime) -> io::Result<Vec<String>> {

@@ -5,12 +5,11 @@ mod answer;
 mod files;
 mod status;
 mod steps;
+#[cfg(test)]
+mod tests;
 mod top;
 mod words;
 mod writing;
-
-#[cfg(test)]
-mod tests;
 
 pub use status::Status;
 pub use top::metab_alone;

@@ -70,7 +70,9 @@ fn ends_so(alloc: Global, row: &Row, in_pieces: bool) -> Result<bool, AllocError
 }
 
 const SQUARE: &str = "<a,b | a b a^-1 b^-1>";
+
 const COMMUTATOR: &str = "a b a^-1 b^-1";
+
 const DOUBLE: &str = "[[a,b],[a^2,b]]";
 
 #[test]
@@ -155,7 +157,12 @@ fn steps_are_made_or_refused(rt: HostRuntime) -> Result<(), Fail> {
     let alloc = rt.alloc();
     for row in &rows {
         assert!(rt; ends_so(alloc, row, false)?, "{} {}", row.word, row.text);
-        assert!(rt; ends_so(alloc, row, true)?, "in pieces: {} {}", row.word, row.text);
+        assert!(rt;
+            ends_so(alloc, row, true)?,
+            "in pieces: {} {}",
+            row.word,
+            row.text
+        );
     }
     Ok(())
 }
@@ -164,7 +171,12 @@ fn steps_are_made_or_refused(rt: HostRuntime) -> Result<(), Fail> {
 fn texts_are_refused_at_their_first_fault(rt: HostRuntime) -> Result<(), Fail> {
     let refused = [
         ("<a | a c>", "1", "", "p line 1 column 8 unknown-name"),
-        ("<a|> modulus 1", "1", "", "p line 1 column 14 modulus-out-of-range"),
+        (
+            "<a|> modulus 1",
+            "1",
+            "",
+            "p line 1 column 14 modulus-out-of-range",
+        ),
         ("<a|> mod 2", "1", "", "p line 1 column 6 expected"),
         ("<a,a|>", "1", "", "p line 1 column 4 repeated-name"),
         ("", "1", "", "p line 1 column 1 expected"),
@@ -177,13 +189,38 @@ fn texts_are_refused_at_their_first_fault(rt: HostRuntime) -> Result<(), Fail> {
             "",
             "p line 1 column 14 word-too-long",
         ),
-        ("<a|>", "a^16384 a", "", "word line 1 column 9 word-too-long"),
-        ("<a|>", "a^16385", "", "word line 1 column 3 exponent-too-large"),
-        ("<a|>", "(a a)^8193", "", "word line 1 column 1 word-too-long"),
+        (
+            "<a|>",
+            "a^16384 a",
+            "",
+            "word line 1 column 9 word-too-long",
+        ),
+        (
+            "<a|>",
+            "a^16385",
+            "",
+            "word line 1 column 3 exponent-too-large",
+        ),
+        (
+            "<a|>",
+            "(a a)^8193",
+            "",
+            "word line 1 column 1 word-too-long",
+        ),
         ("<a|>", "a^+2", "", "word line 1 column 3 bad-byte"),
         ("<a|>", "a^", "", "word line 1 column 3 expected"),
-        ("<a|>", "1", "del 0 pair b", "d line 1 column 12 unknown-name"),
-        ("<a|>", "1", "del 0 pair a\nskip", "d line 2 column 1 expected"),
+        (
+            "<a|>",
+            "1",
+            "del 0 pair b",
+            "d line 1 column 12 unknown-name",
+        ),
+        (
+            "<a|>",
+            "1",
+            "del 0 pair a\nskip",
+            "d line 2 column 1 expected",
+        ),
         // The presentation is read before the word, and the word before the derivation.
         ("<a", "b", "skip", "p line 1 column 3 expected"),
         ("<a|>", "b", "skip", "word line 1 column 1 unknown-name"),
@@ -220,7 +257,11 @@ fn words_outside_the_table_are_refused(rt: HostRuntime) -> Result<(), Fail> {
         let mut shelf = shelf(alloc, b"<a|>", b"", &[])?;
         let mut out = sink(alloc, &[])?;
         let status = metab_alone(alloc, words.as_slice(), &mut shelf, &mut out);
-        assert!(rt; out.taken() == b"refused words\n".as_slice(), "{} words", line.len());
+        assert!(rt;
+            out.taken() == b"refused words\n".as_slice(),
+            "{} words",
+            line.len()
+        );
         assert!(rt; status == Status::WordsRefused, "{} words", line.len());
     }
     Ok(())
@@ -267,11 +308,7 @@ fn texts_have_limits(rt: HostRuntime) -> Result<(), Fail> {
     let most = PRESENTATION_BYTES as usize;
     for (length, text, end) in [
         (most, "trivial\n", Status::Done),
-        (
-            most + 1,
-            "refused p too long 65536\n",
-            Status::TextRefused,
-        ),
+        (most + 1, "refused p too long 65536\n", Status::TextRefused),
     ] {
         let words = words(alloc, &["steps", "p", "1", "d"])?;
         let p = long(alloc, "<a|>", length)?;

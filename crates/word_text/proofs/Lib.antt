@@ -22,3 +22,9 @@ pub mod Tails
 pub mod Again
 pub mod Reading
 pub mod Letters
+pub mod Swaps
+pub mod Lexed
+pub mod Moved
+pub mod Completed
+pub mod Carets
+pub mod FirstFault

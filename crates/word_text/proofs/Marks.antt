@@ -17,7 +17,7 @@ is_letter_marked : (b : ℕ) → mark_byte b ≡ Letter → is_letter b ≡ true
 unfolding mark_byte
 is_letter_marked b e = chain (is_letter b) _ _ _ _ _ e
 
-name_byte_marked : (b : ℕ) → mark_byte b ≡ Letter → is_name_byte b ≡ true
+pub name_byte_marked : (b : ℕ) → mark_byte b ≡ Letter → is_name_byte b ≡ true
 unfolding is_name_byte
 name_byte_marked b e = rw (is_letter_marked b e) refl
 

@@ -34,7 +34,7 @@ not_past : (m n : ℕ) → nat_lt m n ≡ false → n ≤ m
 not_past m n e = grind (arith, nat_tests)
 
 -- a factor joins the product
-attach_here : (limit : ℕ) (find : Find) (spot : Spot) (begin : List ℕ) (outer v : List Letter) (place rest : List ℕ)
+pub attach_here : (limit : ℕ) (find : Find) (spot : Spot) (begin : List ℕ) (outer v : List Letter) (place rest : List ℕ)
     → SoFar limit find spot begin outer place → SpelledWithin limit find Factor place v rest → length (outer ++ v) ≤ limit
     → SpelledWithin limit find (Product After) begin (outer ++ v) rest
 attach_here limit find Start begin outer v place rest h f le = SpelledWithin.follows Start begin place rest outer v h f le

@@ -10,3 +10,4 @@ pub mod Naming
 pub mod Place
 pub mod Grammar
 pub mod Fronts
+pub mod Faults

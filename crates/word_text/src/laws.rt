@@ -1,8 +1,10 @@
 //! Laws of the reader.
 
-ghost use Rattle.std.specs.Prelude.{◌≡◌, ℕ, ◌-◌, ◌<◌, ◌≤◌, List, Some, Ok, length, drop};
+ghost use Rattle.std.specs.Prelude.{◌≡◌, ℕ, ◌-◌, ◌<◌, ◌≤◌, List, Some, Ok, Err, length, drop};
 ghost use Rattle.free_words.specs.declared.letter.Letter.{Letter};
 ghost use Rattle.free_words.specs.Words.{IsOver};
+ghost use Rattle.word_text.specs.declared.fault.Fault.{Fault};
+ghost use Rattle.word_text.specs.Faults.{IsFront, bytes_before};
 ghost use Rattle.word_text.specs.Machine.{Find, finding, word_at};
 ghost use Rattle.word_text.specs.Naming.{IsNumberOf};
 ghost use Rattle.word_text.specs.Powers.{written};
@@ -19,6 +21,12 @@ pub fn read_is_spelled()
 /// A word of the grammar that is the whole text is read, with its value.
 pub fn spelled_is_read()
     ensures { (find : Find) (text : List ℕ) (w : List Letter) → IsWord find text w → word_text find text ≡ Ok w }
+{}
+
+/// What stands before the first fault is the front of a word: some bytes make a word of the grammar of it.
+#[tactic(auto, using(crate::proofs::FirstFault::before_fault))]
+pub fn before_a_fault_is_a_front()
+    ensures { (find : Find) (text : List ℕ) (e : Fault) → word_text find text ≡ Err e → (e.left ≤ length text) × IsFront find (bytes_before text e.left) }
 {}
 
 /// The letters of a word of the grammar are generators that its names gave.

@@ -11,6 +11,8 @@ mod program;
 mod raise;
 mod scan;
 mod spell;
+#[cfg(test)]
+mod tests;
 mod whole;
 
 pub use fault::{Fault, ReadError, ReadFault, TextFault, TextKind};

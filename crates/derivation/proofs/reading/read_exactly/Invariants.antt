@@ -4,7 +4,7 @@ use Rattle.derivation.specs.Making.{IsInsertOver}
 use Rattle.derivation.specs.declared.moves.Move.{Move}
 use Rattle.derivation.specs.Reading.{derivation_text, fronted}
 use Rattle.derivation.proofs.Lines.{from_here}
-use Rattle.derivation.proofs.reading.read_derivation.Given as goal
+use Rattle.derivation.proofs.reading.read_exactly.Given as goal
 
 abbrev pub invariant-loop-moves : goal.invariant-loop-moves
 invariant-loop-moves l = record {
