@@ -1,3 +1,4 @@
 pub mod Fox
 pub mod Generators
 pub mod Module
+pub mod Running

@@ -1,0 +1,28 @@
+//! The Fox vector of a word.
+
+ghost use Rattle.std.specs.Prelude.{◌≤◌, length, IfOk};
+ghost use Rattle.free_words.specs.Words.{IsOver};
+ghost use Rattle.fox_calculus.specs.Fox.{fox};
+ghost use Rattle.fox_calculus.specs.Generators.{IsWritten};
+
+use crate::running::letter_terms;
+use free_words::{COMPOSED, Word};
+use module_vec::{ModVec, VecFault};
+use presentation::Presentation;
+use std::alloc::{AllocError, Global};
+
+/// The Fox vector of a word over the presentation's generators: the sum of +[u]·e_g for each letter x_g after a prefix u,
+/// and of -[u x_g^-1]·e_g for each letter x_g^-1 (Fox 1953). It has at most as many terms as the word has letters.
+pub fn fox(alloc: Global, p: &Presentation, w: &Word) -> Result<ModVec, AllocError>
+    requires over { IsOver (length p.now.names) w.now }
+    requires short { length w.now ≤ COMPOSED }
+    ensures { IfOk result (IsWritten (fox w.now)) }
+{
+    p.known();
+    let terms = letter_terms(alloc, w.letters())?;
+    match ModVec::from_terms(alloc, &terms) {
+        Ok(v) => Ok(v),
+        Err(VecFault::Stop(_)) => unreachable!(),
+        Err(VecFault::NoMemory) => Err(AllocError),
+    }
+}
