@@ -6,7 +6,7 @@ ghost use Rattle.std.specs.Int.{int_div_euclid};
 ghost use Rattle.std.specs.List.Sorted.{IsPermutation};
 ghost use Rattle.std.specs.Ordering.{eq_by_cmp};
 ghost use Rattle.std.specs.declared.cmp.Ordering.{Ordering};
-ghost use Rattle.std.specs.Prelude.{◌≡◌, ◌≢◌, ◌⊎◌, Bool, if◌then◌else◌, ℕ, ◌<◌, nat_eq, [], ◌∷◌, ◌++◌};
+ghost use Rattle.std.specs.Prelude.{◌≡◌, ◌≢◌, ◌⊎◌, Bool, if◌then◌else◌, ℕ, ◌<◌, ◌≤◌, nat_eq, [], ◌∷◌, ◌++◌, length};
 ghost use Rattle.std.specs.Prelude.{ℤ, pos, neg_ℤ, ◌+ℤ◌, ◌*ℤ◌, ◌<ℤ◌};
 ghost use Rattle.formal_sums.specs.Evaluation.{Addition, IsAdditive, Extends, evaluate};
 ghost use Rattle.formal_sums.specs.Evaluation.{integer_addition, sum_addition};
@@ -164,4 +164,10 @@ pub fn coefficients_determine_falling_sums<K: Ordered>()
     ensures { (eq : K → K → Bool) → IsEqualityTest eq → IsStrictOrder K.is_below →
         (v w : FormalSum K) → Falling K.is_below v → NonZero v → Falling K.is_below w → NonZero w →
         Same eq v w → v ≡ w }
+{}
+
+/// Of all sums that are the same, one with strictly falling keys and no zero coefficient has the fewest terms.
+pub fn falling_sums_are_shortest<K: Ordered>()
+    ensures { (eq : K → K → Bool) → IsEqualityTest eq → IsStrictOrder K.is_below →
+        (v w : FormalSum K) → Falling K.is_below v → NonZero v → Same eq v w → length v ≤ length w }
 {}
