@@ -1,8 +1,9 @@
--- The Fox vector of a word that isn't too long is within all limits.
-use Rattle.std.proofs.Common.{◌≡◌, ℕ, suc, ◌<◌, ◌≤◌, Bool, true, false, if◌then◌else◌, ℤ, pos, negsuc, ◌+ℤ◌, unsigned_abs, List, [], ◌∷◌, ◌++◌, length, Err, refl, sym, subst, ap, ◌∙◌, arith}
+-- Sums of few small terms, as the Fox vector of a word that isn't too long, are within all limits.
+use Rattle.std.proofs.Common.{◌≡◌, ℕ, suc, ◌+◌, ◌<◌, ◌≤◌, Bool, true, false, if◌then◌else◌, ℤ, pos, negsuc, ◌+ℤ◌, unsigned_abs, List, [], ◌∷◌, ◌++◌, length, drop, sum_by, Err, refl, sym, subst, ap, ◌∙◌, arith}
 use borrow.Author.Differences.{ints}
 use Rattle.std.proofs.lemmas.List.{length-map}
 use Rattle.free_words.specs.declared.letter.Letter.{Letter}
+use Rattle.std.proofs.lemmas.List.Sums.{sum_by-cons}
 use Rattle.std.specs.List.{AllByRecursion}
 use Rattle.formal_sums.specs.FormalSum.{FormalSum, coefficient, NonZero}
 use Rattle.formal_sums.proofs.Shortest.{falling_shortest}
@@ -27,20 +28,24 @@ pub fox_length : (u w : List Letter) → length (fox_after u w) ≡ length w
 fox_length u [] = refl
 fox_length u (l ∷ w) = ap (λ n. suc n) (fox_length (u ++ l ∷ []) w)
 
-grows : (b : Bool) (q c : ℤ) (n : ℕ) → unsigned_abs q ≡ 1 → unsigned_abs c ≤ n → unsigned_abs ((if b then q else pos 0) +ℤ c) ≤ suc n
-grows true q c n e le = omega (arith, ints)
-grows false q c n e le = omega (arith, ints)
+grows : (b : Bool) (q c : ℤ) (n : ℕ) → unsigned_abs c ≤ n → unsigned_abs ((if b then q else pos 0) +ℤ c) ≤ unsigned_abs q + n
+grows true q c n le = omega (arith, ints)
+grows false q c n le = omega (arith, ints)
 
--- each coefficient is at most the number of letters
-pub fox_small : (u w : List Letter) (x : Place) → unsigned_abs (coefficient same_place (fox_after u w) x) ≤ length w
-fox_small u [] x = omega arith
-fox_small u (l ∷ w) x =
-    grows (same_place (letter_term u l).1 x) (letter_term u l).0 (coefficient same_place (fox_after (u ++ l ∷ []) w) x) (length w)
-    (sign_by u l l.inv refl) (fox_small (u ++ l ∷ []) w x)
+-- each coefficient of the sum is at most what the coefficients of its terms make together
+coefficient_small : (v : List Term) (x : Place) → unsigned_abs (coefficient_at v x) ≤ sum_by (λ t. unsigned_abs t.k) v
+coefficient_small [] x = omega arith
+coefficient_small (t ∷ v) x =
+    subst (λ n. unsigned_abs (coefficient_at (t ∷ v) x) ≤ n) (sym (sum_by-cons (λ t. unsigned_abs t.k) t v))
+    (grows (same_place t.at x) t.k (coefficient_at v x) (sum_by (λ t. unsigned_abs t.k) v) (coefficient_small v x))
 
 nonzero : (v : List Term) → AllByRecursion IsTerm v → NonZero (sum_of v)
 nonzero [] h = tt
 nonzero (t ∷ v) h = (h.0.nonzero, nonzero v h.1)
+
+first_number : FormalSum Place → ℤ
+first_number [] = pos 0
+first_number (t ∷ v) = t.0
 
 sum_length : (v : List Term) → length (sum_of v) ≡ length v
 sum_length v = length-map {B = ℤ × Place} v (λ t. (t.k, t.at))
@@ -53,30 +58,34 @@ fewer made v sparse is =
     let b = sum_length made in
     omega (arith, le, a, b)
 
--- no limit is passed by the terms of so few letters
-pub no_stop : (made : List Term) (w : List Letter) (s : Stop) → sum_of made ≡ fox w → length w ≤ 32768 → StopsBy 0 (SumIsWide (coefficient_at made)) (coefficient_at made) s → ⊥
-no_stop made w (Wide p n) is short stop =
-    let wide : COEFFICIENT < unsigned_abs (coefficient_at made p) = stop.1.here in
-    let small : unsigned_abs (coefficient same_place (fox w) p) ≤ length w = fox_small [] w p in
-    let same : coefficient_at made p ≡ coefficient same_place (fox w) p = ap (λ (f : FormalSum Place). coefficient same_place f p) is in
-    omega (arith, wide, small, ap unsigned_abs same, short)
-no_stop made w (Long terms n) is short stop =
-    let long : TERMS < terms = stop.3 in
-    let few : length stop.2.v ≤ length made = fewer made stop.2.v stop.2.sparse stop.2.is in
-    let many : length made ≡ length w = sym (sum_length made) ∙ (ap length is ∙ fox_length [] w) in
-    omega (arith, long, few, many, short, stop.2.count)
-no_stop made w Deep is short stop = absurd stop
-no_stop made w (Steep d) is short stop = absurd stop
+-- few small terms pass no limit
+no_stop : (v : List Term) (s : Stop) → length v ≤ TERMS → sum_by (λ t. unsigned_abs t.k) v ≤ COEFFICIENT → StopsBy 0 (SumIsWide (coefficient_at v)) (coefficient_at v) s → ⊥
+no_stop v (Wide p n) few small stop = omega (arith, coefficient_small v p, small, stop.1.here)
+no_stop v (Long terms n) few small stop =
+    let le : length stop.2.v ≤ length v = fewer v stop.2.v stop.2.sparse stop.2.is in
+    omega (arith, stop.3, le, few, stop.2.count)
+no_stop v Deep few small stop = absurd stop
+no_stop v (Steep d) few small stop = absurd stop
 
-pub terms_few : (made terms : List Term) (w letters : List Letter) → terms ≡ made → sum_of made ≡ fox letters → letters ≡ w → length w ≤ 32768 → length terms < 4294967296
-terms_few made terms w letters e is same short =
-    let many : length made ≡ length letters = sym (sum_length made) ∙ (ap length is ∙ fox_length [] letters) in
-    omega (arith, ap length e, many, ap length same, short)
+pub no_fault : (v : List Term) (e : VecFault) (s : Stop) → e ≡ faults.Stop s → length v ≤ TERMS → sum_by (λ t. unsigned_abs t.k) v ≤ COEFFICIENT
+    → Makes (SumIsWide (coefficient_at v)) (coefficient_at v) (Err e) → ⊥
+no_fault v e s is few small makes =
+    no_stop v s few small (subst (λ (x : VecFault). Makes (SumIsWide (coefficient_at v)) (coefficient_at v) (Err x)) is makes)
 
--- so from_terms gives no Stop
-pub no_fault : (made terms : List Term) (w letters : List Letter) (e : VecFault) (s : Stop) → e ≡ faults.Stop s → terms ≡ made → sum_of made ≡ fox letters → letters ≡ w → length w ≤ 32768
-    → Makes (SumIsWide (coefficient_at terms)) (coefficient_at terms) (Err e) → ⊥
-no_fault made terms w letters e s is told sum same short makes =
-    let stop : Makes (SumIsWide (coefficient_at terms)) (coefficient_at terms) (Err (faults.Stop s)) =
-    subst (λ (x : VecFault). Makes (SumIsWide (coefficient_at terms)) (coefficient_at terms) (Err x)) is makes in
-    no_stop terms letters s (ap sum_of told ∙ sum) (rw same short) stop
+-- so the terms of a word that isn't too long
+pub terms_few : (made : List Term) (w : List Letter) → sum_of made ≡ fox w → length made ≡ length w
+terms_few made w is = sym (sum_length made) ∙ (ap length is ∙ fox_length [] w)
+
+all_ones : (v : List Term) (u w : List Letter) → sum_of v ≡ fox_after u w → sum_by (λ t. unsigned_abs t.k) v ≡ length w
+unfolding first_number
+all_ones [] u [] e = refl
+all_ones [] u (l ∷ w) e = cc
+all_ones (t ∷ v) u [] e = cc
+all_ones (t ∷ v) u (l ∷ w) e =
+    let first : t.k ≡ (letter_term u l).0 = ap first_number e in
+    let rest : sum_of v ≡ fox_after (u ++ l ∷ []) w = ap (drop 1) e in
+    sum_by-cons (λ t. unsigned_abs t.k) t v
+    ∙ omega (arith, all_ones v (u ++ l ∷ []) w rest, ap unsigned_abs first ∙ sign_by u l l.inv refl)
+
+pub terms_small : (made : List Term) (w : List Letter) → sum_of made ≡ fox w → sum_by (λ t. unsigned_abs t.k) made ≡ length w
+terms_small made w is = all_ones made [] w is

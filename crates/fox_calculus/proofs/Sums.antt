@@ -2,7 +2,7 @@
 use Rattle.std.proofs.Common.{◌≡◌, ◌≢◌, ℕ, zero, suc, ◌+◌, ◌<◌, ◌≤◌, ◌==◌, Bool, true, false, ℤ, pos, negsuc, ◌+ℤ◌, unsigned_abs, List, [], ◌∷◌, ◌++◌, length, take, map, get_or, set, sum_by, refl, sym, ap, subst, ◌∙◌, arith, if◌then◌else◌}
 use borrow.Author.Differences.{ints}
 use Rattle.std.proofs.lemmas.Bool.Decides.{nat_tests}
-use Rattle.std.proofs.lemmas.List.{same_lists, get_or-set_same, get_or-set_other, length-set, take_more}
+use Rattle.std.proofs.lemmas.List.{take_all, get_or_default, same_lists, get_or-set_same, get_or-set_other, length-set, take_more}
 use Rattle.std.proofs.lemmas.List.Sums.{sum_by-set}
 use Rattle.std.proofs.lemmas.List.FromFn.{length-map-range_with_len, get_or-map-range_with_len}
 use Rattle.std.specs.List.{range_with_len}
@@ -87,3 +87,18 @@ total_below w (suc i) over le =
     ap (λ k. exponent_sums (take k w)) (sym one) ∙ (ap exponent_sums more ∙ sums_more (take i w) l known) in
     let known' : l.g < length (exponent_sums (take i w)) = subst (λ (n : ℕ). l.g < n) (sym (sums_length (take i w))) known in
     below (total_added (exponent_sums (take i w)) l known') (total_below w i over (omega (arith, le))) (ap (sum_by unsigned_abs) grown)
+
+within : {a b n : ℕ} → b ≤ n → n ≤ 32768 → a ≡ b → a ≤ 60000
+within p q e = omega (arith, p, q, e)
+
+-- a table with these sums is the list of them
+pub sums_are : (e : List ℤ) (w : List Letter) → length e ≡ 24 → ((g : ℕ) → g < 24 → get_or e g (pos 0) ≡ exponent_sum g w) → e ≡ exponent_sums w
+sums_are e w long each =
+    same_lists e (exponent_sums w) (long ∙ sym (sums_length w))
+    (λ k d lt. let lt' : k < 24 = omega (arith, lt, long) in get_or_default e k d (pos 0) lt ∙ (each k lt' ∙ sym (sums_at w k d lt')))
+
+pub image_small : (e : List ℤ) (w : List Letter) → e ≡ exponent_sums w → IsOver 24 w → length w ≤ 32768 → sum_by unsigned_abs e ≤ 60000
+image_small e w is over short =
+    let all = total_below w (length w) over (omega arith) in
+    let whole : take (length w) w ≡ w = take_all (length w) w (omega arith) in
+    within (subst (λ (l : List Letter). sum_by unsigned_abs (exponent_sums l) ≤ length w) whole all) short (ap (sum_by unsigned_abs) is)

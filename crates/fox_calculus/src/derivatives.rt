@@ -6,8 +6,9 @@ ghost use Rattle.fox_calculus.specs.Fox.{fox};
 ghost use Rattle.fox_calculus.specs.Generators.{IsWritten};
 
 use crate::running::letter_terms;
+use crate::small::small_sum;
 use free_words::{COMPOSED, Word};
-use module_vec::{ModVec, VecFault};
+use module_vec::ModVec;
 use presentation::Presentation;
 use std::alloc::{AllocError, Global};
 
@@ -20,9 +21,5 @@ pub fn fox(alloc: Global, p: &Presentation, w: &Word) -> Result<ModVec, AllocErr
 {
     p.known();
     let terms = letter_terms(alloc, w.letters())?;
-    match ModVec::from_terms(alloc, &terms) {
-        Ok(v) => Ok(v),
-        Err(VecFault::Stop(_)) => unreachable!(),
-        Err(VecFault::NoMemory) => Err(AllocError),
-    }
+    small_sum(alloc, &terms)
 }

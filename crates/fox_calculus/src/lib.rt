@@ -5,7 +5,11 @@
 //! its vector lies in the module that the presentation's generators make (Magnus 1939).
 #![tactic(auto)]
 
+mod binomials;
 mod derivatives;
+mod listing;
 mod running;
+mod small;
 
 pub use derivatives::fox;
+pub use listing::generators;

@@ -1,11 +1,14 @@
-use Rattle.fox_calculus.proofs.Short.{terms_few, no_fault}
+use Rattle.std.proofs.Common.{List, ap, sum_by, unsigned_abs, length, arith, ◌∙◌}
+use Rattle.module_vec.specs.declared.places.Term.{Term}
+use Rattle.fox_calculus.proofs.Short.{terms_few, terms_small}
 use Rattle.fox_calculus.proofs.derivatives.fox.Goals as goal
 
-pub from_terms-requires : goal.from_terms-requires
-from_terms-requires c =
-    terms_few c.in_ok-terms.terms.items c.deref.result.now c.args.w.now c.letters.result.now c.deref.ensures.value c.in_ok-terms.ensures c.letters.ensures.letters c.requires.short
+pub small_sum-requires-clause-few : goal.small_sum-requires-clause-few
+small_sum-requires-clause-few c =
+    let many = terms_few c.in_ok-terms.terms.items c.letters.result.now c.in_ok-terms.ensures in
+    omega (arith, many, ap length c.letters.ensures.letters, c.requires.short, ap length c.deref.ensures.value)
 
-pub unreachable-requires : goal.unreachable-requires
-unreachable-requires c =
-    no_fault c.in_ok-terms.terms.items c.deref.result.now c.args.w.now c.letters.result.now c.in-Err-Stop.field-0 c.in-Err-Stop.field-0-0 c.in-Err-Stop.field-0-is
-    c.deref.ensures.value c.in_ok-terms.ensures c.letters.ensures.letters c.requires.short c.in-Err-Stop.ensures
+pub small_sum-requires-clause-small : goal.small_sum-requires-clause-small
+small_sum-requires-clause-small c =
+    let all = terms_small c.in_ok-terms.terms.items c.letters.result.now c.in_ok-terms.ensures in
+    omega (arith, all, ap length c.letters.ensures.letters, c.requires.short, ap (sum_by (λ (t : Term). unsigned_abs t.k)) c.deref.ensures.value)

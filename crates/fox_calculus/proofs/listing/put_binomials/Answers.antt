@@ -1,0 +1,18 @@
+use Rattle.std.proofs.Common.{map}
+use Rattle.std.specs.List.{range_with_len}
+use Rattle.fox_calculus.specs.Generators.{binomial}
+use Rattle.fox_calculus.proofs.Puts.{puts_none, puts_number, puts_up_to}
+use Rattle.fox_calculus.proofs.listing.put_binomials.Goals as goal
+
+pub loop-c-init : goal.loop-c-init
+loop-c-init c = puts_none c.args.made.now.items
+
+pub loop-c-preserved : goal.loop-c-preserved
+loop-c-preserved c =
+    puts_number (binomial c.args.m.now) c.loop-c.c c.args.made.now.items c.loop-c.made.items c.put.new.made.items c.loop-c.invariant
+    (λ fs h. c.in_ok-put.ensures fs (binomial c.args.m.now c.loop-c.c) c.in_ok-binomial.ensures h)
+
+pub returns : goal.returns
+returns c =
+    puts_up_to (λ n. map (binomial c.args.m.now) (range_with_len 0 n)) c.loop-c.c c.args.count c.args.made.now.items c.loop-c.made.items
+    c.loop-c.auto.c-end c.loop-c-test.false c.loop-c.invariant

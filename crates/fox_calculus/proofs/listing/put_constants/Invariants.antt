@@ -1,0 +1,8 @@
+use Rattle.std.proofs.Common.{map}
+use Rattle.std.specs.List.{range_with_len}
+use Rattle.fox_calculus.specs.Generators.{constant}
+use Rattle.fox_calculus.proofs.Puts.{Puts}
+use Rattle.fox_calculus.proofs.listing.put_constants.Given as goal
+
+abbrev pub invariant-loop-c : goal.invariant-loop-c
+invariant-loop-c l = Puts l.initial.made.items (map (constant l.n) (range_with_len 0 l.c)) l.made.items
