@@ -1,5 +1,5 @@
 -- Lists of sums, written as vectors, that grow at the end.
-use Rattle.std.proofs.Common.{◌≡◌, ◌≢◌, ℕ, ◌+◌, ◌<◌, ◌≤◌, ◌==◌, Bool, true, false, List, [], ◌∷◌, ◌++◌, length, take, map, get_or, refl, sym, ap, subst, ◌∙◌, append_assoc, arith}
+use Rattle.std.proofs.Common.{◌≡◌, ◌≢◌, ℕ, zero, suc, ◌+◌, ◌<◌, ◌≤◌, ◌==◌, Bool, true, false, List, [], ◌∷◌, ◌++◌, length, take, map, get_or, refl, sym, ap, subst, ◌∙◌, append_assoc, arith}
 use Rattle.std.specs.List.{range_with_len, flat_map}
 use Rattle.std.proofs.lemmas.List.{take_all, take_more, map-append, append-nil}
 use Rattle.std.proofs.lemmas.Bool.Decides.{nat_tests}
@@ -81,15 +81,38 @@ binomials_as m m' n n' mid new e k h =
 -- all of them have been put
 pub puts_all : {X : Type 0} (f : List X → List (FormalSum Place)) (xs ys : List X) (i : ℕ) (old new : List (List Term)) → xs ≡ ys → length xs ≤ i
     → Puts old (f (take i xs)) new → Puts old (f ys) new
-puts_all f xs ys i old new e le h = subst (λ (l : List X). Puts old (f l) new) (take_all i xs le ∙ e) h
+puts_all {X} f xs ys i old new e le h = subst (λ (l : List X). Puts old (f l) new) (take_all i xs le ∙ e) h
 
 pub puts_up_to : (f : ℕ → List (FormalSum Place)) (i n : ℕ) (old new : List (List Term)) → i ≤ n → n ≤ i → Puts old (f i) new → Puts old (f n) new
 puts_up_to f i n old new le ge h = let e : i ≡ n = omega (arith, le, ge) in subst (λ (k : ℕ). Puts old (f k) new) e h
 
+range_more : (a n j : ℕ) → a + n ≡ j → range_with_len a (suc n) ≡ range_with_len a n ++ j ∷ []
+range_more a zero j e = let is : a ≡ j = omega (arith, e) in ap (λ (x : ℕ). x ∷ []) is
+range_more a (suc n) j e = ap (λ (l : List ℕ). a ∷ l) (range_more (a + 1) n j (omega (arith, e)))
+
+next_range : (i : ℕ) → range_with_len 0 (i + 1) ≡ range_with_len 0 i ++ i ∷ []
+next_range i = let one : i + 1 ≡ suc i = omega arith in ap (range_with_len 0) one ∙ range_more 0 i i (omega arith)
+
 pub lists_number : (f : ℕ → List (FormalSum Place)) (i : ℕ) (old mid new : List (List Term))
     → Puts old (flat_map f (range_with_len 0 i)) mid → Puts mid (f i) new → Puts old (flat_map f (range_with_len 0 (i + 1))) new
 lists_number f i old mid new a b =
-    let more : range_with_len 0 (i + 1) ≡ range_with_len 0 i ++ i ∷ [] = range_with_len_more 0 i in
+    let more : range_with_len 0 (i + 1) ≡ range_with_len 0 i ++ i ∷ [] = next_range i in
     subst (λ (l : List (FormalSum Place)). Puts old l new)
     (sym (ap (flat_map f) more ∙ (flat_map-append f (range_with_len 0 i) (i ∷ []) ∙ ap (λ (l : List (FormalSum Place)). flat_map f (range_with_len 0 i) ++ l) (append-nil (f i)))))
     (puts_both old mid new (flat_map f (range_with_len 0 i)) (f i) a b)
+
+-- the four kinds, one after another
+pub puts_kinds : (v0 v1 v2 v3 v4 : List (List Term)) (a b c d : List (FormalSum Place)) → v0 ≡ [] → Puts v0 a v1 → Puts v1 b v2 → Puts v2 c v3 → Puts v3 d v4
+    → AreWritten (a ++ (b ++ (c ++ d))) v4
+puts_kinds v0 v1 v2 v3 v4 a b c d none f g h k =
+    puts_both v0 v1 v4 a (b ++ (c ++ d)) f (puts_both v1 v2 v4 b (c ++ d) g (puts_both v2 v3 v4 c d h k)) []
+    (subst (AreWritten []) (sym none) AreWritten.nothing)
+
+-- the item that stands at a place
+pub puts_item : {X : Type 0} (f : X → FormalSum Place) (xs : List X) (i : ℕ) (x d : X) (old mid new : List (List Term)) → i < length xs → x ≡ get_or xs i d
+    → Puts old (map f (take i xs)) mid → Puts mid (f x ∷ []) new → Puts old (map f (take (i + 1) xs)) new
+puts_item f xs i x d old mid new lt e a b = puts_next f xs i d old mid new lt a (subst (λ y. Puts mid (f y ∷ []) new) e b)
+
+pub puts_list_item : {X : Type 0} (f : X → List (FormalSum Place)) (xs : List X) (i : ℕ) (x d : X) (old mid new : List (List Term)) → i < length xs → x ≡ get_or xs i d
+    → Puts old (flat_map f (take i xs)) mid → Puts mid (f x) new → Puts old (flat_map f (take (i + 1) xs)) new
+puts_list_item f xs i x d old mid new lt e a b = puts_lists f xs i d old mid new lt a (subst (λ y. Puts mid (f y) new) e b)
