@@ -21,7 +21,7 @@ use Rattle.module_vec.specs.Results.{SumIsWide, IsGreatest}
 use Rattle.module_vec.specs.Merging.{IsFound, BeginsAtMost, BeginsElsewhere}
 use Rattle.module_vec.specs.Collecting.{total_of, Descends, stands_at}
 use Rattle.module_vec.proofs.Order.{test, order}
-use Rattle.module_vec.proofs.Lists.{Above, Below, Falls, all_join, above_join, falls_insert, at_join, at_above, at_below}
+use Rattle.module_vec.proofs.FallingTerms.{Above, Below, Falls, all_join, above_join, falls_insert, at_join, at_above, at_below}
 use Rattle.module_vec.proofs.Merging.{single, in_range, in_range_not_wide}
 
 -- ---- sums of coefficients

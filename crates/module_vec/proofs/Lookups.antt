@@ -20,7 +20,7 @@ use Rattle.module_vec.specs.declared.places.Term.{Term}
 use Rattle.module_vec.specs.Places.{place_cmp, IsBelow, IsPlace, same_place}
 use Rattle.module_vec.specs.Vectors.{sum_of, coefficient_at, InRange, IsTerm, IsVector}
 use Rattle.module_vec.proofs.Order.{place_total, place_exact, test, order}
-use Rattle.module_vec.proofs.Lists.{Below, Falls, at_above}
+use Rattle.module_vec.proofs.FallingTerms.{Below, Falls, at_above}
 use Rattle.module_vec.proofs.Collecting.{goes_before}
 
 pub all_read : {A : Type 0} (P : A → Type 0) (v : List A) (i : ℕ) (d : A) → i < length v → AllByRecursion P v → P (get_or v i d)

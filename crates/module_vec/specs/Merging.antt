@@ -54,9 +54,9 @@ abbrev pub TakesFirst : Place → List Term → ℤ → List Term → Type 0
 TakesFirst p v k v' = (v ≡ record { at = p; k = k } ∷ v') ⊎ ((k ≡ pos 0) × (v' ≡ v) × BeginsElsewhere p v)
 
 -- q·k is taken from a
-abbrev pub Reduces : ℤ → ℤ → ℤ → Option ℤ → Type 0
-Reduces a q k None = IsWide (q *ℤ k) ⊎ IsWide (a -ℤ q *ℤ k)
-Reduces a q k (Some z) = (z ≡ a -ℤ q *ℤ k) × InRange z × InRange (q *ℤ k)
+abbrev pub Subtracts : ℤ → ℤ → ℤ → Option ℤ → Type 0
+Subtracts a q k None = IsWide (q *ℤ k) ⊎ IsWide (a -ℤ q *ℤ k)
+Subtracts a q k (Some z) = (z ≡ a -ℤ q *ℤ k) × InRange z × InRange (q *ℤ k)
 
 -- the vector with the terms v, or their number where that passes the limit
 abbrev pub IsLimited : List Term → Result (List Term) VecFault → Type 0

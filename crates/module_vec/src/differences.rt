@@ -3,7 +3,7 @@
 ghost use Rattle.std.specs.Prelude.{◌≡◌, ◌≤◌, ◌+◌, length, MatchResult, IfOk, take_while};
 ghost use Rattle.module_vec.specs.Vectors.{coefficient_at, multiple_at, difference_at, InRange, IsVector, HasRoom};
 ghost use Rattle.module_vec.specs.Results.{DifferenceIsWide};
-ghost use Rattle.module_vec.specs.Merging.{IsFound, FailsBy, Passes, TakesFirst, Reduces, stands_above};
+ghost use Rattle.module_vec.specs.Merging.{IsFound, FailsBy, Passes, TakesFirst, Subtracts, stands_above};
 
 use crate::range::{checked_difference, checked_product};
 use crate::{Place, Stop, Term, VecFault};
@@ -77,7 +77,7 @@ fn take_first<'a>(rest: &'a [Term], at: &Place) -> (i128, &'a [Term])
 
 /// `before - q * k`, or `None` where the product or the difference leaves the range.
 fn reduced(before: i128, q: i128, k: i128) -> Option<i128>
-    ensures { Reduces before q k result }
+    ensures { Subtracts before q k result }
 {
     checked_difference(before, checked_product(q, k)?)
 }

@@ -11,12 +11,14 @@
 mod differences;
 mod falling;
 mod faults;
+mod lists;
 mod places;
 mod range;
 mod sums;
 mod vectors;
 
 pub use faults::{Stop, VecFault};
+pub use lists::VecList;
 pub use places::{Place, Term};
 pub use range::{checked_difference, checked_product};
 pub use vectors::ModVec;

@@ -6,7 +6,7 @@ use Rattle.std.proofs.lemmas.List.{drop_all}
 use Rattle.std.proofs.lemmas.Int.{to_z-of_z}
 use Rattle.laurent_terms.specs.declared.TheConstants.{DEGREE}
 use Rattle.laurent_terms.specs.Monomials.{degree}
-use Rattle.module_vec.proofs.Lists.{all_drop, drop_read, room_each}
+use Rattle.module_vec.proofs.FallingTerms.{all_drop, drop_read, room_each}
 use Rattle.module_vec.proofs.Merging.{Merging, Found, found_at, step_wide, step_zero, step_term, ends, passed_count}
 use Rattle.module_vec.proofs.differences.difference.Goals as goal
 use Rattle.module_vec.proofs.differences.difference.Goals.{then-k-ne0+in_ok-push, else-k-ne0}
