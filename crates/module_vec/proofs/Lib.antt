@@ -4,3 +4,4 @@ pub mod Collecting
 pub mod Merging
 pub mod Lookups
 pub mod Scans
+pub mod Determined

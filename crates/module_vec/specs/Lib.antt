@@ -5,3 +5,5 @@ pub mod Merging
 pub mod Collecting
 pub mod Reducers
 pub mod Scanning
+pub mod Modules
+pub mod Chains
