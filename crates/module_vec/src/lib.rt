@@ -9,6 +9,7 @@
 #![tactic(auto)]
 
 mod differences;
+mod entries;
 mod falling;
 mod faults;
 pub mod laws;
@@ -19,6 +20,7 @@ mod steps;
 mod sums;
 mod vectors;
 
+pub use entries::Entries;
 pub use faults::{Stop, VecFault};
 pub use lists::VecList;
 pub use places::{Place, Term};

@@ -1,16 +1,17 @@
 //! `ModVec`: terms in strictly falling order.
 
-ghost use Rattle.std.specs.Prelude.{◌≡◌, ℤ, negsuc, ◌*ℤ◌, ◌<◌, ◌^◌, length, [], slice_get};
+ghost use Rattle.std.specs.Prelude.{◌≡◌, ◌↔◌, IsTrue, ℤ, negsuc, ◌*ℤ◌, ◌<◌, ◌^◌, length, [], slice_get};
 ghost use Rattle.formal_sums.specs.FormalSum.{scale};
 ghost use Rattle.module_vec.specs.Vectors.{sum_of, coefficient_at, multiple_at, difference_at, InRange, IsSparse, IsVector, HasRoom};
 ghost use Rattle.module_vec.specs.Results.{SumIsWide, DifferenceIsWide, Makes};
 ghost use Rattle.module_vec.specs.Merging.{IsLimited};
+ghost use Rattle.module_vec.specs.Reducers.{IsEntry};
 
 use crate::differences::difference;
 use crate::falling::{coefficient, negate};
 use crate::sums::sum;
 use crate::{Place, Stop, TERMS, Term, VecFault};
-use laurent_terms::Mono;
+use laurent_terms::{DEGREE, Mono};
 use std::alloc::Global;
 use std::marker::Model;
 
@@ -71,6 +72,27 @@ impl ModVec {
         ensures { result ≡ coefficient_at self.now at.now }
     {
         coefficient(self.terms.as_slice(), at)
+    }
+
+    /// Whether the multiple by `t` is in reach: the degrees of `t` and of the lead add up to at most
+    /// [`DEGREE`](laurent_terms::DEGREE).
+    pub fn has_room(&self, t: &Mono) -> bool
+        ensures { IsTrue result ↔ HasRoom t.now self.now }
+    {
+        match self.terms.first() {
+            Some(lead) => t.degree() + lead.at.m.degree() <= DEGREE,
+            None => true,
+        }
+    }
+
+    /// Whether the vector can be an entry of a list: it has a lead, with a positive coefficient.
+    pub fn is_entry(&self) -> bool
+        ensures { IsTrue result ↔ IsEntry self.now }
+    {
+        match self.terms.first() {
+            Some(lead) => lead.k > 0,
+            None => false,
+        }
     }
 
     /// The sum of the terms, in any order and with any coefficients of 128 bits; there are fewer than 2^32 of them.
