@@ -36,3 +36,6 @@ pub const TERMS: u32 = 50_000;
 
 /// The most steps of one reduction.
 pub const STEPS: u32 = 100_000;
+
+#[cfg(test)]
+mod tests;
