@@ -1,5 +1,5 @@
 -- Vectors are determined by their coefficients, and reductions by the vector and the list.
-use Rattle.std.proofs.Common.{◌≡◌, ◌≢◌, ℕ, ◌<◌, ◌≤◌, ℤ, pos, List, [], ◌∷◌, ◌⊎◌, inl, inr, refl, sym, ap, ◌∙◌, subst, arith}
+use Rattle.std.proofs.Common.{◌≡◌, ℕ, ℤ, List, [], ◌∷◌, ◌⊎◌, inl, inr, refl, sym, ap, ◌∙◌, subst, arith}
 use Rattle.std.specs.Int.{int_div_euclid}
 use Rattle.std.specs.List.{AllByRecursion}
 use Rattle.std.specs.Prelude.{slice_get, Some}
@@ -13,7 +13,7 @@ use Rattle.module_vec.specs.declared.steps.Step.{Step}
 use Rattle.module_vec.specs.Places.{IsBelow}
 use Rattle.module_vec.specs.Vectors.{Coefficients, sum_of, coefficient_at, IsTerm, IsSparse}
 use Rattle.module_vec.specs.Reducers.{GoesBefore, IsReducer}
-use Rattle.module_vec.specs.Chains.{IsDue, IsNext, Chain, IsEnd, Runs, after}
+use Rattle.module_vec.specs.Chains.{IsNext, Chain, IsEnd, Runs, after}
 use Rattle.module_vec.proofs.Order.{test, order}
 
 nonzero : (v : List Term) → AllByRecursion IsTerm v → NonZero (sum_of v)

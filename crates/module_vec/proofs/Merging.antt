@@ -1,6 +1,6 @@
 -- Merging the terms of v with those of the multiple q·t·g: what holds after each term of g.
-use Rattle.std.proofs.Common.{◌≡◌, ◌≢◌, ℕ, zero, suc, ◌+◌, ◌<◌, ◌≤◌, ℤ, pos, ◌+ℤ◌, ◌-ℤ◌, ◌*ℤ◌, Bool, true, false, cond, List, [], ◌∷◌, ◌++◌, length, length-append, take, drop, get_or, ◌⊎◌, inl, inr, refl, sym, ap, ◌∙◌, arith, subst, IsTrue, append_assoc}
-use Rattle.std.specs.Prelude.{unsigned_abs, Option, Some, None, take_while}
+use Rattle.std.proofs.Common.{◌≡◌, ℕ, suc, ◌+◌, ◌<◌, ◌≤◌, ℤ, pos, ◌+ℤ◌, ◌-ℤ◌, ◌*ℤ◌, Bool, true, false, cond, List, [], ◌∷◌, ◌++◌, length, length-append, take, drop, get_or, ◌⊎◌, inl, inr, refl, sym, ap, ◌∙◌, arith, subst, append_assoc}
+use Rattle.std.specs.Prelude.{Some, None, take_while}
 use Rattle.std.specs.List.{AllByRecursion, prefix_len}
 use Rattle.std.proofs.lemmas.List.{take-append-drop}
 use Rattle.std.proofs.lemmas.List.Folds.{length-prefix_len}
@@ -8,11 +8,9 @@ use Rattle.std.specs.Ordering.{is_gt, ordering_reverse}
 use Rattle.std.specs.declared.cmp.Ordering.{Ordering}
 use Rattle.std.specs.declared.cmp.Ordering.TheVariants.{Less, Equal, Greater}
 use borrow.Author.Differences.{ints}
-use Rattle.formal_sums.specs.FormalSum.{coefficient, AllBelow, AllAbove, Falling}
+use Rattle.formal_sums.specs.FormalSum.{AllBelow}
 use Rattle.formal_sums.proofs.Falling.{coefficient-above, AllBelow_transitive, AllAbove_transitive}
-use Rattle.formal_sums.proofs.Keys.{eq-apart}
 use Rattle.laurent_terms.specs.declared.TheConstants.{VARIABLES}
-use Rattle.module_vec.specs.declared.TheConstants.{COEFFICIENT}
 use Rattle.module_vec.specs.declared.places.Place.{Place}
 use Rattle.module_vec.specs.declared.places.Term.{Term}
 use Rattle.module_vec.specs.Places.{place_cmp, IsBelow, same_place, moved}
@@ -409,7 +407,7 @@ module _ (v : List Term) (q : ℤ) (t : List ℕ) (g made rest left : List Term)
       let push : made2 ≡ made' ++ record { at = moved t e.at; k = z } ∷ [] = is ∙ ap (λ x. made' ++ record { at = x; k = z } ∷ []) f.place in
       subst (λ m. Merging v q t g m behind left) (sym push)
       (goes_on v q t g made rest e left k made' behind (turn f) (made' ++ record { at = moved t e.at; k = z } ∷ []) z reduced
-        (puts (moved t e.at) (made ++ rest) made' behind k z (opened f) (subst (λ x. IsTerm (record { at = x; k = z })) f.place term)))
+      (puts (moved t e.at) (made ++ rest) made' behind k z (opened f) (subst (λ x. IsTerm (record { at = x; k = z })) f.place term)))
 
 -- the same at the i-th term of g
 pub found_at : (v : List Term) (q : ℤ) (t : List ℕ) (g made rest : List Term) (i : ℕ) (e : Term) (made' from behind : List Term) (k : ℤ) (p : Place) → Merging v q t g made rest (drop i g) → IsSparse g → i < length g → e ≡ get_or g i e → length t ≡ VARIABLES → p ≡ moved t e.at → Passes p made rest made' from → TakesFirst p from k behind → Found v q t g made rest (drop (i + 1) g) e made' from behind k p

@@ -1,5 +1,5 @@
 -- A scan of a list of entries finds the reducer.
-use Rattle.std.proofs.Common.{◌≡◌, ℕ, zero, suc, ◌+◌, ◌<◌, ◌≤◌, ℤ, pos, Bool, true, false, List, [], ◌∷◌, ◌++◌, length, take, get_or, ◌⊎◌, inl, inr, refl, sym, ap, ◌∙◌, subst, arith}
+use Rattle.std.proofs.Common.{◌≡◌, ℕ, zero, suc, ◌+◌, ◌<◌, ℤ, false, List, [], ◌∷◌, ◌++◌, length, take, get_or, ◌⊎◌, inl, inr, refl, sym, ap, ◌∙◌, subst, arith}
 use Rattle.std.specs.Prelude.{◌<ℤ◌, ◌≤ℤ◌, Option, Some, None, slice_get}
 use Rattle.std.proofs.lemmas.Int.{by_lt_z}
 use borrow.Author.Differences.{ints}
@@ -7,7 +7,7 @@ use lib.Signed.{le_z}
 use Rattle.module_vec.specs.declared.places.Place.{Place}
 use Rattle.module_vec.specs.declared.places.Term.{Term}
 use Rattle.module_vec.specs.declared.lists.Candidate.{Candidate}
-use Rattle.module_vec.specs.Reducers.{Entry, Reduces, GoesBefore, IsReducer, FindsReducer}
+use Rattle.module_vec.specs.Reducers.{Entry, Reduces, GoesBefore, IsReducer}
 use Rattle.module_vec.specs.Scanning.{FindsCandidate}
 
 -- ---- one more entry
@@ -67,11 +67,16 @@ module _ (b : List (List Term)) (v others : List Term) (lead : Term) (p : Place)
       by : (i : ℕ) (e : Term) (g : List Term) → Reduces e p → ((slice_get b i ≡ Some (e ∷ g)) × (i < length b)) ⊎ ((i ≡ length b) × (v ≡ e ∷ g)) → ⊥
       by i e g reduces (inl old) = none i e g old.0 reduces
       by i e g reduces (inr new) = h (subst (λ t. Reduces t p) (sym (same_entry lead e others g v is new.1)) reduces)
-  not_reduced h (Some c) (e, g, r, k) = (e, g, record {
-    entry = read_push_old v b c.number (e ∷ g) r.entry;
-    reduces = r.reduces;
-    first = λ j f w entry reduces. by j f w reduces (read_push v b j (f ∷ w) entry);
-  }, k)
+  not_reduced h (Some c) (e, g, r, k) = (
+    e,
+    g,
+    record {
+      entry = read_push_old v b c.number (e ∷ g) r.entry;
+      reduces = r.reduces;
+      first = λ j f w entry reduces. by j f w reduces (read_push v b j (f ∷ w) entry);
+    },
+    k,
+  )
     where
       by : (j : ℕ) (f : Term) (w : List Term) → Reduces f p → ((slice_get b j ≡ Some (f ∷ w)) × (j < length b)) ⊎ ((j ≡ length b) × (v ≡ f ∷ w)) → GoesBefore e.k c.number f.k j
       by j f w reduces (inl old) = r.first j f w old.0 reduces
@@ -79,11 +84,16 @@ module _ (b : List (List Term)) (v others : List Term) (lead : Term) (p : Place)
 
   -- an entry before it goes first
   pub not_better : (c : Candidate) → c.coefficient ≤ℤ lead.k → FindsCandidate b p (Some c) → FindsCandidate (b ++ v ∷ []) p (Some c)
-  not_better c le (e, g, r, k) = (e, g, record {
-    entry = read_push_old v b c.number (e ∷ g) r.entry;
-    reduces = r.reduces;
-    first = λ j f w entry reduces. by j f w reduces (read_push v b j (f ∷ w) entry);
-  }, k)
+  not_better c le (e, g, r, k) = (
+    e,
+    g,
+    record {
+      entry = read_push_old v b c.number (e ∷ g) r.entry;
+      reduces = r.reduces;
+      first = λ j f w entry reduces. by j f w reduces (read_push v b j (f ∷ w) entry);
+    },
+    k,
+  )
     where
       new_one : (j : ℕ) (f : Term) → lead ≡ f → j ≡ length b → (e.k <ℤ lead.k) ⊎ (e.k ≡ lead.k) → GoesBefore e.k c.number f.k j
       new_one j f same last (inl below) = inl (subst (λ (t : Term). e.k <ℤ t.k) same below)

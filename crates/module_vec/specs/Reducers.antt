@@ -1,6 +1,6 @@
 -- Lists of vectors with positive leads, and the reducer of a place among them.
 use Rattle.std.specs.List.{AllByRecursion}
-use Rattle.std.specs.Prelude.{◌≡◌, ℕ, ◌≤◌, true, ◌⊎◌, ℤ, pos, ◌<ℤ◌, List, [], ◌∷◌, Option, Some, None, slice_get}
+use Rattle.std.specs.Prelude.{◌≡◌, ℕ, ◌≤◌, true, ◌⊎◌, ℤ, pos, ◌<ℤ◌, List, ◌∷◌, Option, Some, None, slice_get}
 use Rattle.laurent_terms.specs.Monomials.{divides}
 use Rattle.module_vec.specs.declared.places.Place.{Place}
 use Rattle.module_vec.specs.declared.places.Term.{Term}

@@ -11,19 +11,23 @@ use laurent_terms::Mono;
 use std::alloc::{AllocError, Global};
 
 /// The terms of `v - q·t·g`, of which there may be more than a vector has.
-pub fn difference(alloc: Global, v: &[Term], q: i128, t: &Mono, g: &[Term]) -> Result<Vec<Term>, VecFault>
+pub fn difference(
+    alloc: Global,
+    v: &[Term],
+    q: i128,
+    t: &Mono,
+    g: &[Term],
+) -> Result<Vec<Term>, VecFault>
     requires v { IsVector v.now }
     requires g { IsVector g.now }
     requires range { InRange q }
     requires room { HasRoom t.now g.now }
-    ensures {
-        let f = coefficient_at v.now in
+    ensures { let f = coefficient_at v.now in
         let multiple = multiple_at q t.now g.now in
         let IsWideAt = DifferenceIsWide f multiple in
         MatchResult result
-            (λ made. IsFound IsWideAt (difference_at f multiple) made.items × (length made.items ≤ length v.now + length g.now))
-            (FailsBy IsWideAt)
-    }
+        (λ made. IsFound IsWideAt (difference_at f multiple) made.items × (length made.items ≤ length v.now + length g.now))
+        (FailsBy IsWideAt) }
 {
     // The proof needs that t is a monomial, and the call says so.
     let _ = t.degree();

@@ -38,7 +38,13 @@ fn vector(alloc: Global, terms: &[(i32, i128)]) -> Result<Result<ModVec, VecFaul
 }
 
 /// `v - q·t·g`, where both conditions hold.
-fn less(alloc: Global, v: &ModVec, q: i128, t: &Mono, g: &ModVec) -> Result<Result<ModVec, VecFault>, Fail> {
+fn less(
+    alloc: Global,
+    v: &ModVec,
+    q: i128,
+    t: &Mono,
+    g: &ModVec,
+) -> Result<Result<ModVec, VecFault>, Fail> {
     if q.unsigned_abs() > COEFFICIENT || !g.has_room(t) {
         return Err(Fail::from("out of reach"));
     }
@@ -89,7 +95,10 @@ fn places_are_ordered_by_monomial_and_then_by_component(rt: HostRuntime) -> Resu
 #[test]
 fn terms_are_sorted_and_those_at_one_place_added_up(rt: HostRuntime) -> Result<(), Fail> {
     let alloc = rt.alloc();
-    let v = made(vector(alloc, &[(0, 2), (3, 1), (1, 5), (3, 4), (0, -2), (2, 0), (-3, 7)])?)?;
+    let v = made(vector(
+        alloc,
+        &[(0, 2), (3, 1), (1, 5), (3, 4), (0, -2), (2, 0), (-3, 7)],
+    )?)?;
     let wanted = [term(3, 5)?, term(-3, 7)?, term(1, 5)?];
     assert!(rt; v.terms() == &wanted[..]);
     assert!(rt; v.lead() == Some(term(3, 5)?));
@@ -150,8 +159,15 @@ fn multiples_are_taken_away(rt: HostRuntime) -> Result<(), Fail> {
     assert!(rt; more.terms() == &[term(5, 7)?, term(3, 8)?, term(1, -1)?][..]);
     let same = made(less(alloc, &v, 0, &t, &g)?)?;
     assert!(rt; same.terms() == v.terms());
-    assert!(rt; made(less(alloc, &v, 1, &Mono::one(), &v)?)?.terms().is_empty());
-    assert!(rt; made(less(alloc, &ModVec::empty(alloc), -1, &t, &g)?)?.terms() == &[term(3, 2)?, term(1, 1)?][..]);
+    assert!(rt;
+        made(less(alloc, &v, 1, &Mono::one(), &v)?)?
+            .terms()
+            .is_empty()
+    );
+    assert!(rt;
+        made(less(alloc, &ModVec::empty(alloc), -1, &t, &g)?)?.terms()
+            == &[term(3, 2)?, term(1, 1)?][..]
+    );
     Ok(())
 }
 
@@ -230,7 +246,12 @@ fn vectors_end_at_50000_terms(rt: HostRuntime) -> Result<(), Fail> {
     let one = made(powers(alloc, 50_000, 1)?)?;
     assert!(rt; less(alloc, &most, 1, &Mono::one(), &one)?.err() == Some(long(50_001)));
     let half = made(powers(alloc, 25_000, 25_000)?)?;
-    assert_eq!(rt; made(less(alloc, &most, 1, &Mono::one(), &half)?)?.terms().len(), 25_000);
+    assert_eq!(rt;
+        made(less(alloc, &most, 1, &Mono::one(), &half)?)?
+            .terms()
+            .len(),
+        25_000
+    );
     let beyond = Mono::of_exponents(&[50_000]).ok_or("too steep")?;
     let low = made(powers(alloc, 0, 10_000)?)?;
     assert!(rt; less(alloc, &most, 2, &beyond, &low)?.err() == Some(long(60_000)));

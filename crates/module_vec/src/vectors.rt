@@ -118,14 +118,18 @@ impl ModVec {
     ///
     /// `Wide` names the greatest place at which a product or a difference leaves the range of coefficients, and `Long`
     /// comes where none does and the result has more than [`TERMS`](crate::TERMS) terms.
-    pub fn sub_multiple(&self, alloc: Global, q: i128, t: &Mono, g: &ModVec) -> Result<ModVec, VecFault>
+    pub fn sub_multiple(
+        &self,
+        alloc: Global,
+        q: i128,
+        t: &Mono,
+        g: &ModVec,
+    ) -> Result<ModVec, VecFault>
         requires range { InRange q }
         requires room { HasRoom t.now g.now }
-        ensures {
-            let f = coefficient_at self.now in
+        ensures { let f = coefficient_at self.now in
             let multiple = multiple_at q t.now g.now in
-            Makes (DifferenceIsWide f multiple) (difference_at f multiple) result
-        }
+            Makes (DifferenceIsWide f multiple) (difference_at f multiple) result }
     {
         limited(difference(alloc, self.terms(), q, t, g.terms())?)
     }

@@ -1,9 +1,8 @@
-use Rattle.std.proofs.Common.{rules, arith, ◌≡◌, ℕ, ℤ, List, ◌∷◌, [], true, sym, subst, FitsSigned, to_z, of_z}
+use Rattle.std.proofs.Common.{rules, arith, ◌≡◌, subst, FitsSigned, to_z, of_z}
 use Rattle.std.specs.Prelude.{◌≤ℤ◌, ◌<ℤ◌}
 use mir.Syntax.{w128}
 use borrow.Author.Differences.{ints}
 use Rattle.std.proofs.lemmas.Int.{to_z-of_z}
-use Rattle.module_vec.specs.declared.places.Term.{Term}
 use Rattle.module_vec.specs.Reducers.{Reduces}
 use Rattle.module_vec.specs.Scanning.{FindsCandidate}
 use Rattle.module_vec.proofs.Scans.{below_from_test, not_reduced, not_better, first_one, better_one, read_lead, with_number}
@@ -31,10 +30,10 @@ returns-in_default c =
     let own : Reduces c.index-terms-0.result c.args.at.now = c.reduces.ensures.0 c.if-not-reduces.false in
     let same : to_z w128 (of_z w128 c.index-terms-0.result.k) ≡ c.index-terms-0.result.k = to_z-of_z w128 c.index-terms-0.result.k k in
     elim c.in_default.branch [
-      in_default-via-in-Some+else-other-lead w ↦
-        let l : FitsSigned w128 w.in-Some.other.coefficient = search rules in
-        let test = simp to_z-of_z at w.if-other-lead.false in
-        let less : c.index-terms-0.result.k <ℤ w.in-Some.other.coefficient = below_from_test w.in-Some.other.coefficient c.index-terms-0.result.k test in
-        λ b n found. with_number b c.args.entry.now c.requires.others c.index-terms-0.result c.args.at.now c.args.number (to_z w128 (of_z w128 c.index-terms-0.result.k)) n same (better_one b c.args.entry.now c.requires.others c.index-terms-0.result c.args.at.now is own w.in-Some.other less (subst (FindsCandidate b c.args.at.now) w.in-Some.is found))
+      | in_default-via-in-Some+else-other-lead w ↦
+          let l : FitsSigned w128 w.in-Some.other.coefficient = search rules in
+          let test = simp to_z-of_z at w.if-other-lead.false in
+          let less : c.index-terms-0.result.k <ℤ w.in-Some.other.coefficient = below_from_test w.in-Some.other.coefficient c.index-terms-0.result.k test in
+          λ b n found. with_number b c.args.entry.now c.requires.others c.index-terms-0.result c.args.at.now c.args.number (to_z w128 (of_z w128 c.index-terms-0.result.k)) n same (better_one b c.args.entry.now c.requires.others c.index-terms-0.result c.args.at.now is own w.in-Some.other less (subst (FindsCandidate b c.args.at.now) w.in-Some.is found))
       | in_default-via-in_default w ↦ λ b n found. with_number b c.args.entry.now c.requires.others c.index-terms-0.result c.args.at.now c.args.number (to_z w128 (of_z w128 c.index-terms-0.result.k)) n same (first_one b c.args.entry.now c.requires.others c.index-terms-0.result c.args.at.now is own (subst (FindsCandidate b c.args.at.now) w.in_default.is found))
     ]

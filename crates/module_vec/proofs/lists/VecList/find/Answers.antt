@@ -1,4 +1,4 @@
-use Rattle.std.proofs.Common.{rules, arith, ◌≡◌, ℕ, List, ◌∷◌, [], length, take, sym, subst}
+use Rattle.std.proofs.Common.{arith, ◌≡◌, length, take, sym, subst}
 use Rattle.std.proofs.lemmas.List.{length-take-le}
 use Rattle.module_vec.specs.Scanning.{FindsCandidate}
 use Rattle.module_vec.proofs.Scans.{take_read}
