@@ -1,11 +1,9 @@
 -- Sorted terms are collected: what holds after each run of terms at one place.
-use Rattle.std.proofs.Common.{◌≡◌, ◌≢◌, ℕ, zero, suc, ◌+◌, ◌<◌, ◌≤◌, ℤ, pos, ◌+ℤ◌, ◌-ℤ◌, ◌*ℤ◌, Bool, true, false, cond, List, [], ◌∷◌, ◌++◌, length, length-append, take, drop, get_or, ◌⊎◌, inl, inr, refl, sym, ap, ◌∙◌, subst, arith, append-nil}
+use Rattle.std.proofs.Common.{◌≡◌, ℕ, suc, ◌+◌, ◌<◌, ◌≤◌, ℤ, pos, ◌+ℤ◌, Bool, true, false, cond, List, [], ◌∷◌, ◌++◌, length, length-append, take, drop, get_or, ◌⊎◌, inl, inr, refl, sym, ap, ◌∙◌, subst, arith, append-nil}
 use Rattle.std.specs.Prelude.{take_while}
 use Rattle.std.specs.List.{AllByRecursion, prefix_len}
 use Rattle.std.specs.List.Sorted.{IsPermutation, IsSortedBy}
 use Rattle.std.specs.Ordering.{is_lt}
-use Rattle.std.specs.declared.cmp.Ordering.{Ordering}
-use Rattle.std.specs.declared.cmp.Ordering.TheVariants.{Less, Equal, Greater}
 use Rattle.std.proofs.lemmas.List.{take_more, take-append-drop}
 use Rattle.std.proofs.lemmas.List.Folds.{length-prefix_len}
 use Rattle.std.proofs.lemmas.List.Sorted.{IsPermutation-map}
@@ -16,12 +14,12 @@ use Rattle.formal_sums.proofs.Keys.{eq-below}
 use Rattle.module_vec.specs.declared.places.Place.{Place}
 use Rattle.module_vec.specs.declared.places.Term.{Term}
 use Rattle.module_vec.specs.Places.{place_cmp, IsBelow, same_place}
-use Rattle.module_vec.specs.Vectors.{sum_of, coefficient_at, InRange, IsWide, IsTerm, IsSparse}
+use Rattle.module_vec.specs.Vectors.{sum_of, coefficient_at, IsWide, IsTerm}
 use Rattle.module_vec.specs.Results.{SumIsWide, IsGreatest}
 use Rattle.module_vec.specs.Merging.{IsFound, BeginsAtMost, BeginsElsewhere}
 use Rattle.module_vec.specs.Collecting.{total_of, Descends, stands_at}
 use Rattle.module_vec.proofs.Order.{test, order}
-use Rattle.module_vec.proofs.Lists.{Above, Below, Falls, all_join, above_join, falls_insert, at_join, at_above, at_below}
+use Rattle.module_vec.proofs.FallingTerms.{Above, Below, Falls, all_join, above_join, falls_insert, at_join, at_above, at_below}
 use Rattle.module_vec.proofs.Merging.{single, in_range, in_range_not_wide}
 
 -- ---- sums of coefficients

@@ -1,5 +1,7 @@
 pub mod Order
-pub mod Lists
+pub mod FallingTerms
 pub mod Collecting
 pub mod Merging
 pub mod Lookups
+pub mod Scans
+pub mod Determined

@@ -1,12 +1,11 @@
 -- Terms of a falling list by index.
-use Rattle.std.proofs.Common.{◌≡◌, ◌≢◌, ℕ, zero, suc, ◌+◌, ◌-◌, ◌<◌, ◌≤◌, ℤ, pos, ◌+ℤ◌, ◌*ℤ◌, negsuc, Bool, true, false, cond, List, [], ◌∷◌, ◌++◌, map, length, take, drop, get_or, set, refl, sym, ap, ◌∙◌, subst, arith, nat_lt, add-zero, ◌-ℤ◌, ◌^◌, FitsSigned, to_z, of_z}
+use Rattle.std.proofs.Common.{◌≡◌, ◌≢◌, ℕ, zero, suc, ◌+◌, ◌-◌, ◌<◌, ◌≤◌, ℤ, pos, ◌+ℤ◌, ◌*ℤ◌, negsuc, Bool, true, false, List, [], ◌∷◌, ◌++◌, map, length, take, drop, get_or, refl, sym, ap, ◌∙◌, subst, arith, nat_lt, add-zero, ◌-ℤ◌, ◌^◌, FitsSigned, to_z, of_z}
 use mir.Syntax.{w128}
 use Rattle.std.proofs.lemmas.Int.{to_z-of_z, fits_signed_from_abs}
 use Rattle.std.specs.Prelude.{neg_ℤ, unsigned_abs}
 use Rattle.std.specs.List.{AllByRecursion}
 use Rattle.std.specs.List.Sorted.{IsSortedBy, IsNonDecreasingBy, IsPartitionPoint}
 use Rattle.std.specs.Ordering.{is_lt, ordering_index, ordering_reverse}
-use Rattle.std.specs.declared.cmp.Ordering.{Ordering}
 use Rattle.std.specs.declared.cmp.Ordering.TheVariants.{Less, Equal, Greater}
 use Rattle.std.proofs.lemmas.Cmp.{back_total, tied_itself}
 use Rattle.std.proofs.lemmas.List.{length-take-le, get_or-append_right, get_or-drop, take_all, drop_all, append-nil, length-map}
@@ -14,13 +13,13 @@ use Rattle.std.proofs.lemmas.List.Sorted.{searchable_from_sorted}
 use borrow.Author.Differences.{ints}
 use Rattle.formal_sums.specs.FormalSum.{scale, Falling}
 use Rattle.formal_sums.proofs.Falling.{Falling-scale}
-use Rattle.formal_sums.proofs.Keys.{eq-below, eq-apart}
+use Rattle.formal_sums.proofs.Keys.{eq-apart}
 use Rattle.module_vec.specs.declared.places.Place.{Place}
 use Rattle.module_vec.specs.declared.places.Term.{Term}
 use Rattle.module_vec.specs.Places.{place_cmp, IsBelow, IsPlace, same_place}
 use Rattle.module_vec.specs.Vectors.{sum_of, coefficient_at, InRange, IsTerm, IsVector}
-use Rattle.module_vec.proofs.Order.{place_total, place_exact, test, order}
-use Rattle.module_vec.proofs.Lists.{Below, Falls, at_above}
+use Rattle.module_vec.proofs.Order.{place_total, test, order}
+use Rattle.module_vec.proofs.FallingTerms.{Below, Falls, at_above}
 use Rattle.module_vec.proofs.Collecting.{goes_before}
 
 pub all_read : {A : Type 0} (P : A → Type 0) (v : List A) (i : ℕ) (d : A) → i < length v → AllByRecursion P v → P (get_or v i d)
@@ -119,12 +118,14 @@ turned_terms (t ∷ v) (u ∷ w) e h =
     let key : u.at ≡ t.at = λ i. (first i).1 in
     let own : u.k ≡ negsuc 0 *ℤ t.k = λ i. (first i).0 in
     let rest : sum_of w ≡ scale (negsuc 0) (sum_of v) = cc in
-    let sign : u.k ≡ neg_ℤ t.k = own ∙ minus_one t.k in
-    (record {
-      place = subst IsPlace (sym key) h.0.place;
-      nonzero = λ none. h.0.nonzero (omega (arith, ints, none, sign));
-      range = subst InRange (sym sign) (range t.k h.0.range);
-    }, turned_terms v w rest h.1)
+    let sign : u.k ≡ neg_ℤ t.k = own ∙ minus_one t.k in (
+      record {
+        place = subst IsPlace (sym key) h.0.place;
+        nonzero = λ none. h.0.nonzero (omega (arith, ints, none, sign));
+        range = subst InRange (sym sign) (range t.k h.0.range);
+      },
+      turned_terms v w rest h.1,
+    )
   where
     minus_one : (z : ℤ) → negsuc 0 *ℤ z ≡ neg_ℤ z
     minus_one z = omega (arith, ints)

@@ -1,6 +1,6 @@
 -- Merging the terms of v with those of the multiple q·t·g: what holds after each term of g.
-use Rattle.std.proofs.Common.{◌≡◌, ◌≢◌, ℕ, zero, suc, ◌+◌, ◌<◌, ◌≤◌, ℤ, pos, ◌+ℤ◌, ◌-ℤ◌, ◌*ℤ◌, Bool, true, false, cond, List, [], ◌∷◌, ◌++◌, length, length-append, take, drop, get_or, ◌⊎◌, inl, inr, refl, sym, ap, ◌∙◌, arith, subst, IsTrue, append_assoc}
-use Rattle.std.specs.Prelude.{unsigned_abs, Option, Some, None, take_while}
+use Rattle.std.proofs.Common.{◌≡◌, ℕ, suc, ◌+◌, ◌<◌, ◌≤◌, ℤ, pos, ◌+ℤ◌, ◌-ℤ◌, ◌*ℤ◌, Bool, true, false, cond, List, [], ◌∷◌, ◌++◌, length, length-append, take, drop, get_or, ◌⊎◌, inl, inr, refl, sym, ap, ◌∙◌, arith, subst, append_assoc}
+use Rattle.std.specs.Prelude.{Some, None, take_while}
 use Rattle.std.specs.List.{AllByRecursion, prefix_len}
 use Rattle.std.proofs.lemmas.List.{take-append-drop}
 use Rattle.std.proofs.lemmas.List.Folds.{length-prefix_len}
@@ -8,19 +8,17 @@ use Rattle.std.specs.Ordering.{is_gt, ordering_reverse}
 use Rattle.std.specs.declared.cmp.Ordering.{Ordering}
 use Rattle.std.specs.declared.cmp.Ordering.TheVariants.{Less, Equal, Greater}
 use borrow.Author.Differences.{ints}
-use Rattle.formal_sums.specs.FormalSum.{coefficient, AllBelow, AllAbove, Falling}
+use Rattle.formal_sums.specs.FormalSum.{AllBelow}
 use Rattle.formal_sums.proofs.Falling.{coefficient-above, AllBelow_transitive, AllAbove_transitive}
-use Rattle.formal_sums.proofs.Keys.{eq-apart}
 use Rattle.laurent_terms.specs.declared.TheConstants.{VARIABLES}
-use Rattle.module_vec.specs.declared.TheConstants.{COEFFICIENT}
 use Rattle.module_vec.specs.declared.places.Place.{Place}
 use Rattle.module_vec.specs.declared.places.Term.{Term}
 use Rattle.module_vec.specs.Places.{place_cmp, IsBelow, same_place, moved}
 use Rattle.module_vec.specs.Vectors.{sum_of, coefficient_at, multiple, multiple_at, difference_at, InRange, IsWide, IsTerm, IsSparse}
 use Rattle.module_vec.specs.Results.{DifferenceIsWide, IsGreatest}
-use Rattle.module_vec.specs.Merging.{IsFound, stands_above, BeginsAtMost, Passes, BeginsElsewhere, TakesFirst, Reduces}
+use Rattle.module_vec.specs.Merging.{IsFound, stands_above, BeginsAtMost, Passes, BeginsElsewhere, TakesFirst, Subtracts}
 use Rattle.module_vec.proofs.Order.{place_total, test, order, moved_below}
-use Rattle.module_vec.proofs.Lists.{all_drop, falls_drop, drop_read, Above, Below, Falls, all_insert, all_remove, all_back, above_join, below_from_first, falls_insert, falls_remove, falls_back, at_join, at_above, at_below}
+use Rattle.module_vec.proofs.FallingTerms.{all_drop, falls_drop, drop_read, Above, Below, Falls, all_insert, all_remove, all_back, above_join, below_from_first, falls_insert, falls_remove, falls_back, at_join, at_above, at_below}
 
 -- ---- the front that stands above a place
 
@@ -263,7 +261,7 @@ module _ (v : List Term) (q : ℤ) (t : List ℕ) (g : List Term) where
         omega (arith, ints, own)
 
     -- z was put at p
-    module _ (made2 : List Term) (z : ℤ) (reduced : Reduces k q e.k (Some z)) (put : Put (moved t e.at) (made' ++ rest') made2 rest' z) where
+    module _ (made2 : List Term) (z : ℤ) (reduced : Subtracts k q e.k (Some z)) (put : Put (moved t e.at) (made' ++ rest') made2 rest' z) where
       sum_elsewhere : (x : Place) → same_place (moved t e.at) x ≡ false → coefficient_at (made2 ++ rest') x ≡ coefficient_at (made ++ rest) x
       sum_elsewhere x f =
           let p : Place = moved t e.at in
@@ -317,7 +315,7 @@ module _ (v : List Term) (q : ℤ) (t : List ℕ) (g : List Term) where
       goes_on = record { falls = put.falls; terms = put.terms; ahead = ahead left turn.terms.1 turn.falls.0; points = point }
 
     -- a product or a difference at p is wide
-    module _ (wide : Reduces k q e.k None) where
+    module _ (wide : Subtracts k q e.k None) where
       IsWideAt : Place → Type 0
       IsWideAt x = DifferenceIsWide (coefficient_at v) (multiple_at q t g) x
 
@@ -328,12 +326,12 @@ module _ (v : List Term) (q : ℤ) (t : List ℕ) (g : List Term) where
           let before : k ≡ coefficient_at v p = sym so_far ∙ pending.kept in
           by product before wide
         where
-          by : q *ℤ e.k ≡ multiple_at q t g (moved t e.at) → k ≡ coefficient_at v (moved t e.at) → Reduces k q e.k None → DifferenceIsWide (coefficient_at v) (multiple_at q t g) (moved t e.at)
+          by : q *ℤ e.k ≡ multiple_at q t g (moved t e.at) → k ≡ coefficient_at v (moved t e.at) → Subtracts k q e.k None → DifferenceIsWide (coefficient_at v) (multiple_at q t g) (moved t e.at)
           by product before (inl h) = inl (subst IsWide product h)
           by product before (inr h) = inr (subst IsWide (λ i. before i -ℤ product i) h)
       wide_here (inr done) = absurd (by (sym to_come ∙ done.settled) wide)
         where
-          by : q *ℤ e.k ≡ pos 0 → Reduces k q e.k None → ⊥
+          by : q *ℤ e.k ≡ pos 0 → Subtracts k q e.k None → ⊥
           by none (inl h) = in_range_not_wide (pos 0) (omega arith) (subst IsWide none h)
           by none (inr h) = in_range_not_wide k turn.opened.range (subst IsWide (ap (λ n. k -ℤ n) none ∙ less_zero k) h)
 
@@ -398,18 +396,18 @@ module _ (v : List Term) (q : ℤ) (t : List ℕ) (g made rest left : List Term)
   turn : Found → Turn v q t g made rest e left k made' behind
   turn f = record { state = f.state; opened = opened f; long = f.long; terms = f.terms; falls = f.falls }
 
-  pub step_wide : Found → Reduces k q e.k None → IsGreatest (DifferenceIsWide (coefficient_at v) (multiple_at q t g)) p
+  pub step_wide : Found → Subtracts k q e.k None → IsGreatest (DifferenceIsWide (coefficient_at v) (multiple_at q t g)) p
   step_wide f wide = subst (IsGreatest (DifferenceIsWide (coefficient_at v) (multiple_at q t g))) (sym f.place) (fails v q t g made rest e left k made' behind (turn f) wide)
 
-  pub step_zero : Found → (z : ℤ) → z ≡ pos 0 → Reduces k q e.k (Some z) → Merging v q t g made' behind left
+  pub step_zero : Found → (z : ℤ) → z ≡ pos 0 → Subtracts k q e.k (Some z) → Merging v q t g made' behind left
   step_zero f z none reduced = goes_on v q t g made rest e left k made' behind (turn f) made' z reduced (puts_none (moved t e.at) (made ++ rest) made' behind k z (opened f) none)
 
-  pub step_term : Found → (z : ℤ) → IsTerm (record { at = p; k = z }) → Reduces k q e.k (Some z) → (made2 : List Term) → made2 ≡ made' ++ record { at = p; k = z } ∷ [] → Merging v q t g made2 behind left
+  pub step_term : Found → (z : ℤ) → IsTerm (record { at = p; k = z }) → Subtracts k q e.k (Some z) → (made2 : List Term) → made2 ≡ made' ++ record { at = p; k = z } ∷ [] → Merging v q t g made2 behind left
   step_term f z term reduced made2 is =
       let push : made2 ≡ made' ++ record { at = moved t e.at; k = z } ∷ [] = is ∙ ap (λ x. made' ++ record { at = x; k = z } ∷ []) f.place in
       subst (λ m. Merging v q t g m behind left) (sym push)
       (goes_on v q t g made rest e left k made' behind (turn f) (made' ++ record { at = moved t e.at; k = z } ∷ []) z reduced
-        (puts (moved t e.at) (made ++ rest) made' behind k z (opened f) (subst (λ x. IsTerm (record { at = x; k = z })) f.place term)))
+      (puts (moved t e.at) (made ++ rest) made' behind k z (opened f) (subst (λ x. IsTerm (record { at = x; k = z })) f.place term)))
 
 -- the same at the i-th term of g
 pub found_at : (v : List Term) (q : ℤ) (t : List ℕ) (g made rest : List Term) (i : ℕ) (e : Term) (made' from behind : List Term) (k : ℤ) (p : Place) → Merging v q t g made rest (drop i g) → IsSparse g → i < length g → e ≡ get_or g i e → length t ≡ VARIABLES → p ≡ moved t e.at → Passes p made rest made' from → TakesFirst p from k behind → Found v q t g made rest (drop (i + 1) g) e made' from behind k p

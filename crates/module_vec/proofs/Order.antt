@@ -1,5 +1,5 @@
 -- The order of places: strict and total, exact, and kept by multiples.
-use Rattle.std.proofs.Common.{◌≡◌, ℕ, ◌≤◌, ◌+◌, Bool, true, false, List, length, ◌⊎◌, inl, inr, refl, sym, ap, ◌∙◌, arith, rules, IsTrue}
+use Rattle.std.proofs.Common.{◌≡◌, ℕ, ◌≤◌, List, length, refl, sym, ◌∙◌, arith, rules}
 use Rattle.std.specs.declared.cmp.Ordering.{Ordering}
 use Rattle.std.specs.declared.cmp.Ordering.TheVariants.{Less, Equal, Greater}
 use Rattle.std.specs.Ordering.{nat_cmp, ordering_then, on, then_cmp}
@@ -7,9 +7,8 @@ use Rattle.std.specs.Cmp.{IsTotalOrder}
 use Rattle.std.specs.Cmp.Rules.{comparing}
 use Rattle.std.proofs.lemmas.Map.Lookups.{exact_unsigned}
 use Rattle.formal_sums.specs.Keys.{IsEqualityTest, IsStrictOrder}
-use Rattle.formal_sums.proofs.Keys.{cmp_test, cmp_order, eq-apart}
-use Rattle.laurent_terms.specs.Monomials.{mono_cmp, degree, product}
-use Rattle.laurent_terms.proofs.Combining.{sum-product}
+use Rattle.formal_sums.proofs.Keys.{cmp_test, cmp_order}
+use Rattle.laurent_terms.specs.Monomials.{mono_cmp, degree}
 use Rattle.laurent_terms.proofs.Ranks.{mono_cmp_total, mono_cmp_exact, mono_cmp-product}
 use Rattle.module_vec.specs.declared.places.Place.{Place}
 use Rattle.module_vec.specs.Places.{place_cmp, IsBelow, same_place, moved}

@@ -3,3 +3,7 @@ pub mod Vectors
 pub mod Results
 pub mod Merging
 pub mod Collecting
+pub mod Reducers
+pub mod Scanning
+pub mod Modules
+pub mod Chains

@@ -1,11 +1,10 @@
 -- How the terms of a vector and those of a multiple are merged.
 use Rattle.std.specs.Ordering.{is_gt}
-use Rattle.std.specs.Prelude.{◌≡◌, ◌≢◌, ◌⊎◌, ℕ, ℤ, pos, ◌-ℤ◌, ◌*ℤ◌, Bool, List, [], ◌∷◌, ◌++◌, Option, Some, None, Result, Ok, Err, length, ◌<◌, ◌≤◌}
+use Rattle.std.specs.Prelude.{◌≡◌, ◌≢◌, ◌⊎◌, ℤ, pos, ◌-ℤ◌, ◌*ℤ◌, Bool, List, [], ◌∷◌, ◌++◌, Option, Some, None, Result, Ok, Err, length, ◌<◌, ◌≤◌}
 use Rattle.module_vec.specs.declared.TheConstants.{TERMS}
 use Rattle.formal_sums.specs.FormalSum.{AllAbove}
 use Rattle.module_vec.specs.declared.places.Place.{Place}
 use Rattle.module_vec.specs.declared.places.Term.{Term}
-use Rattle.module_vec.specs.declared.faults.Stop.{Stop}
 use Rattle.module_vec.specs.declared.faults.Stop.TheVariants.{Wide, Long, Deep, Steep}
 use Rattle.module_vec.specs.declared.faults.VecFault.{VecFault}
 use Rattle.module_vec.specs.declared.faults.VecFault.TheVariants as faults
@@ -54,9 +53,9 @@ abbrev pub TakesFirst : Place → List Term → ℤ → List Term → Type 0
 TakesFirst p v k v' = (v ≡ record { at = p; k = k } ∷ v') ⊎ ((k ≡ pos 0) × (v' ≡ v) × BeginsElsewhere p v)
 
 -- q·k is taken from a
-abbrev pub Reduces : ℤ → ℤ → ℤ → Option ℤ → Type 0
-Reduces a q k None = IsWide (q *ℤ k) ⊎ IsWide (a -ℤ q *ℤ k)
-Reduces a q k (Some z) = (z ≡ a -ℤ q *ℤ k) × InRange z × InRange (q *ℤ k)
+abbrev pub Subtracts : ℤ → ℤ → ℤ → Option ℤ → Type 0
+Subtracts a q k None = IsWide (q *ℤ k) ⊎ IsWide (a -ℤ q *ℤ k)
+Subtracts a q k (Some z) = (z ≡ a -ℤ q *ℤ k) × InRange z × InRange (q *ℤ k)
 
 -- the vector with the terms v, or their number where that passes the limit
 abbrev pub IsLimited : List Term → Result (List Term) VecFault → Type 0

@@ -1,5 +1,5 @@
 -- What a computation with vectors answers: the vector, or the first of its limits that it meets.
-use Rattle.std.specs.Prelude.{◌≡◌, ℕ, ◌<◌, ◌⊎◌, ℤ, ◌-ℤ◌, List, length, Result, Ok, Err}
+use Rattle.std.specs.Prelude.{◌≡◌, ℕ, ◌<◌, ◌⊎◌, ◌-ℤ◌, List, length, Result, Ok, Err}
 use Rattle.module_vec.specs.declared.TheConstants.{TERMS}
 use Rattle.module_vec.specs.declared.places.Place.{Place}
 use Rattle.module_vec.specs.declared.places.Term.{Term}

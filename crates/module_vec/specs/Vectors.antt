@@ -1,6 +1,6 @@
 -- Vectors as lists of terms, and what they stand for: formal sums of places, given by their coefficients.
 use Rattle.std.specs.List.{AllByRecursion}
-use Rattle.std.specs.Prelude.{◌≡◌, ◌≢◌, ℕ, ◌+◌, ◌<◌, ◌≤◌, ℤ, pos, unsigned_abs, ◌-ℤ◌, List, [], ◌∷◌, map, length}
+use Rattle.std.specs.Prelude.{◌≢◌, ℕ, ◌+◌, ◌<◌, ◌≤◌, ℤ, pos, unsigned_abs, ◌-ℤ◌, List, [], ◌∷◌, map, length}
 use Rattle.formal_sums.specs.FormalSum.{FormalSum, coefficient, scale, rename, Falling}
 use Rattle.laurent_terms.specs.declared.TheConstants.{DEGREE}
 use Rattle.laurent_terms.specs.Monomials.{degree}

@@ -3,7 +3,7 @@
 ghost use Rattle.std.specs.Prelude.{◌≡◌, ◌≤◌, ◌+◌, length, MatchResult, IfOk, take_while};
 ghost use Rattle.module_vec.specs.Vectors.{coefficient_at, multiple_at, difference_at, InRange, IsVector, HasRoom};
 ghost use Rattle.module_vec.specs.Results.{DifferenceIsWide};
-ghost use Rattle.module_vec.specs.Merging.{IsFound, FailsBy, Passes, TakesFirst, Reduces, stands_above};
+ghost use Rattle.module_vec.specs.Merging.{IsFound, FailsBy, Passes, TakesFirst, Subtracts, stands_above};
 
 use crate::range::{checked_difference, checked_product};
 use crate::{Place, Stop, Term, VecFault};
@@ -11,19 +11,23 @@ use laurent_terms::Mono;
 use std::alloc::{AllocError, Global};
 
 /// The terms of `v - q·t·g`, of which there may be more than a vector has.
-pub fn difference(alloc: Global, v: &[Term], q: i128, t: &Mono, g: &[Term]) -> Result<Vec<Term>, VecFault>
+pub fn difference(
+    alloc: Global,
+    v: &[Term],
+    q: i128,
+    t: &Mono,
+    g: &[Term],
+) -> Result<Vec<Term>, VecFault>
     requires v { IsVector v.now }
     requires g { IsVector g.now }
     requires range { InRange q }
     requires room { HasRoom t.now g.now }
-    ensures {
-        let f = coefficient_at v.now in
+    ensures { let f = coefficient_at v.now in
         let multiple = multiple_at q t.now g.now in
         let IsWideAt = DifferenceIsWide f multiple in
         MatchResult result
-            (λ made. IsFound IsWideAt (difference_at f multiple) made.items × (length made.items ≤ length v.now + length g.now))
-            (FailsBy IsWideAt)
-    }
+        (λ made. IsFound IsWideAt (difference_at f multiple) made.items × (length made.items ≤ length v.now + length g.now))
+        (FailsBy IsWideAt) }
 {
     // The proof needs that t is a monomial, and the call says so.
     let _ = t.degree();
@@ -77,7 +81,7 @@ fn take_first<'a>(rest: &'a [Term], at: &Place) -> (i128, &'a [Term])
 
 /// `before - q * k`, or `None` where the product or the difference leaves the range.
 fn reduced(before: i128, q: i128, k: i128) -> Option<i128>
-    ensures { Reduces before q k result }
+    ensures { Subtracts before q k result }
 {
     checked_difference(before, checked_product(q, k)?)
 }

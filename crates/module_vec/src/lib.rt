@@ -9,16 +9,23 @@
 #![tactic(auto)]
 
 mod differences;
+mod entries;
 mod falling;
 mod faults;
+pub mod laws;
+mod lists;
 mod places;
 mod range;
+mod steps;
 mod sums;
 mod vectors;
 
+pub use entries::Entries;
 pub use faults::{Stop, VecFault};
+pub use lists::VecList;
 pub use places::{Place, Term};
 pub use range::{checked_difference, checked_product};
+pub use steps::Step;
 pub use vectors::ModVec;
 
 /// The greatest absolute value of a coefficient, 2^127 - 1.
@@ -26,3 +33,9 @@ pub const COEFFICIENT: u128 = 170_141_183_460_469_231_731_687_303_715_884_105_72
 
 /// The most terms that a vector has.
 pub const TERMS: u32 = 50_000;
+
+/// The most steps of one reduction.
+pub const STEPS: u32 = 100_000;
+
+#[cfg(test)]
+mod tests;

@@ -12,12 +12,10 @@ use std::alloc::Global;
 /// The terms of the sum of `list`, of which there may be more than a vector has.
 pub fn sum(alloc: Global, list: &[Term]) -> Result<Vec<Term>, VecFault>
     requires { length list.now < 2 ^ 32 }
-    ensures {
-        let f = coefficient_at list.now in
+    ensures { let f = coefficient_at list.now in
         MatchResult result
-            (λ made. IsFound (SumIsWide f) f made.items × (length made.items ≤ length list.now))
-            (FailsBy (SumIsWide f))
-    }
+        (λ made. IsFound (SumIsWide f) f made.items × (length made.items ≤ length list.now))
+        (FailsBy (SumIsWide f)) }
 {
     let mut sorted = Vec::from_slice(alloc, list)?;
     sorted.sort_unstable_by(|a, b| b.at.compare(&a.at));
@@ -28,12 +26,10 @@ pub fn sum(alloc: Global, list: &[Term]) -> Result<Vec<Term>, VecFault>
 fn collect(alloc: Global, sorted: &[Term]) -> Result<Vec<Term>, VecFault>
     requires sorted { Descends sorted.now }
     requires count { length sorted.now < 2 ^ 32 }
-    ensures {
-        let f = coefficient_at sorted.now in
+    ensures { let f = coefficient_at sorted.now in
         MatchResult result
-            (λ made. IsFound (SumIsWide f) f made.items × (length made.items ≤ length sorted.now))
-            (FailsBy (SumIsWide f))
-    }
+        (λ made. IsFound (SumIsWide f) f made.items × (length made.items ≤ length sorted.now))
+        (FailsBy (SumIsWide f)) }
 {
     let mut made = Vec::with_capacity(alloc, sorted.len())?;
     let mut rest = sorted;
@@ -64,10 +60,8 @@ fn count_at(v: &[Term], at: &Place) -> usize
 /// `first` and the coefficients of `terms` added up, or `None` where the whole sum leaves the range.
 fn total(first: i128, terms: &[Term]) -> Option<i128>
     requires { length terms.now < 2 ^ 32 }
-    ensures {
-        let whole = first +ℤ total_of terms.now in
-        MatchOption result (IsWide whole) (λ z. (z ≡ whole) × InRange z)
-    }
+    ensures { let whole = first +ℤ total_of terms.now in
+        MatchOption result (IsWide whole) (λ z. (z ≡ whole) × InRange z) }
 {
     let mut total = WideSum {
         low: first,

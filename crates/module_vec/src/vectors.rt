@@ -1,16 +1,17 @@
 //! `ModVec`: terms in strictly falling order.
 
-ghost use Rattle.std.specs.Prelude.{◌≡◌, ℤ, negsuc, ◌*ℤ◌, ◌<◌, ◌^◌, length, [], slice_get};
+ghost use Rattle.std.specs.Prelude.{◌≡◌, ◌↔◌, IsTrue, ℤ, negsuc, ◌*ℤ◌, ◌<◌, ◌^◌, length, [], slice_get};
 ghost use Rattle.formal_sums.specs.FormalSum.{scale};
 ghost use Rattle.module_vec.specs.Vectors.{sum_of, coefficient_at, multiple_at, difference_at, InRange, IsSparse, IsVector, HasRoom};
 ghost use Rattle.module_vec.specs.Results.{SumIsWide, DifferenceIsWide, Makes};
 ghost use Rattle.module_vec.specs.Merging.{IsLimited};
+ghost use Rattle.module_vec.specs.Reducers.{IsEntry};
 
 use crate::differences::difference;
 use crate::falling::{coefficient, negate};
 use crate::sums::sum;
 use crate::{Place, Stop, TERMS, Term, VecFault};
-use laurent_terms::Mono;
+use laurent_terms::{DEGREE, Mono};
 use std::alloc::Global;
 use std::marker::Model;
 
@@ -73,6 +74,27 @@ impl ModVec {
         coefficient(self.terms.as_slice(), at)
     }
 
+    /// Whether the multiple by `t` is in reach: the degrees of `t` and of the lead add up to at most
+    /// [`DEGREE`](laurent_terms::DEGREE).
+    pub fn has_room(&self, t: &Mono) -> bool
+        ensures { IsTrue result ↔ HasRoom t.now self.now }
+    {
+        match self.terms.first() {
+            Some(lead) => t.degree() + lead.at.m.degree() <= DEGREE,
+            None => true,
+        }
+    }
+
+    /// Whether the vector can be an entry of a list: it has a lead, with a positive coefficient.
+    pub fn is_entry(&self) -> bool
+        ensures { IsTrue result ↔ IsEntry self.now }
+    {
+        match self.terms.first() {
+            Some(lead) => lead.k > 0,
+            None => false,
+        }
+    }
+
     /// The sum of the terms, in any order and with any coefficients of 128 bits; there are fewer than 2^32 of them.
     ///
     /// `Wide` names the greatest place at which the whole sum leaves the range of coefficients, and `Long` comes where
@@ -96,14 +118,18 @@ impl ModVec {
     ///
     /// `Wide` names the greatest place at which a product or a difference leaves the range of coefficients, and `Long`
     /// comes where none does and the result has more than [`TERMS`](crate::TERMS) terms.
-    pub fn sub_multiple(&self, alloc: Global, q: i128, t: &Mono, g: &ModVec) -> Result<ModVec, VecFault>
+    pub fn sub_multiple(
+        &self,
+        alloc: Global,
+        q: i128,
+        t: &Mono,
+        g: &ModVec,
+    ) -> Result<ModVec, VecFault>
         requires range { InRange q }
         requires room { HasRoom t.now g.now }
-        ensures {
-            let f = coefficient_at self.now in
+        ensures { let f = coefficient_at self.now in
             let multiple = multiple_at q t.now g.now in
-            Makes (DifferenceIsWide f multiple) (difference_at f multiple) result
-        }
+            Makes (DifferenceIsWide f multiple) (difference_at f multiple) result }
     {
         limited(difference(alloc, self.terms(), q, t, g.terms())?)
     }

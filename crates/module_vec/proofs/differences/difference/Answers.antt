@@ -1,4 +1,4 @@
-use Rattle.std.proofs.Common.{rules, arith, ◌≡◌, ◌≤◌, ◌<◌, ◌+◌, ◌++◌, ℕ, ℤ, List, [],  ◌∷◌, length, length-append, drop, ap, refl, subst, sym, ◌∙◌, ◌≢◌, pos, Vec, Global, FitsSigned, to_z, of_z}
+use Rattle.std.proofs.Common.{rules, arith, ◌≡◌, ◌≤◌, ◌+◌, ◌++◌, List, [], ◌∷◌, length, length-append, drop, ap, refl, subst, sym, ◌∙◌, ◌≢◌, pos, Vec, Global, FitsSigned}
 use mir.Syntax.{w128}
 use borrow.Author.Differences.{ints}
 use Rattle.std.specs.List.{AllByRecursion}
@@ -6,7 +6,7 @@ use Rattle.std.proofs.lemmas.List.{drop_all}
 use Rattle.std.proofs.lemmas.Int.{to_z-of_z}
 use Rattle.laurent_terms.specs.declared.TheConstants.{DEGREE}
 use Rattle.laurent_terms.specs.Monomials.{degree}
-use Rattle.module_vec.proofs.Lists.{all_drop, drop_read, room_each}
+use Rattle.module_vec.proofs.FallingTerms.{all_drop, drop_read, room_each}
 use Rattle.module_vec.proofs.Merging.{Merging, Found, found_at, step_wide, step_zero, step_term, ends, passed_count}
 use Rattle.module_vec.proofs.differences.difference.Goals as goal
 use Rattle.module_vec.proofs.differences.difference.Goals.{then-k-ne0+in_ok-push, else-k-ne0}
@@ -21,7 +21,6 @@ product-requires c =
     let each = all_drop (λ u. degree c.args.t.now + degree u.at.m ≤ DEGREE) c.loop-term.term-index c.args.g.now (room_each c.args.t.now c.args.g.now c.requires.g.sparse.falling c.requires.room) in
     (subst (AllByRecursion (λ u. degree c.args.t.now + degree u.at.m ≤ DEGREE)) (drop_read c.args.g.now c.loop-term.term-index c.term-item.result c.loop-term-test.true c.term-item.is) each).0
 
-
 pub returns-in_default : goal.returns-in_default
 returns-in_default c =
     let q : FitsSigned w128 c.args.q = search rules in
@@ -29,10 +28,12 @@ returns-in_default c =
     let e : FitsSigned w128 c.term-item.result.k = search rules in
     let state = simp to_z-of_z at c.loop-term.invariant.state in
     let wide = simp to_z-of_z at c.in_default.ensures in
-    let place : Place = record { m = c.product.result; c = c.term-item.result.at.c } in
-    (refl, step_wide c.args.v.now c.args.q c.args.t.now c.args.g.now c.loop-term.made.items c.loop-term.rest.now (drop (c.loop-term.term-index + 1) c.args.g.now) c.term-item.result c.pass.new.made.items c.in_ok-from.from.now c.take_first-before.result.1.now c.take_first-before.result.0 place
-      (found_at c.args.v.now c.args.q c.args.t.now c.args.g.now c.loop-term.made.items c.loop-term.rest.now c.loop-term.term-index c.term-item.result c.pass.new.made.items c.in_ok-from.from.now c.take_first-before.result.1.now c.take_first-before.result.0 place state c.requires.g.sparse c.loop-term-test.true c.term-item.is c.degree.ensures.monomial.variables (λ j. record { m = c.product.ensures.is j; c = c.term-item.result.at.c }) c.in_ok-from.ensures c.take_first-before.ensures)
-      wide)
+    let place : Place = record { m = c.product.result; c = c.term-item.result.at.c } in (
+      refl,
+      step_wide c.args.v.now c.args.q c.args.t.now c.args.g.now c.loop-term.made.items c.loop-term.rest.now (drop (c.loop-term.term-index + 1) c.args.g.now) c.term-item.result c.pass.new.made.items c.in_ok-from.from.now c.take_first-before.result.1.now c.take_first-before.result.0 place
+          (found_at c.args.v.now c.args.q c.args.t.now c.args.g.now c.loop-term.made.items c.loop-term.rest.now c.loop-term.term-index c.term-item.result c.pass.new.made.items c.in_ok-from.from.now c.take_first-before.result.1.now c.take_first-before.result.0 place state c.requires.g.sparse c.loop-term-test.true c.term-item.is c.degree.ensures.monomial.variables (λ j. record { m = c.product.ensures.is j; c = c.term-item.result.at.c }) c.in_ok-from.ensures c.take_first-before.ensures)
+          wide,
+    )
 
 pub loop-term-preserved : goal.loop-term-preserved
 loop-term-preserved c =
@@ -47,23 +48,23 @@ loop-term-preserved c =
     let found : Found c.args.v.now c.args.q c.args.t.now c.args.g.now c.loop-term.made.items c.loop-term.rest.now left c.term-item.result c.pass.new.made.items c.in_ok-from.from.now c.take_first-before.result.1.now c.take_first-before.result.0 place = found_at c.args.v.now c.args.q c.args.t.now c.args.g.now c.loop-term.made.items c.loop-term.rest.now c.loop-term.term-index c.term-item.result c.pass.new.made.items c.in_ok-from.from.now c.take_first-before.result.1.now c.take_first-before.result.0 place state c.requires.g.sparse c.loop-term-test.true c.term-item.is c.degree.ensures.monomial.variables (λ j. record { m = c.product.ensures.is j; c = c.term-item.result.at.c }) c.in_ok-from.ensures c.take_first-before.ensures in
     let count : length c.pass.new.made.items + length c.take_first-before.result.1.now ≤ length c.loop-term.made.items + length c.loop-term.rest.now = passed_count place c.loop-term.made.items c.loop-term.rest.now c.pass.new.made.items c.in_ok-from.from.now c.take_first-before.result.1.now c.take_first-before.result.0 c.in_ok-from.ensures c.take_first-before.ensures in
     elim c.if-k-ne0.branch [
-      then-k-ne0+in_ok-push w ↦
-        let nonzero : c.in-Some.k ≢ pos 0 = λ none. absurd (omega (arith, ints, none, w.if-k-ne0.true)) in
-        let term : IsTerm (record { at = place; k = c.in-Some.k }) = record { place = c.product.ensures.monomial; nonzero = nonzero; range = reduced.1 } in
-        let push = simp to_z-of_z at w.in_ok-push.ensures.items in
-        let made = ap (λ (m : Vec Term Global). m.items) w.made-is ∙ push in
-        let longer : length c.if-k-ne0.made.items ≡ length c.pass.new.made.items + 1 = ap length made ∙ length-append c.pass.new.made.items (record { at = place; k = c.in-Some.k } ∷ []) in
-        simp to_z-of_z (record {
-          state = step_term c.args.v.now c.args.q c.args.t.now c.args.g.now c.loop-term.made.items c.loop-term.rest.now left c.term-item.result c.pass.new.made.items c.in_ok-from.from.now c.take_first-before.result.1.now c.take_first-before.result.0 place found c.in-Some.k term reduced c.if-k-ne0.made.items made;
-          count = omega (arith, count, longer, c.loop-term.invariant.count);
-        })
+      | then-k-ne0+in_ok-push w ↦
+          let nonzero : c.in-Some.k ≢ pos 0 = λ none. absurd (omega (arith, ints, none, w.if-k-ne0.true)) in
+          let term : IsTerm (record { at = place; k = c.in-Some.k }) = record { place = c.product.ensures.monomial; nonzero = nonzero; range = reduced.1 } in
+          let push = simp to_z-of_z at w.in_ok-push.ensures.items in
+          let made = ap (λ (m : Vec Term Global). m.items) w.made-is ∙ push in
+          let longer : length c.if-k-ne0.made.items ≡ length c.pass.new.made.items + 1 = ap length made ∙ length-append c.pass.new.made.items (record { at = place; k = c.in-Some.k } ∷ []) in
+          simp to_z-of_z (record {
+            state = step_term c.args.v.now c.args.q c.args.t.now c.args.g.now c.loop-term.made.items c.loop-term.rest.now left c.term-item.result c.pass.new.made.items c.in_ok-from.from.now c.take_first-before.result.1.now c.take_first-before.result.0 place found c.in-Some.k term reduced c.if-k-ne0.made.items made;
+            count = omega (arith, count, longer, c.loop-term.invariant.count);
+          })
       | else-k-ne0 w ↦
-        let zero_k : c.in-Some.k ≡ pos 0 = omega (arith, ints, w.if-k-ne0.false) in
-        let same : c.if-k-ne0.made.items ≡ c.pass.new.made.items = ap (λ (m : Vec Term Global). m.items) w.made-is in
-        simp to_z-of_z (record {
-          state = subst (λ m. Merging c.args.v.now c.args.q c.args.t.now c.args.g.now m c.take_first-before.result.1.now left) (sym same) (step_zero c.args.v.now c.args.q c.args.t.now c.args.g.now c.loop-term.made.items c.loop-term.rest.now left c.term-item.result c.pass.new.made.items c.in_ok-from.from.now c.take_first-before.result.1.now c.take_first-before.result.0 place found c.in-Some.k zero_k reduced);
-          count = omega (arith, count, ap length same, c.loop-term.invariant.count);
-        })
+          let zero_k : c.in-Some.k ≡ pos 0 = omega (arith, ints, w.if-k-ne0.false) in
+          let same : c.if-k-ne0.made.items ≡ c.pass.new.made.items = ap (λ (m : Vec Term Global). m.items) w.made-is in
+          simp to_z-of_z (record {
+            state = subst (λ m. Merging c.args.v.now c.args.q c.args.t.now c.args.g.now m c.take_first-before.result.1.now left) (sym same) (step_zero c.args.v.now c.args.q c.args.t.now c.args.g.now c.loop-term.made.items c.loop-term.rest.now left c.term-item.result c.pass.new.made.items c.in_ok-from.from.now c.take_first-before.result.1.now c.take_first-before.result.0 place found c.in-Some.k zero_k reduced);
+            count = omega (arith, count, ap length same, c.loop-term.invariant.count);
+          })
     ]
 
 pub returns : goal.returns

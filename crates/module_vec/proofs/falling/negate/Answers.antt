@@ -1,8 +1,6 @@
-use Rattle.std.proofs.Common.{rules, arith, ◌≡◌, ◌≤◌, ◌<◌, ◌+◌, ◌++◌, ℕ, ℤ, pos, ◌-ℤ◌, List, length, take, drop, map, get_or, set, subst, ap, sym, ◌∙◌, FitsSigned, to_z, of_z}
-use Rattle.std.specs.Prelude.{neg_ℤ, slice_set}
+use Rattle.std.proofs.Common.{◌≡◌, pos, ◌-ℤ◌, get_or, set, subst, ap, sym, ◌∙◌, to_z, of_z}
+use Rattle.std.specs.Prelude.{neg_ℤ}
 use mir.Syntax.{w128}
-use borrow.Author.Differences.{ints}
-use Rattle.std.proofs.lemmas.Int.{to_z-of_z}
 use Rattle.std.proofs.lemmas.List.Edits.{map_over_more}
 use Rattle.module_vec.specs.declared.places.Term.{Term}
 use Rattle.module_vec.specs.Vectors.{sum_of, InRange, IsTerm}

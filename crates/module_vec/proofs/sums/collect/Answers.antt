@@ -1,12 +1,10 @@
-use Rattle.std.proofs.Common.{rules, arith, ◌≡◌, ◌≢◌, ◌≤◌, ◌<◌, ◌+◌, ◌++◌, ℕ, ℤ, pos, List, [], ◌∷◌, length, ap, refl, sym, subst, ◌∙◌, Vec, Global, FitsSigned, to_z, of_z}
+use Rattle.std.proofs.Common.{rules, arith, ◌≡◌, ◌≢◌, pos, [], ◌∷◌, refl, sym, subst, ◌∙◌, FitsSigned}
 use mir.Syntax.{w128}
 use borrow.Author.Differences.{ints}
 use Rattle.std.proofs.lemmas.Int.{to_z-of_z}
 use Rattle.std.proofs.lemmas.List.{nil_from_length}
-use Rattle.module_vec.specs.declared.places.Place.{Place}
-use Rattle.module_vec.specs.declared.places.Term.{Term}
 use Rattle.module_vec.specs.Vectors.{IsTerm}
-use Rattle.module_vec.proofs.Collecting.{Joining, Run, drops, keeps, fails, ends, shorter}
+use Rattle.module_vec.proofs.Collecting.{Joining, Run, drops, keeps, fails, ends}
 use Rattle.module_vec.proofs.sums.collect.Goals as goal
 
 pub returns-in_default-total : goal.returns-in_default-total

@@ -1,10 +1,7 @@
-use Rattle.std.proofs.Common.{rules, arith, ◌≡◌, ◌≤◌, ◌<◌, ◌+◌, ℤ, ◌+ℤ◌, take, ap, ◌∙◌, FitsSigned, to_z, of_z}
+use Rattle.std.proofs.Common.{rules, arith, FitsSigned}
 use mir.Syntax.{w128}
 use borrow.Author.Differences.{ints}
 use Rattle.std.proofs.lemmas.Int.{to_z-of_z}
-use Rattle.std.proofs.lemmas.List.{take_more}
-use Rattle.std.proofs.lemmas.List.{get_or_read}
-use Rattle.module_vec.specs.Collecting.{total_of, value_of}
 use Rattle.module_vec.proofs.Collecting.{total_more}
 use Rattle.module_vec.proofs.sums.total.Goals as goal
 

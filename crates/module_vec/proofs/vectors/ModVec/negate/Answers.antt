@@ -1,4 +1,4 @@
-use Rattle.std.proofs.Common.{arith, ◌≡◌, ◌≤◌, ◌++◌, List, [], negsuc, length, take, drop, ap, sym, subst, ◌∙◌, append-nil}
+use Rattle.std.proofs.Common.{arith, ◌≡◌, ◌++◌, List, [], negsuc, length, take, drop, ap, sym, subst, ◌∙◌, append-nil}
 use Rattle.std.proofs.lemmas.List.{take_all, drop_all}
 use Rattle.formal_sums.specs.FormalSum.{scale}
 use Rattle.module_vec.specs.declared.places.Term.{Term}

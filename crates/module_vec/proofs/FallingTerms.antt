@@ -1,17 +1,17 @@
 -- Lists of terms in falling order: what taking out, putting in and joining keeps.
-use Rattle.std.proofs.Common.{◌≡◌, ◌≢◌, ℕ, ◌+◌, ◌≤◌, ℤ, pos, ◌+ℤ◌, ◌-ℤ◌, ◌*ℤ◌, Bool, true, false, cond, List, [], ◌∷◌, ◌++◌, length, drop, get_or, zero, suc, ◌<◌, ◌⊎◌, inl, inr, refl, sym, ap, ◌∙◌, arith, subst}
+use Rattle.std.proofs.Common.{◌≡◌, ℕ, ◌+◌, ◌≤◌, pos, ◌+ℤ◌, List, [], ◌∷◌, ◌++◌, length, drop, get_or, zero, suc, ◌<◌, sym, ap, ◌∙◌, arith}
 use Rattle.std.proofs.lemmas.List.{drop_more}
 use Rattle.laurent_terms.specs.declared.TheConstants.{DEGREE}
 use Rattle.laurent_terms.specs.Monomials.{degree}
 use Rattle.std.specs.List.{AllByRecursion}
 use borrow.Author.Differences.{ints}
-use Rattle.std.proofs.Math.IntN.{+ℤ_idl, +ℤ_idr}
-use Rattle.formal_sums.specs.FormalSum.{FormalSum, coefficient, scale, rename, AllBelow, AllAbove, Falling}
-use Rattle.formal_sums.proofs.Falling.{coefficient-above, coefficient-below, AllBelow_transitive, AllAbove_transitive}
+use Rattle.std.proofs.Math.IntN.{+ℤ_idl}
+use Rattle.formal_sums.specs.FormalSum.{AllBelow, AllAbove, Falling}
+use Rattle.formal_sums.proofs.Falling.{coefficient-above, coefficient-below, AllBelow_transitive}
 use Rattle.module_vec.specs.declared.places.Place.{Place}
 use Rattle.module_vec.specs.declared.places.Term.{Term}
-use Rattle.module_vec.specs.Places.{IsBelow, same_place}
-use Rattle.module_vec.specs.Vectors.{sum_of, coefficient_at, IsTerm, IsSparse, HasRoom}
+use Rattle.module_vec.specs.Places.{IsBelow}
+use Rattle.module_vec.specs.Vectors.{sum_of, coefficient_at, HasRoom}
 use Rattle.module_vec.proofs.Order.{test, order, below_degree}
 
 module _ {A : Type 0} (P : A → Type 0) where
