@@ -5,3 +5,4 @@ pub mod Coefficients
 pub mod Evaluation
 pub mod Falling
 pub mod IntegerTuples
+pub mod Spans
