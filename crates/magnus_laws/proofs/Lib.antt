@@ -1,2 +1,4 @@
 pub mod Lattices
 pub mod LatticeFox
+pub mod LatticeModule
+pub mod FirstHalf
