@@ -2,3 +2,5 @@ pub mod Lattices
 pub mod LatticeFox
 pub mod LatticeModule
 pub mod FirstHalf
+pub mod Tuples
+pub mod Monomials
