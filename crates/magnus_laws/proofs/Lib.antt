@@ -4,3 +4,5 @@ pub mod LatticeModule
 pub mod FirstHalf
 pub mod Tuples
 pub mod Monomials
+pub mod Members
+pub mod UnitBinomials

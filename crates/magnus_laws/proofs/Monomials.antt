@@ -46,14 +46,19 @@ both_parts-zeros : (k : ℕ) → both_parts (replicate k (pos 0)) ≡ replicate 
 both_parts-zeros zero = refl
 both_parts-zeros (suc k) = let more : 2 * suc k ≡ suc (suc (2 * k)) = omega arith in ap (λ z. 0 ∷ 0 ∷ z) (both_parts-zeros k) ∙ ap (λ z. replicate z 0) (sym more)
 
+zeros_together : (j k all : ℕ) (s t : List ℕ) → t ≡ s ++ replicate j 0 → j + k ≡ all → t ++ replicate k 0 ≡ s ++ replicate all 0
+zeros_together j k all s t e count =
+    ap (λ z. z ++ replicate k 0) e
+    ∙ append_assoc s (replicate j 0) (replicate k 0)
+    ∙ ap (λ z. s ++ z) (replicate-append-replicate j k 0 ∙ ap (λ z. replicate z 0) count)
+
 -- generators with the exponent 0 at the end say nothing
 pub monomial_of-zeros : (p : List ℤ) (k : ℕ) → 2 * (length p + k) ≤ VARIABLES → monomial_of (p ++ replicate k (pos 0)) ≡ monomial_of p
 monomial_of-zeros p k room =
     let rest : ℕ = VARIABLES - 2 * length (p ++ replicate k (pos 0)) in
-    let count : 2 * k + rest ≡ VARIABLES - 2 * length p = omega (arith, length-append p (replicate k (pos 0)), length-replicate k (pos 0)) in
-    ap (λ z. z ++ replicate rest 0) (both_parts-append p (replicate k (pos 0)) ∙ ap (λ z. both_parts p ++ z) (both_parts-zeros k))
-    ∙ append_assoc (both_parts p) (replicate (2 * k) 0) (replicate rest 0)
-    ∙ ap (λ z. both_parts p ++ z) (replicate-append-replicate (2 * k) rest 0 ∙ ap (λ z. replicate z 0) count)
+    zeros_together (2 * k) rest (VARIABLES - 2 * length p) (both_parts p) (both_parts (p ++ replicate k (pos 0)))
+    (both_parts-append p (replicate k (pos 0)) ∙ ap (λ z. both_parts p ++ z) (both_parts-zeros k))
+    (omega (arith, length-append p (replicate k (pos 0)), length-replicate k (pos 0)))
 
 -- ---- from tuples to monomials
 abbrev pub parts : (n : ℕ) → IntegerTuple n → List ℕ
@@ -93,7 +98,7 @@ written-none n few =
     ∙ ap (λ z. replicate z 0) count
 
 -- ---- from monomials to tuples
-pub read : (n : ℕ) → List ℕ → IntegerTuple n
+unfoldable pub read : (n : ℕ) → List ℕ → IntegerTuple n
 read zero s = tt
 read (suc n) [] = none (suc n)
 read (suc n) (a ∷ []) = (pos a, none n)
