@@ -6,3 +6,4 @@ pub mod Tuples
 pub mod Monomials
 pub mod Members
 pub mod UnitBinomials
+pub mod Upward
