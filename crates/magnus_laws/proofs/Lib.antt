@@ -7,3 +7,4 @@ pub mod Monomials
 pub mod Members
 pub mod UnitBinomials
 pub mod Upward
+pub mod Theorem
