@@ -8,3 +8,4 @@ pub mod Members
 pub mod UnitBinomials
 pub mod Upward
 pub mod Theorem
+pub mod Homomorphisms
