@@ -9,3 +9,4 @@ pub mod UnitBinomials
 pub mod Upward
 pub mod Theorem
 pub mod Homomorphisms
+pub mod CommutatorProducts
