@@ -10,3 +10,5 @@ pub mod Upward
 pub mod Theorem
 pub mod Homomorphisms
 pub mod CommutatorProducts
+pub mod RelatorLattice
+pub mod Representatives
