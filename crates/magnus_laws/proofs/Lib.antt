@@ -12,3 +12,4 @@ pub mod Homomorphisms
 pub mod CommutatorProducts
 pub mod RelatorLattice
 pub mod Representatives
+pub mod Boundary

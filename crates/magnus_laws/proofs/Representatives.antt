@@ -77,7 +77,7 @@ module _ (L : Lattice) where
             (subst (λ z. Near L p z a) (L.test.sound (representative pairs a) (representative pairs e.1) test) own)))
 
     -- ---- the pairs of a sum of multiples of generators
-    pub generator_pairs : (t : L.Z) (g : FormalSum (Point L)) → IsLatticeGenerator L p g → List (L.Z × L.Z)
+    unfoldable pub generator_pairs : (t : L.Z) (g : FormalSum (Point L)) → IsLatticeGenerator L p g → List (L.Z × L.Z)
     generator_pairs t _ (relator_vector r listed) = (t, L.plus t (exponents L r)) ∷ []
     generator_pairs t _ (relator_binomial r c listed below) =
         (L.plus t (exponents L r), L.plus t L.none) ∷ (L.plus (L.plus t (exponents L r)) (L.one_at c), L.plus (L.plus t L.none) (L.one_at c)) ∷ []
@@ -94,7 +94,7 @@ module _ (L : Lattice) where
     abbrev pub IsSum : FormalSum (Point L) → Type 0
     IsSum v = SumOfMultiples (shifted L) (Anywhere L p) (IsLatticeGenerator L p) v
 
-    pub sum_pairs : (v : FormalSum (Point L)) → IsSum v → List (L.Z × L.Z)
+    unfoldable pub sum_pairs : (v : FormalSum (Point L)) → IsSum v → List (L.Z × L.Z)
     sum_pairs _ (nothing) = []
     sum_pairs _ (more q t g rest moves is sum) = generator_pairs t g is ++ sum_pairs rest sum
 
