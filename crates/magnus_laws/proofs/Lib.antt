@@ -13,3 +13,5 @@ pub mod CommutatorProducts
 pub mod RelatorLattice
 pub mod Representatives
 pub mod Boundary
+pub mod Powers
+pub mod PathWords
