@@ -15,3 +15,5 @@ pub mod Representatives
 pub mod Boundary
 pub mod Powers
 pub mod PathWords
+pub mod SecondHalf
+pub mod Writing
