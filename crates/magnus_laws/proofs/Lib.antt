@@ -17,3 +17,4 @@ pub mod Powers
 pub mod PathWords
 pub mod SecondHalf
 pub mod Writing
+pub mod Downward

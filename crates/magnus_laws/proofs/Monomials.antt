@@ -155,7 +155,7 @@ read-unit : (n g m : ℕ) (r : List ℕ) → read n r ≡ none n → read (suc n
 unfolding read
 read-unit n g m r e = λ i. (pos 0, e i)
 
-read-zeros : (n k : ℕ) → read n (replicate k 0) ≡ none n
+pub read-zeros : (n k : ℕ) → read n (replicate k 0) ≡ none n
 unfolding read
 read-zeros zero k = refl
 read-zeros (suc n) zero = refl

@@ -8,10 +8,16 @@ ghost use Rattle.fox_calculus.specs.Fox.{fox};
 ghost use Rattle.fox_calculus.specs.Module.{IsMember};
 ghost use Rattle.magnus_laws.specs.Congruence.{AreCongruent};
 
-/// The Fox vector of a trivial word lies in the module (Magnus 1939, Fox 1953).
+/// The Fox vector of a trivial word lies in the module (Fox 1953).
 #[tactic(auto, using(crate::proofs::Theorem::trivial_is_member))]
 pub fn trivial_is_member()
     ensures { (p : Presented) (w : List Letter) → IsPresented p → IsWordOver p w → Trivial p w → IsMember p (fox w) }
+{}
+
+/// A word whose Fox vector lies in the module is trivial (Magnus 1939).
+#[tactic(auto, using(crate::proofs::Theorem::member_is_trivial))]
+pub fn member_is_trivial()
+    ensures { (p : Presented) (w : List Letter) → IsPresented p → IsWordOver p w → IsMember p (fox w) → Trivial p w }
 {}
 
 /// Equal words have Fox vectors that differ by an element of the module.
@@ -19,4 +25,11 @@ pub fn trivial_is_member()
 pub fn equal_are_congruent()
     ensures { (p : Presented) (u v : List Letter) → IsPresented p → IsWordOver p u → IsWordOver p v → Equal p u v
         → AreCongruent p (fox u) (fox v) }
+{}
+
+/// Words whose Fox vectors differ by an element of the module are equal.
+#[tactic(auto, using(crate::proofs::Theorem::congruent_are_equal))]
+pub fn congruent_are_equal()
+    ensures { (p : Presented) (u v : List Letter) → IsPresented p → IsWordOver p u → IsWordOver p v → AreCongruent p (fox u) (fox v)
+        → Equal p u v }
 {}
