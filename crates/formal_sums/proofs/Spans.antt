@@ -63,6 +63,12 @@ module _ {K T : Type 0} (eq : K → K → Bool) (move : T → K → K) (Moves : 
       (λ k. omega (arith, ints, coefficient-append eq (u ++ scale (negsuc 0) v) (v ++ scale (negsuc 0) w) k, coefficient-append eq u (scale (negsuc 0) v) k, coefficient-append eq v (scale (negsuc 0) w) k, coefficient-append eq u (scale (negsuc 0) w) k, coefficient-scale eq (negsuc 0) v k))
       (spanned-append (u ++ scale (negsuc 0) v) (v ++ scale (negsuc 0) w) d e)
 
+  pub spanned_difference-append : (v v' w w' : FormalSum K) → IsSpanned eq move Moves IsGenerator (v ++ scale (negsuc 0) v') → IsSpanned eq move Moves IsGenerator (w ++ scale (negsuc 0) w') → IsSpanned eq move Moves IsGenerator ((v ++ w) ++ scale (negsuc 0) (v' ++ w'))
+  spanned_difference-append v v' w w' d e =
+      spanned_same ((v ++ w) ++ scale (negsuc 0) (v' ++ w')) ((v ++ scale (negsuc 0) v') ++ (w ++ scale (negsuc 0) w'))
+      (λ k. omega (arith, ints, coefficient-append eq (v ++ w) (scale (negsuc 0) (v' ++ w')) k, coefficient-append eq v w k, coefficient-scale eq (negsuc 0) (v' ++ w') k, coefficient-append eq v' w' k, coefficient-append eq (v ++ scale (negsuc 0) v') (w ++ scale (negsuc 0) w') k, coefficient-append eq v (scale (negsuc 0) v') k, coefficient-append eq w (scale (negsuc 0) w') k, coefficient-scale eq (negsuc 0) v' k, coefficient-scale eq (negsuc 0) w' k))
+      (spanned-append (v ++ scale (negsuc 0) v') (w ++ scale (negsuc 0) w') d e)
+
   -- what differs from a spanned sum by a spanned one is spanned
   pub spanned_by_difference : (v w : FormalSum K) → IsSpanned eq move Moves IsGenerator (v ++ scale (negsuc 0) w) → IsSpanned eq move Moves IsGenerator w → IsSpanned eq move Moves IsGenerator v
   spanned_by_difference v w d is =

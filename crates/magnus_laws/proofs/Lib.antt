@@ -18,3 +18,4 @@ pub mod PathWords
 pub mod SecondHalf
 pub mod Writing
 pub mod Downward
+pub mod FoxRules

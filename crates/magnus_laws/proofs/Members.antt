@@ -3,7 +3,7 @@ use Rattle.std.proofs.Common.{◌≡◌, ℕ, ℤ, pos, negsuc, ◌+ℤ◌, List
 use Rattle.presentation.specs.Presented.{Presented}
 use Rattle.formal_sums.specs.FormalSum.{FormalSum, coefficient, Same, scale, rename}
 use Rattle.formal_sums.specs.Span.{multiple}
-use Rattle.formal_sums.proofs.Spans.{spanned_same, spanned_nothing, spanned-append, spanned_multiple, spanned-scale, spanned-multiple, spanned_zero_difference, spanned_difference_back, spanned_difference_on, spanned_by_difference}
+use Rattle.formal_sums.proofs.Spans.{spanned_same, spanned_nothing, spanned-append, spanned_multiple, spanned-scale, spanned-multiple, spanned_zero_difference, spanned_difference_back, spanned_difference_on, spanned_difference-append, spanned_by_difference}
 use Rattle.laurent_terms.specs.declared.TheConstants.{VARIABLES}
 use Rattle.laurent_terms.specs.Monomials.{product}
 use Rattle.laurent_terms.proofs.Division.{product_assoc}
@@ -49,3 +49,6 @@ module _ (p : Presented) where
 
   pub congruent_member : (v w : FormalSum Place) → AreCongruent p v w → IsMember p w → IsMember p v
   congruent_member v w h k = spanned_by_difference same_place moved HasVariables (IsGenerator p) v w h k
+
+  pub congruent_sum : (v v' w w' : FormalSum Place) → AreCongruent p v v' → AreCongruent p w w' → AreCongruent p (v ++ w) (v' ++ w')
+  congruent_sum v v' w w' h k = spanned_difference-append same_place moved HasVariables (IsGenerator p) v v' w w' h k
