@@ -1,20 +1,18 @@
 -- The fundamental formula of the free differential calculus (Fox 1953), seen through representatives and modulo the modulus: the
 -- ends of two words whose Fox vectors differ by an element of the module have one representative.
-use Rattle.std.proofs.Common.{◌≡◌, ℕ, suc, zero, ◌*◌, ◌<◌, Bool, true, false, cond, ℤ, pos, negsuc, ◌+ℤ◌, ◌*ℤ◌, neg_ℤ, List, [], ◌∷◌, ◌++◌, refl, sym, ap, subst, ◌∙◌, arith}
+use Rattle.std.proofs.Common.{◌≡◌, ℕ, suc, zero, ◌*◌, Bool, true, false, cond, ℤ, pos, negsuc, ◌+ℤ◌, ◌*ℤ◌, neg_ℤ, List, [], ◌∷◌, ◌++◌, refl, sym, ap, ◌∙◌, arith}
 use Rattle.std.proofs.Math.IntN.{+ℤ_assoc, +ℤ_comm, +ℤ_idl, zero-*ℤ}
 use borrow.Author.Differences.{ints}
 use Rattle.free_words.specs.declared.letter.Letter.{Letter}
 use Rattle.presentation.specs.Presented.{Presented}
 use Rattle.formal_sums.specs.Evaluation.{Addition, IsAdditive, evaluate, integer_addition}
 use Rattle.formal_sums.specs.FormalSum.{FormalSum, Same, scale}
-use Rattle.formal_sums.specs.Span.{multiple}
 use Rattle.formal_sums.specs.Span.SumOfMultiples.{nothing, more}
-use Rattle.formal_sums.proofs.Coefficients.{coefficient-append, coefficient-scale}
 use Rattle.formal_sums.proofs.Evaluation.{evaluate-append, evaluate-same, evaluate-scale_unit}
 use Rattle.formal_sums.proofs.Integers.{*ℤ-+ℤ, +ℤ-*ℤ}
 use Rattle.magnus_laws.proofs.Lattices.{Lattice, plus-none, less_and_more}
-use Rattle.magnus_laws.proofs.LatticeFox.{Point, same_point, shift, step_by, step, exponents, term_by, fox_from, fox_in, at, point_test, at-append, at-scale, fox_from-at}
-use Rattle.magnus_laws.proofs.LatticeModule.{IsLatticeGenerator, relator_vector, relator_binomial, modulus_vector, binomial, constant, InModule}
+use Rattle.magnus_laws.proofs.LatticeFox.{Point, same_point, shift, step_by, step, exponents, term_by, fox_from, fox_in, point_test, at-append, at-scale, fox_from-at}
+use Rattle.magnus_laws.proofs.LatticeModule.{IsLatticeGenerator, relator_vector, relator_binomial, modulus_vector, binomial, InModule}
 use Rattle.magnus_laws.proofs.Representatives.{representative, Joins, representative_joins, joins_first, joins_rest, generator_pairs, IsSum, sum_pairs}
 
 -- ---- additive maps that vanish on the multiples of generators
@@ -51,6 +49,7 @@ modulo_back m a b (q, e) = (neg_ℤ q, solve (pos m *ℤ q) (pos m *ℤ neg_ℤ 
   where
     gone : pos m *ℤ (q +ℤ neg_ℤ q) ≡ pos 0
     gone = let none : q +ℤ neg_ℤ q ≡ pos 0 = omega (arith, ints) in ap (λ z. pos m *ℤ z) none ∙ omega (arith, ints)
+
     solve : (x y : ℤ) → x +ℤ y ≡ pos 0 → a ≡ b +ℤ x → b ≡ a +ℤ y
     solve x y h k = omega (arith, ints)
 
@@ -146,14 +145,19 @@ ends_meet L p proper u v (s, sum, same) = decide (L.same (r (exponents L u)) z) 
   where
     r : L.Z → L.Z
     r = representative L (sum_pairs L p s sum)
+
     z : L.Z
     z = r (exponents L v)
+
     value : FormalSum (Point L) → ℤ
     value w = evaluate integer_addition (bump L r z) w
+
     agree : Modulo p.modulus (value (fox_in L u)) (value (fox_in L v))
     agree = values_agree L p (modulo_additive p.modulus) (bump L r z) r (generator_boundary L r z p) (fox_in L u) (fox_in L v) s same sum (representative_joins L (sum_pairs L p s sum))
+
     at_end : (w : List Letter) → value (fox_in L w) ≡ indicator L r z (exponents L w) +ℤ neg_ℤ (indicator L r z L.none)
     at_end w = boundary L r z L.none w ∙ ap (λ a. indicator L r z a +ℤ neg_ℤ (indicator L r z L.none)) (L.none-plus (exponents L w))
+
     decide : (b : Bool) → L.same (r (exponents L u)) z ≡ b → r (exponents L u) ≡ z
     decide true test = L.test.sound (r (exponents L u)) z test
     decide false test =

@@ -1,31 +1,31 @@
 -- From Fox vectors over monomials to those over tuples: what lies in the module here lies in the module there.
-use Rattle.std.proofs.Common.{◌≡◌, ℕ, zero, suc, ◌+◌, ◌-◌, ◌*◌, ◌<◌, ◌≤◌, ℤ, pos, negsuc, List, [], ◌∷◌, ◌++◌, length, replicate, refl, sym, ap, subst, ◌∙◌, arith}
+use Rattle.std.proofs.Common.{◌≡◌, ℕ, ◌-◌, ◌*◌, ◌<◌, ◌≤◌, pos, negsuc, List, [], ◌∷◌, ◌++◌, length, replicate, refl, sym, ap, subst, ◌∙◌, arith}
 use Rattle.std.specs.List.{AllByRecursion}
 use Rattle.std.proofs.lemmas.List.{length-append, length-replicate}
 use Rattle.free_words.specs.declared.letter.Letter.{Letter}
 use Rattle.free_words.specs.declared.TheConstants.{GENERATORS}
 use Rattle.presentation.specs.Presented.{Presented, IsPresented}
 use Rattle.derivation.specs.Moves.{IsWordOver}
-use Rattle.formal_sums.specs.FormalSum.{FormalSum, Same, scale, rename}
+use Rattle.formal_sums.specs.FormalSum.{FormalSum, scale, rename}
 use Rattle.formal_sums.specs.Span.{multiple, SumOfMultiples}
 use Rattle.formal_sums.specs.Span.SumOfMultiples.{nothing, more}
 use Rattle.formal_sums.specs.IntegerTuple.{IntegerTuple, none}
 use Rattle.formal_sums.proofs.Coefficients.{rename-append, rename-scale}
 use Rattle.formal_sums.proofs.Evaluation.{Same-rename}
 use Rattle.laurent_terms.specs.declared.TheConstants.{VARIABLES}
-use Rattle.laurent_terms.specs.Monomials.{product, one}
+use Rattle.laurent_terms.specs.Monomials.{one}
 use Rattle.module_vec.specs.declared.places.Place.{Place}
-use Rattle.module_vec.specs.Places.{same_place, moved}
+use Rattle.module_vec.specs.Places.{moved}
 use Rattle.module_vec.proofs.Order.{test}
 use Rattle.fox_calculus.specs.Fox.{image, fox}
-use Rattle.fox_calculus.specs.Generators.{binomial, unit_monomial, constant}
+use Rattle.fox_calculus.specs.Generators.{binomial, unit_monomial}
 use Rattle.fox_calculus.specs.Module.{IsGenerator, HasVariables, IsMember}
 use Rattle.fox_calculus.specs.Module.IsGenerator.{relator_vector, relator_binomial, unit_binomial, modulus_vector}
 use Rattle.magnus_laws.proofs.LatticeFox.{Point, same_point, shift, exponents, fox_in}
 use Rattle.magnus_laws.proofs.LatticeModule.{IsLatticeGenerator, InModule, in_same, in_nothing, in_append, in_multiple, in_generator, passes_none}
 use Rattle.magnus_laws.proofs.LatticeModule as M
 use Rattle.magnus_laws.proofs.Tuples.{tuples}
-use Rattle.magnus_laws.proofs.Monomials.{written, length-written, image-written, read, read-written, read-product, read-zeros, unit_monomial-is, read-unit_monomial}
+use Rattle.magnus_laws.proofs.Monomials.{length-written, image-written, read, read-written, read-product, read-zeros, unit_monomial-is, read-unit_monomial}
 use Rattle.magnus_laws.proofs.Upward.{relator_over, up, fox-up}
 
 -- a place as a point

@@ -1,30 +1,31 @@
 -- The rules of the free differential calculus over monomials: of a product and of an inverse up to the module, and of a word with pairs
 -- left out exactly.
-use Rattle.std.proofs.Common.{◌≡◌, ℕ, Bool, true, false, cond, not, if◌then◌else◌, ℤ, pos, negsuc, ◌+ℤ◌, ◌*ℤ◌, List, [], ◌∷◌, ◌++◌, map, length, refl, sym, ap, subst, ◌∙◌, arith, append_assoc, append-nil}
+use Rattle.std.proofs.Common.{◌≡◌, ℕ, Bool, true, false, cond, if◌then◌else◌, ℤ, pos, negsuc, ◌+ℤ◌, List, [], ◌∷◌, ◌++◌, map, length, refl, sym, ap, subst, ◌∙◌, arith, append_assoc, append-nil}
 use Rattle.std.specs.List.{range_with_len}
 use borrow.Author.Differences.{ints}
 use Rattle.free_words.specs.declared.letter.Letter.{Letter}
 use Rattle.free_words.specs.declared.TheConstants.{GENERATORS}
 use Rattle.free_words.specs.Words.{flipped, inverse, Cancels, exponent_sum}
+use Rattle.free_words.proofs.WordLemmas.{inverse-inverse}
+use Rattle.free_words.proofs.ReductionLemmas.{Cancels-inverse}
 use Rattle.free_words.proofs.OverLemmas.{IsOver-append, IsOver-inverse}
 use Rattle.free_words.proofs.SumLemmas.{exponent_sum-append, exponent_sum-Cancels}
 use Rattle.presentation.specs.Presented.{Presented, IsPresented}
 use Rattle.derivation.specs.Moves.{IsWordOver}
 use Rattle.formal_sums.specs.FormalSum.{FormalSum, coefficient, Same, scale, rename}
 use Rattle.formal_sums.specs.Span.{multiple}
-use Rattle.formal_sums.specs.IntegerTuple.{IntegerTuple, minus}
-use Rattle.formal_sums.proofs.Coefficients.{coefficient-append, coefficient-scale, rename-append, rename-scale, Same-scale}
-use Rattle.formal_sums.proofs.Evaluation.{Same-rename}
+use Rattle.formal_sums.specs.IntegerTuple.{IntegerTuple}
+use Rattle.formal_sums.proofs.Coefficients.{coefficient-append, coefficient-scale, rename-append}
 use Rattle.laurent_terms.specs.Monomials.{monomial_of}
 use Rattle.module_vec.specs.declared.places.Place.{Place}
 use Rattle.module_vec.specs.Places.{same_place, moved}
 use Rattle.fox_calculus.specs.Fox.{image, place_of, letter_term, fox_after, fox}
 use Rattle.magnus_laws.specs.Congruence.{AreCongruent}
-use Rattle.magnus_laws.proofs.LatticeFox.{Point, same_point, shift, exponents, fox_in, at, point_test, fox_in-append, fox_in-inverse, exponents-inverse}
+use Rattle.magnus_laws.proofs.LatticeFox.{shift, exponents, fox_in, fox_in-append}
 use Rattle.magnus_laws.proofs.LatticeModule.{components-fox_from}
 use Rattle.magnus_laws.proofs.Tuples.{tuples}
-use Rattle.magnus_laws.proofs.Monomials.{written, image-written}
-use Rattle.magnus_laws.proofs.Members.{congruent_same, congruent_sum}
+use Rattle.magnus_laws.proofs.Monomials.{image-written}
+use Rattle.magnus_laws.proofs.Members.{member_same, member_scale, congruent_same, congruent_sum}
 use Rattle.magnus_laws.proofs.Upward.{up, fox-up, shift-up}
 
 -- ---- products
@@ -72,11 +73,14 @@ pair_terms u x y = by x.inv
     gone : (b : Bool) → cond b (pos 1) (pos 0) +ℤ (cond b (negsuc 0) (pos 0) +ℤ pos 0) ≡ pos 0
     gone true = refl
     gone false = refl
+
     gone_back : (b : Bool) → cond b (negsuc 0) (pos 0) +ℤ (cond b (pos 1) (pos 0) +ℤ pos 0) ≡ pos 0
     gone_back true = refl
     gone_back false = refl
+
     the : Bool → Letter
     the b = record { g = x.g; inv = b }
+
     by : (b : Bool) → coefficient same_place (letter_term u (the b) ∷ letter_term (u ++ the b ∷ []) (flipped (the b)) ∷ []) y ≡ pos 0
     by true = gone_back (same_place (place_of (u ++ the true ∷ []) x.g) y)
     by false =
@@ -99,3 +103,28 @@ pair_left_out u v x y =
 pub fox_of_cancelled : (w v : List Letter) → Cancels w v → Same same_place (fox w) (fox v)
 fox_of_cancelled w v (Cancels.none _) y = refl
 fox_of_cancelled _ _ (Cancels.pair u v w x rest) y = pair_left_out u v x y ∙ fox_of_cancelled (u ++ v) w rest y
+
+-- ---- inverses
+inverse_in_front : (w : List Letter) → Same same_place (fox (inverse w ++ w)) []
+inverse_in_front w = fox_of_cancelled (inverse w ++ w) [] (subst (λ z. Cancels (inverse w ++ z) []) (inverse-inverse w) (Cancels-inverse (inverse w)))
+
+pub fox_of_inverse : (p : Presented) (w : List Letter) → IsPresented p → IsWordOver p w → AreCongruent p (fox (inverse w)) (multiple moved (negsuc 0) (image (inverse w)) (fox w))
+fox_of_inverse p w known over =
+    let both : FormalSum Place = fox (inverse w ++ w) in
+    let one : FormalSum Place = fox (inverse w) in
+    let other : FormalSum Place = rename (moved (image (inverse w))) (fox w) in
+    let product : AreCongruent p both (one ++ other) = fox_of_product p (inverse w) w known (IsOver-inverse (length p.names) w over) over in
+    member_same p (one ++ scale (negsuc 0) (scale (negsuc 0) other)) (scale (negsuc 0) (both ++ scale (negsuc 0) (one ++ other)))
+    (λ y. omega (
+      arith,
+      ints,
+      inverse_in_front w y,
+      coefficient-append same_place one (scale (negsuc 0) (scale (negsuc 0) other)) y,
+      coefficient-scale same_place (negsuc 0) (scale (negsuc 0) other) y,
+      coefficient-scale same_place (negsuc 0) other y,
+      coefficient-scale same_place (negsuc 0) (both ++ scale (negsuc 0) (one ++ other)) y,
+      coefficient-append same_place both (scale (negsuc 0) (one ++ other)) y,
+      coefficient-scale same_place (negsuc 0) (one ++ other) y,
+      coefficient-append same_place one other y,
+    ))
+    (member_scale p (negsuc 0) (both ++ scale (negsuc 0) (one ++ other)) product)

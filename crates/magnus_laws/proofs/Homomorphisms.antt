@@ -1,8 +1,7 @@
 -- A map of the generators extends to a homomorphism exactly where it keeps the relators.
-use Rattle.std.proofs.Common.{◌≡◌, ◌<◌, List, [], ◌∷◌, ◌++◌, sym, ap, subst, ◌∙◌, arith, inl, inr}
-use Rattle.std.specs.Prelude.{Contains}
+use Rattle.std.proofs.Common.{◌≡◌, List, [], ◌∷◌, ◌++◌, sym, ap, subst, ◌∙◌, arith, inl, inr}
 use Rattle.free_words.specs.declared.letter.Letter.{Letter}
-use Rattle.free_words.specs.Words.{flipped, inverse, commutator, word_image}
+use Rattle.free_words.specs.Words.{flipped, commutator, word_image}
 use Rattle.free_words.proofs.ImageLemmas.{word_image-append, word_image-inverse, word_image-commutator}
 use Rattle.free_words.proofs.OverLemmas.{IsOver-word_image}
 use Rattle.presentation.specs.Presented.{Presented, IsPresented}

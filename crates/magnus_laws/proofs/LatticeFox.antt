@@ -7,8 +7,8 @@ use Rattle.free_words.proofs.WordLemmas.{inverse-cons}
 use Rattle.formal_sums.specs.FormalSum.{FormalSum, coefficient, Same, scale, rename}
 use Rattle.formal_sums.specs.Keys.{IsEqualityTest}
 use Rattle.formal_sums.proofs.Keys.{pair_test, nat_test}
-use Rattle.formal_sums.proofs.Coefficients.{coefficient-append, coefficient-scale, rename-append, rename-rename}
-use Rattle.magnus_laws.proofs.Lattices.{Lattice, plus-none, plus-minus, back, forth, minus-minus, minus-none, minus_of_plus, same-plus}
+use Rattle.formal_sums.proofs.Coefficients.{coefficient-append, coefficient-scale}
+use Rattle.magnus_laws.proofs.Lattices.{Lattice, plus-none, plus-minus, minus-minus, minus-none, minus_of_plus, same-plus}
 
 module _ (L : Lattice) where
   -- ---- definitions

@@ -8,10 +8,10 @@ use Rattle.free_words.specs.declared.letter.Letter.{Letter}
 use Rattle.presentation.specs.Presented.{Presented}
 use Rattle.derivation.specs.Moves.{IsWordOver}
 use Rattle.formal_sums.specs.FormalSum.{FormalSum, scale}
-use Rattle.formal_sums.specs.Span.{multiple, IsSpanned}
+use Rattle.formal_sums.specs.Span.{IsSpanned}
 use Rattle.formal_sums.proofs.Spans.{scale-one, spanned_same, spanned_nothing, spanned-append, spanned_multiple, spanned-multiple}
 use Rattle.magnus_laws.proofs.Lattices.{Lattice, plus-none}
-use Rattle.magnus_laws.proofs.LatticeFox.{Point, same_point, shifted, shift, step_by, step, exponents, term_by, fox_from, fox_in, at, Alike, point_test, at-append, shift-none}
+use Rattle.magnus_laws.proofs.LatticeFox.{Point, same_point, shifted, shift, step, exponents, term_by, fox_from, fox_in, at, Alike, point_test, at-append, shift-none}
 
 module _ (L : Lattice) where
   -- x^e - 1, in the component c
@@ -91,8 +91,8 @@ module _ (L : Lattice) (p : Presented) where
   passes_minus e h c below =
       in_same (binomial L (L.minus e) c) (scale (negsuc 0) (shift L (L.minus e) (binomial L e c)))
       (λ m.
-          turned (same_point L (L.minus e, c) m) (same_point L (L.none, c) m)
-          ∙ (λ i. cond (same_point L (sym (L.minus-plus e) i, c) m) (negsuc 0 *ℤ pos 1) (pos 0) +ℤ (cond (same_point L (sym (plus-none L (L.minus e)) i, c) m) (negsuc 0 *ℤ negsuc 0) (pos 0) +ℤ pos 0)))
+      turned (same_point L (L.minus e, c) m) (same_point L (L.none, c) m)
+      ∙ (λ i. cond (same_point L (sym (L.minus-plus e) i, c) m) (negsuc 0 *ℤ pos 1) (pos 0) +ℤ (cond (same_point L (sym (plus-none L (L.minus e)) i, c) m) (negsuc 0 *ℤ negsuc 0) (pos 0) +ℤ pos 0)))
       (in_multiple (negsuc 0) (L.minus e) (binomial L e c) (h c below))
 
   -- x^(a+b) - 1 is x^b·(x^a - 1) + (x^b - 1)
@@ -110,8 +110,8 @@ module _ (L : Lattice) (p : Presented) where
   passes_plus a b h k c below =
       in_same (binomial L (L.plus a b) c) (scale (pos 1) (shift L b (binomial L a c)) ++ binomial L b c)
       (λ m.
-          summed (same_point L (L.plus a b, c) m) (same_point L (b, c) m) (same_point L (L.none, c) m)
-          ∙ (λ i. cond (same_point L (L.plus_comm a b i, c) m) (pos 1 *ℤ pos 1) (pos 0) +ℤ (cond (same_point L (sym (plus-none L b) i, c) m) (pos 1 *ℤ negsuc 0) (pos 0) +ℤ at L (binomial L b c) m)))
+      summed (same_point L (L.plus a b, c) m) (same_point L (b, c) m) (same_point L (L.none, c) m)
+      ∙ (λ i. cond (same_point L (L.plus_comm a b i, c) m) (pos 1 *ℤ pos 1) (pos 0) +ℤ (cond (same_point L (sym (plus-none L b) i, c) m) (pos 1 *ℤ negsuc 0) (pos 0) +ℤ at L (binomial L b c) m)))
       (in_append (scale (pos 1) (shift L b (binomial L a c))) (binomial L b c) (in_multiple (pos 1) b (binomial L a c) (h c below)) (k c below))
 
   passed : (q : ℤ) (b d : Bool) (x y s t : ℤ) → s ≡ x +ℤ (cond d (negsuc 0 *ℤ q) (pos 0) +ℤ y) → t ≡ x +ℤ y → cond b q (pos 0) +ℤ s ≡ cond b (q *ℤ pos 1) (pos 0) +ℤ (cond d (q *ℤ negsuc 0) (pos 0) +ℤ t)
@@ -128,9 +128,9 @@ module _ (L : Lattice) (p : Presented) where
       let this : FormalSum (Point L) = scale q (shift L a (binomial L e c)) in
       in_same (shift L e ((q, (a, c)) ∷ v) ++ scale (negsuc 0) ((q, (a, c)) ∷ v)) (this ++ less)
       (λ m.
-          passed q (same_point L (L.plus e a, c) m) (same_point L (a, c) m) (at L (shift L e v) m) (at L (scale (negsuc 0) v) m) (at L (shift L e v ++ ((negsuc 0 *ℤ q, (a, c)) ∷ scale (negsuc 0) v)) m) (at L less m)
-          (at-append L (shift L e v) ((negsuc 0 *ℤ q, (a, c)) ∷ scale (negsuc 0) v) m) (at-append L (shift L e v) (scale (negsuc 0) v) m)
-          ∙ (λ i. cond (same_point L (L.plus_comm e a i, c) m) (q *ℤ pos 1) (pos 0) +ℤ (cond (same_point L (sym (plus-none L a) i, c) m) (q *ℤ negsuc 0) (pos 0) +ℤ at L less m)))
+      passed q (same_point L (L.plus e a, c) m) (same_point L (a, c) m) (at L (shift L e v) m) (at L (scale (negsuc 0) v) m) (at L (shift L e v ++ ((negsuc 0 *ℤ q, (a, c)) ∷ scale (negsuc 0) v)) m) (at L less m)
+      (at-append L (shift L e v) ((negsuc 0 *ℤ q, (a, c)) ∷ scale (negsuc 0) v) m) (at-append L (shift L e v) (scale (negsuc 0) v) m)
+      ∙ (λ i. cond (same_point L (L.plus_comm e a i, c) m) (q *ℤ pos 1) (pos 0) +ℤ (cond (same_point L (sym (plus-none L a) i, c) m) (q *ℤ negsuc 0) (pos 0) +ℤ at L less m)))
       (in_append this less (in_multiple q a (binomial L e c) (h c over.0)) (passes_all e h v over.1))
 
   -- where there is a modulus m, m times a vector lies in the module

@@ -1,7 +1,7 @@
 -- What the module of a presentation is closed under.
-use Rattle.std.proofs.Common.{◌≡◌, ℕ, ℤ, pos, negsuc, ◌+ℤ◌, List, [], ◌∷◌, ◌++◌, length, refl, sym, ap, ◌∙◌}
+use Rattle.std.proofs.Common.{ℕ, ℤ, List, [], ◌++◌, sym}
 use Rattle.presentation.specs.Presented.{Presented}
-use Rattle.formal_sums.specs.FormalSum.{FormalSum, coefficient, Same, scale, rename}
+use Rattle.formal_sums.specs.FormalSum.{FormalSum, Same, scale}
 use Rattle.formal_sums.specs.Span.{multiple}
 use Rattle.formal_sums.proofs.Spans.{spanned_same, spanned_nothing, spanned-append, spanned_multiple, spanned-scale, spanned-multiple, spanned_zero_difference, spanned_difference_back, spanned_difference_on, spanned_difference-append, spanned_by_difference}
 use Rattle.laurent_terms.specs.declared.TheConstants.{VARIABLES}

@@ -12,7 +12,7 @@ use Rattle.formal_sums.proofs.IntegerTuples.{plus_comm, none-plus}
 use Rattle.laurent_terms.specs.declared.TheConstants.{VARIABLES}
 use Rattle.laurent_terms.specs.Monomials.{product, one, variable, positive_part, negative_part, both_parts, monomial_of}
 use Rattle.laurent_terms.proofs.IntegerVectors.{length-both_parts, both_parts-append, length-monomial_of}
-use Rattle.fox_calculus.specs.Fox.{exponent_sums, image}
+use Rattle.fox_calculus.specs.Fox.{image}
 use Rattle.fox_calculus.specs.Generators.{unit_monomial}
 use Rattle.magnus_laws.proofs.LatticeFox.{exponents}
 use Rattle.magnus_laws.proofs.Tuples.{tuples, entries, length-entries, sums_given}

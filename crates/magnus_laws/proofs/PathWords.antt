@@ -1,7 +1,7 @@
 -- Words as values of Fox vectors. Each place (a, g) gets the word s(a) x_g s(a + x_g)^-1, where s(a) writes the representative of
 -- a. The exponents of such a word lie in the lattice of the relators, so up to moves these words add up like vectors; the Fox vector of
 -- a word u from a on has the value s(a) u s(a + [u])^-1, and each multiple of a generator the value 1.
-use Rattle.std.proofs.Common.{◌≡◌, ℕ, suc, zero, ◌<◌, Bool, true, false, ltb, ℤ, pos, negsuc, ◌+ℤ◌, List, [], ◌∷◌, ◌++◌, length, refl, sym, ap, subst, ◌∙◌, arith, append_assoc, append-nil}
+use Rattle.std.proofs.Common.{◌≡◌, ℕ, suc, ◌<◌, Bool, true, false, ltb, ℤ, pos, negsuc, List, [], ◌∷◌, ◌++◌, length, refl, sym, ap, subst, ◌∙◌, arith, append_assoc, append-nil}
 use Rattle.std.proofs.lemmas.Bool.Decides.{nat_tests}
 use Rattle.free_words.specs.declared.letter.Letter.{Letter}
 use Rattle.free_words.specs.Words.{flipped, inverse, copies, exponent_sum}
@@ -9,17 +9,17 @@ use Rattle.free_words.proofs.WordLemmas.{inverse-append, inverse-inverse}
 use Rattle.free_words.proofs.OverLemmas.{IsOver-append, IsOver-inverse}
 use Rattle.presentation.specs.Presented.{Presented, IsPresented}
 use Rattle.derivation.specs.Moves.{IsWordOver, Reaches, Trivial}
-use Rattle.derivation.proofs.Reaching.{reaches_self, reaches_on, reaches_back, reaches_between, reaches_behind, reaches_before, reaches_both}
+use Rattle.derivation.proofs.Reaching.{reaches_self, reaches_on, reaches_back, reaches_between, reaches_behind, reaches_both}
 use Rattle.derivation.proofs.TrivialLaws.{trivial_nothing, trivial_relator, trivial_cancel, trivial_cancel_back}
 use Rattle.formal_sums.specs.Evaluation.{Addition, IsAdditive, evaluate}
 use Rattle.formal_sums.specs.FormalSum.{FormalSum}
 use Rattle.magnus_laws.proofs.Lattices.{Lattice, plus-none, forth, less_and_more, minus_of_plus}
-use Rattle.magnus_laws.proofs.LatticeFox.{Point, shift, step_by, step, exponents, term_by, fox_from, fox_in, exponents-append, exponents-inverse, fox_from-at}
+use Rattle.magnus_laws.proofs.LatticeFox.{Point, shift, step_by, step, exponents, term_by, fox_from, exponents-append, exponents-inverse, fox_from-at}
 use Rattle.magnus_laws.proofs.LatticeModule.{IsLatticeGenerator, relator_vector, relator_binomial, modulus_vector}
 use Rattle.magnus_laws.proofs.CommutatorProducts.{reaches_same}
 use Rattle.magnus_laws.proofs.RelatorLattice.{InRelatorLattice, nothing, lattice_plus, lattice_minus, lattice_product, lattice_inverse, lattice_copies, Near, lattice_words_commute, lattice_word_power}
 use Rattle.magnus_laws.proofs.Representatives.{Joins, generator_pairs}
-use Rattle.magnus_laws.proofs.Powers.{raised, over-raised, front_gone, raised-add}
+use Rattle.magnus_laws.proofs.Powers.{raised, over-raised, raised-add}
 use Rattle.magnus_laws.proofs.Upward.{relator_over}
 
 module _ (L : Lattice) (p : Presented) where

@@ -1,5 +1,5 @@
 -- Integer powers of a word, up to moves.
-use Rattle.std.proofs.Common.{◌≡◌, ℕ, suc, zero, ℤ, pos, negsuc, ◌+ℤ◌, List, [], ◌++◌, length, refl, sym, ap, subst, ◌∙◌, arith, append_assoc, append-nil}
+use Rattle.std.proofs.Common.{suc, zero, ℤ, pos, negsuc, ◌+ℤ◌, List, [], ◌++◌, length, sym, subst, append_assoc, append-nil}
 use Rattle.std.proofs.Math.IntN.{suc_ℤ, pred_ℤ, suc_ℤ-+ℤ, pred_ℤ-+ℤ, +ℤ_idl}
 use Rattle.free_words.specs.declared.letter.Letter.{Letter}
 use Rattle.free_words.specs.Words.{inverse, copies}

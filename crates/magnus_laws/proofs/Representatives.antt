@@ -1,11 +1,10 @@
 -- Representatives: from a finite list of pairs of near elements, a map that takes the two of each pair to one element, and each
 -- element to a near one. The pairs come from a sum of multiples of generators, so that membership in the lattice of the relators
 -- never has to be decided: equality is enough.
-use Rattle.std.proofs.Common.{◌≡◌, ℕ, Bool, true, false, cond, ℤ, pos, negsuc, List, [], ◌∷◌, ◌++◌, refl, sym, ap, subst, ◌∙◌, IsTrue}
-use Rattle.free_words.specs.declared.letter.Letter.{Letter}
+use Rattle.std.proofs.Common.{◌≡◌, Bool, true, false, cond, List, [], ◌∷◌, ◌++◌, refl, sym, ap, subst}
 use Rattle.presentation.specs.Presented.{Presented}
 use Rattle.formal_sums.specs.FormalSum.{FormalSum}
-use Rattle.formal_sums.specs.Span.{multiple, SumOfMultiples}
+use Rattle.formal_sums.specs.Span.{SumOfMultiples}
 use Rattle.formal_sums.specs.Span.SumOfMultiples.{nothing, more}
 use Rattle.magnus_laws.proofs.Lattices.{Lattice, plus-none}
 use Rattle.magnus_laws.proofs.LatticeFox.{Point, shifted, exponents}
@@ -33,11 +32,10 @@ module _ (L : Lattice) where
 
   pub representative_joins : (pairs : List (L.Z × L.Z)) → Joins (representative pairs) pairs
   representative_joins [] = tt
-  representative_joins (e ∷ pairs) =
-      (
-        both (L.same (representative pairs e.0) (representative pairs e.1)) (L.same (representative pairs e.1) (representative pairs e.1)) (L.test.reflexive (representative pairs e.1)),
-        joins_later e pairs pairs (representative_joins pairs),
-      )
+  representative_joins (e ∷ pairs) = (
+    both (L.same (representative pairs e.0) (representative pairs e.1)) (L.same (representative pairs e.1) (representative pairs e.1)) (L.test.reflexive (representative pairs e.1)),
+    joins_later e pairs pairs (representative_joins pairs),
+  )
     where
       both : (b c : Bool) → c ≡ true → cond b (representative pairs e.0) (representative pairs e.0) ≡ cond c (representative pairs e.0) (representative pairs e.1)
       both true true h = refl

@@ -1,20 +1,20 @@
 -- Words whose Fox vectors differ by an element of the module are equal (Magnus 1939).
-use Rattle.std.proofs.Common.{◌≡◌, ℕ, ℤ, pos, negsuc, List, [], ◌∷◌, ◌++◌, length, refl, sym, ap, subst, ◌∙◌, append_assoc, append-nil}
+use Rattle.std.proofs.Common.{◌≡◌, ℕ, pos, negsuc, List, [], ◌++◌, refl, subst, append_assoc, append-nil}
 use Rattle.free_words.specs.declared.letter.Letter.{Letter}
 use Rattle.free_words.specs.Words.{inverse, exponent_sum}
 use Rattle.presentation.specs.Presented.{Presented, IsPresented}
 use Rattle.derivation.specs.Moves.{IsWordOver, Reaches}
 use Rattle.derivation.proofs.Reaching.{reaches_on, reaches_back, reaches_between, reaches_behind, reaches_before}
 use Rattle.derivation.proofs.TrivialLaws.{trivial_cancel_back}
-use Rattle.formal_sums.specs.FormalSum.{FormalSum, scale}
+use Rattle.formal_sums.specs.FormalSum.{scale}
 use Rattle.magnus_laws.proofs.Lattices.{Lattice}
-use Rattle.magnus_laws.proofs.LatticeFox.{Point, exponents, fox_in}
+use Rattle.magnus_laws.proofs.LatticeFox.{exponents, fox_in}
 use Rattle.magnus_laws.proofs.LatticeModule.{InModule}
 use Rattle.magnus_laws.proofs.CommutatorProducts.{reaches_same}
 use Rattle.magnus_laws.proofs.RelatorLattice.{Near}
 use Rattle.magnus_laws.proofs.Representatives.{representative, representative_joins, representative_near, sum_pairs, sum_near}
-use Rattle.magnus_laws.proofs.Boundary.{values_agree, represented, ends_meet}
-use Rattle.magnus_laws.proofs.PathWords.{LatticeWord, words_additive, walk, edge, value, path, generator_value}
+use Rattle.magnus_laws.proofs.Boundary.{values_agree, ends_meet}
+use Rattle.magnus_laws.proofs.PathWords.{words_additive, edge, value, path, generator_value}
 
 module _ (p : Presented) where
   -- x^-1 (x u y^-1) y leads to u
@@ -42,10 +42,10 @@ module _ (L : Lattice) (p : Presented) (known : IsPresented p) (sums : (w : List
       let meet : r (exponents L u) ≡ r (exponents L v) = ends_meet L p proper u v (s, sum, same) in
       let agree : Reaches p (value L p known sums write write_over write_exponents r near (fox_in L u)) (value L p known sums write write_over write_exponents r near (fox_in L v)) =
       values_agree L p (words_additive L p known sums) (edge L p known sums write write_over write_exponents r near) r
-          (generator_value L p known sums write write_over write_exponents r near) (fox_in L u) (fox_in L v) s same sum (representative_joins L pairs) in
+      (generator_value L p known sums write write_over write_exponents r near) (fox_in L u) (fox_in L v) s same sum (representative_joins L pairs) in
       let from : (w : List Letter) → IsWordOver p w → Reaches p (value L p known sums write write_over write_exponents r near (fox_in L w)) (write (r L.none) ++ (w ++ inverse (write (r (exponents L w))))) =
       λ w over. subst (λ z. Reaches p (value L p known sums write write_over write_exponents r near (fox_in L w)) (write (r L.none) ++ (w ++ inverse (write (r z))))) (L.none-plus (exponents L w))
-          (path L p known sums write write_over write_exponents r near L.none w over) in
+      (path L p known sums write write_over write_exponents r near L.none w over) in
       let start : List Letter = write (r L.none) in
       let end : List Letter = write (r (exponents L v)) in
       cancel_around p start u v end (write_over (r L.none)) (write_over (r (exponents L v)))

@@ -1,5 +1,5 @@
 -- Words are equal exactly where their Fox vectors are congruent, and trivial exactly where the Fox vector lies in the module.
-use Rattle.std.proofs.Common.{◌≡◌, ℕ, ◌≤◌, negsuc, ◌⊎◌, inl, inr, List, [], ◌++◌, length, sym, ap, subst, ◌∙◌, arith, append-nil}
+use Rattle.std.proofs.Common.{◌≡◌, ℕ, negsuc, inl, inr, List, [], ◌++◌, length, sym, ap, subst, ◌∙◌, arith, append-nil}
 use Rattle.free_words.specs.declared.letter.Letter.{Letter}
 use Rattle.presentation.specs.Presented.{Presented, IsPresented, IsModulus}
 use Rattle.derivation.specs.Moves.{IsWordOver, Reaches, Trivial, Equal}
@@ -7,7 +7,6 @@ use Rattle.derivation.proofs.Staying.{reaches_over}
 use Rattle.derivation.proofs.TrivialLaws.{equal_reaches, reaches_equal}
 use Rattle.formal_sums.specs.FormalSum.{FormalSum, scale, rename}
 use Rattle.formal_sums.proofs.Coefficients.{rename-append, rename-scale}
-use Rattle.module_vec.specs.declared.places.Place.{Place}
 use Rattle.fox_calculus.specs.Fox.{fox}
 use Rattle.fox_calculus.specs.Module.{IsMember}
 use Rattle.magnus_laws.specs.Congruence.{AreCongruent}

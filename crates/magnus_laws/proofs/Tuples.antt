@@ -4,7 +4,7 @@ use Rattle.std.proofs.lemmas.Bool.Decides.{nat_tests}
 use Rattle.std.specs.List.{range_with_len}
 use Rattle.free_words.specs.declared.letter.Letter.{Letter}
 use Rattle.free_words.specs.Words.{IsOver, exponent_sum}
-use Rattle.free_words.proofs.SumLemmas.{exponent_at, exponent_sum-cons, exponent_sum-outside}
+use Rattle.free_words.proofs.SumLemmas.{exponent_sum-cons, exponent_sum-outside}
 use Rattle.formal_sums.specs.IntegerTuple.{IntegerTuple, plus, none, minus, one_at, entry, tuple_eq}
 use Rattle.formal_sums.proofs.IntegerTuples.{plus_assoc, plus_comm, none-plus, minus-plus, tuple_test, entry-plus, entry-none, entry-minus, entry-one_at, same_entries}
 use Rattle.magnus_laws.proofs.Lattices.{Lattice}

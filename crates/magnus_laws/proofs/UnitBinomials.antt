@@ -4,15 +4,15 @@ use Rattle.std.proofs.lemmas.List.{length-append, length-replicate}
 use borrow.Author.Differences.{ints}
 use Rattle.free_words.specs.declared.TheConstants.{GENERATORS}
 use Rattle.presentation.specs.Presented.{Presented}
-use Rattle.formal_sums.specs.FormalSum.{FormalSum, coefficient, scale}
+use Rattle.formal_sums.specs.FormalSum.{FormalSum, scale}
 use Rattle.formal_sums.specs.Span.{multiple}
 use Rattle.formal_sums.specs.IntegerTuple.{IntegerTuple, plus}
 use Rattle.laurent_terms.specs.declared.TheConstants.{VARIABLES}
-use Rattle.laurent_terms.specs.Monomials.{product, one, positive_part, negative_part}
+use Rattle.laurent_terms.specs.Monomials.{product, positive_part, negative_part}
 use Rattle.module_vec.specs.declared.places.Place.{Place}
 use Rattle.module_vec.specs.Places.{same_place, moved}
 use Rattle.fox_calculus.specs.Generators.{binomial, unit_monomial}
-use Rattle.fox_calculus.specs.Module.{HasVariables, IsMember, IsGenerator}
+use Rattle.fox_calculus.specs.Module.{HasVariables, IsMember}
 use Rattle.fox_calculus.specs.Module.IsGenerator.{unit_binomial}
 use Rattle.magnus_laws.proofs.Members.{member_same, member_nothing, member_sum, member_scale, member_of_generator}
 use Rattle.magnus_laws.proofs.Monomials.{product-append, product-zeros, length-product, parts, written, length-parts, written-parts, length-written, read, read-parts, read-product, unit_monomial-is}
@@ -87,8 +87,8 @@ module _ (p : Presented) (few : length p.names ≤ GENERATORS) where
   alike_unit t g long small c below =
       member_same p (difference (product t (unit_monomial g)) t c) (multiple moved (pos 1) t (binomial (unit_monomial g) c))
       (λ x.
-          times_one (here (product t (unit_monomial g)) c x) (here t c x)
-          ∙ (λ i. cond (here (product t (unit_monomial g)) c x) (pos 1 *ℤ pos 1) (pos 0) +ℤ (cond (here (sym (product-zeros VARIABLES t long) i) c x) (pos 1 *ℤ negsuc 0) (pos 0) +ℤ pos 0)))
+      times_one (here (product t (unit_monomial g)) c x) (here t c x)
+      ∙ (λ i. cond (here (product t (unit_monomial g)) c x) (pos 1 *ℤ pos 1) (pos 0) +ℤ (cond (here (sym (product-zeros VARIABLES t long) i) c x) (pos 1 *ℤ negsuc 0) (pos 0) +ℤ pos 0)))
       (member_of_generator p (pos 1) t (binomial (unit_monomial g) c) long (unit_binomial g c small below))
 
   -- the two exponents of a generator, of which one becomes 0

@@ -1,5 +1,5 @@
 -- From Fox vectors over tuples to those over monomials: what lies in the module there lies in the module here.
-use Rattle.std.proofs.Common.{◌≡◌, ℕ, ◌<◌, ◌≤◌, Bool, true, false, cond, if◌then◌else◌, ℤ, pos, negsuc, ◌+ℤ◌, ◌*ℤ◌, List, [], ◌∷◌, ◌++◌, length, refl, sym, ap, subst, ◌∙◌, arith, append_assoc}
+use Rattle.std.proofs.Common.{◌≡◌, ℕ, ◌<◌, ◌≤◌, Bool, true, false, cond, ℤ, pos, negsuc, ◌+ℤ◌, ◌*ℤ◌, List, [], ◌∷◌, ◌++◌, length, refl, sym, ap, subst, ◌∙◌, arith}
 use borrow.Author.Differences.{ints}
 use Rattle.free_words.specs.declared.letter.Letter.{Letter}
 use Rattle.free_words.specs.declared.TheConstants.{GENERATORS}
@@ -8,25 +8,25 @@ use Rattle.presentation.specs.Presented.{Presented, IsPresented, IsWritten}
 use Rattle.std.specs.Prelude.{Contains}
 use Rattle.std.proofs.lemmas.List.Elements.{All-contains, All-from_recursion}
 use Rattle.derivation.specs.Moves.{IsWordOver}
-use Rattle.formal_sums.specs.FormalSum.{FormalSum, coefficient, Same, scale, rename}
-use Rattle.formal_sums.specs.Span.{multiple, SumOfMultiples}
+use Rattle.formal_sums.specs.FormalSum.{FormalSum, coefficient, scale, rename}
+use Rattle.formal_sums.specs.Span.{SumOfMultiples}
 use Rattle.formal_sums.specs.Span.SumOfMultiples.{nothing, more}
 use Rattle.formal_sums.specs.IntegerTuple.{IntegerTuple, plus}
 use Rattle.formal_sums.proofs.Coefficients.{coefficient-append, rename-append, rename-scale}
 use Rattle.formal_sums.proofs.Evaluation.{Same-rename}
 use Rattle.formal_sums.proofs.Spans.{scale-one}
-use Rattle.laurent_terms.specs.Monomials.{product, one}
+use Rattle.laurent_terms.specs.Monomials.{product}
 use Rattle.module_vec.specs.declared.places.Place.{Place}
 use Rattle.module_vec.specs.Places.{same_place, moved}
-use Rattle.fox_calculus.specs.Fox.{image, place_of, letter_term, fox_after, fox}
+use Rattle.fox_calculus.specs.Fox.{image, letter_term, fox_after, fox}
 use Rattle.fox_calculus.specs.Module.{IsGenerator, IsMember}
 use Rattle.magnus_laws.specs.Congruence.{AreCongruent}
 use Rattle.magnus_laws.proofs.Lattices.{plus-none}
-use Rattle.magnus_laws.proofs.LatticeFox.{Point, same_point, shifted, shift, step_by, step, exponents, term_by, fox_from, fox_in, point_test, exponents-append, fox_in-append}
-use Rattle.magnus_laws.proofs.LatticeModule.{IsLatticeGenerator, relator_vector, relator_binomial, modulus_vector, Anywhere, InModule, HasComponents, binomial, components-fox_from}
+use Rattle.magnus_laws.proofs.LatticeFox.{Point, shifted, shift, step, exponents, term_by, fox_from, fox_in, point_test, exponents-append}
+use Rattle.magnus_laws.proofs.LatticeModule.{IsLatticeGenerator, relator_vector, relator_binomial, modulus_vector, Anywhere, InModule, HasComponents, components-fox_from}
 use Rattle.magnus_laws.proofs.Tuples.{tuples}
 use Rattle.magnus_laws.proofs.Monomials.{written, written-none, length-written, image-written}
-use Rattle.magnus_laws.proofs.Members.{member_same, member_nothing, member_sum, member_scale, member_of_generator, congruent_same, congruent_member}
+use Rattle.magnus_laws.proofs.Members.{member_same, member_nothing, member_sum, member_scale, member_of_generator, congruent_member}
 use Rattle.magnus_laws.proofs.UnitBinomials.{difference, alike_product}
 
 -- relators are words over the presentation
@@ -75,9 +75,9 @@ module _ (p : Presented) (few : length p.names ≤ GENERATORS) where
       let rest : FormalSum Place = v ++ scale (negsuc 0) w in
       member_same p (first ++ scale (negsuc 0) second) (this ++ rest)
       (λ x. next q (same_place (record { m = s; c = c }) x) (same_place (record { m = t; c = c }) x)
-          (coefficient same_place v x) (coefficient same_place (scale (negsuc 0) w) x)
-          (coefficient same_place (v ++ scale (negsuc 0) second) x) (coefficient same_place rest x)
-          (coefficient-append same_place v (scale (negsuc 0) second) x) (coefficient-append same_place v (scale (negsuc 0) w) x))
+      (coefficient same_place v x) (coefficient same_place (scale (negsuc 0) w) x)
+      (coefficient same_place (v ++ scale (negsuc 0) second) x) (coefficient same_place rest x)
+      (coefficient-append same_place v (scale (negsuc 0) second) x) (coefficient-append same_place v (scale (negsuc 0) w) x))
       (member_sum p this rest (member_scale p q (difference s t c) d) h)
     where
       next : (q : ℤ) (a b : Bool) (x y s r : ℤ) → s ≡ x +ℤ (cond b (negsuc 0 *ℤ q) (pos 0) +ℤ y) → r ≡ x +ℤ y → cond a q (pos 0) +ℤ s ≡ cond a (q *ℤ pos 1) (pos 0) +ℤ (cond b (q *ℤ negsuc 0) (pos 0) +ℤ r)

@@ -9,3 +9,4 @@
 
 pub mod magnus;
 pub mod maps;
+pub mod rules;
