@@ -58,14 +58,14 @@ long_unit g below =
     ∙ omega (arith, below, length-append {A = ℕ} (replicate (2 * g) 0) (1 ∷ 1 ∷ replicate m 0), length-replicate {A = ℕ} (2 * g) 0, length-replicate {A = ℕ} m 0)
 
 module _ (p : Presented) (known : IsPresented p) where
-  abbrev n : ℕ
+  abbrev pub n : ℕ
   n = length p.names
 
-  abbrev few : length p.names ≤ GENERATORS
+  abbrev few : n ≤ GENERATORS
   few = known.few_names
 
   -- the Fox vector of a word
-  pub fox-down : (w : List Letter) → IsWordOver p w → rename (down (length p.names)) (fox w) ≡ fox_in (tuples (length p.names)) w
+  pub fox-down : (w : List Letter) → IsWordOver p w → rename (down n) (fox w) ≡ fox_in (tuples n) w
   fox-down w over = ap (rename (down n)) (sym (fox-up p few w over)) ∙ down_of_up n (fox_in (tuples n) w)
 
   -- ---- generators
@@ -76,10 +76,10 @@ module _ (p : Presented) (known : IsPresented p) where
   long_generator _ (unit_binomial g c small below) = (long_unit g (omega (arith, small, few)), (long_one, tt))
   long_generator _ (modulus_vector c some below) = (long_one, tt)
 
-  binomial-down : (m : List ℕ) (c : ℕ) (e : IntegerTuple (length p.names)) → read (length p.names) m ≡ e → rename (down (length p.names)) (binomial m c) ≡ M.binomial (tuples (length p.names)) e c
+  binomial-down : (m : List ℕ) (c : ℕ) (e : IntegerTuple n) → read n m ≡ e → rename (down n) (binomial m c) ≡ M.binomial (tuples n) e c
   binomial-down m c e h = λ i. (pos 1, (h i, c)) ∷ (negsuc 0, (read-zeros n VARIABLES i, c)) ∷ []
 
-  generator-down : (g : FormalSum Place) → IsGenerator p g → InModule (tuples (length p.names)) p (rename (down (length p.names)) g)
+  generator-down : (g : FormalSum Place) → IsGenerator p g → InModule (tuples n) p (rename (down n) g)
   generator-down _ (relator_vector r listed) =
       subst (InModule (tuples n) p) (sym (fox-down r (relator_over p known r listed))) (in_generator (tuples n) p (fox_in (tuples n) r) (IsLatticeGenerator.relator_vector r listed))
   generator-down _ (relator_binomial r c listed below) =
@@ -94,7 +94,7 @@ module _ (p : Presented) (known : IsPresented p) where
       (in_generator (tuples n) p (M.constant (tuples n) p.modulus c) (IsLatticeGenerator.modulus_vector c some below))
 
   -- ---- the module
-  sum-down : (v : FormalSum Place) → SumOfMultiples moved HasVariables (IsGenerator p) v → InModule (tuples (length p.names)) p (rename (down (length p.names)) v)
+  sum-down : (v : FormalSum Place) → SumOfMultiples moved HasVariables (IsGenerator p) v → InModule (tuples n) p (rename (down n) v)
   sum-down _ (nothing) = in_nothing (tuples n) p
   sum-down _ (more q t g rest long is sum) =
       let this : FormalSum (Point (tuples n)) = scale q (shift (tuples n) (read n t) (rename (down n) g)) in
@@ -103,6 +103,6 @@ module _ (p : Presented) (known : IsPresented p) where
       ∙ ap (λ z. z ++ rename (down n) rest) (rename-scale (down n) q (rename (moved t) g) ∙ ap (scale q) (moved-down n t g long (long_generator g is)))))
       (in_append (tuples n) p this (rename (down n) rest) (in_multiple (tuples n) p q (read n t) (rename (down n) g) (generator-down g is)) (sum-down rest sum))
 
-  pub module-down : (v : FormalSum Place) → IsMember p v → InModule (tuples (length p.names)) p (rename (down (length p.names)) v)
+  pub module-down : (v : FormalSum Place) → IsMember p v → InModule (tuples n) p (rename (down n) v)
   module-down v (w, sum, same) =
       in_same (tuples n) p (rename (down n) v) (rename (down n) w) (Same-rename test (same_point (tuples n)) (down n) v w same) (sum-down w sum)

@@ -29,7 +29,7 @@ rename_difference : {K J : Type 0} (f : K → J) (v w : FormalSum K) → rename 
 rename_difference f v w = rename-append f v (scale (negsuc 0) w) ∙ ap (λ z. rename f v ++ z) (rename-scale f (negsuc 0) w)
 
 module _ (p : Presented) (known : IsPresented p) where
-  abbrev n : ℕ
+  abbrev pub n : ℕ
   n = length p.names
 
   pub reaches_fox : (u v : List Letter) → IsWordOver p u → Reaches p u v → AreCongruent p (fox u) (fox v)

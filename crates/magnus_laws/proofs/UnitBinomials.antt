@@ -38,12 +38,12 @@ product-unit g front a b back e long =
     ∙ (λ i. product-zeros (2 * g) front e i ++ first i ∷ second i ∷ product-zeros m back refl i)
 
 module _ (p : Presented) (few : length p.names ≤ GENERATORS) where
-  abbrev n : ℕ
+  abbrev pub n : ℕ
   n = length p.names
 
   -- s and t count alike
   abbrev pub CountAlike : List ℕ → List ℕ → Type 0
-  CountAlike s t = (c : ℕ) → c < length p.names → IsMember p (difference s t c)
+  CountAlike s t = (c : ℕ) → c < n → IsMember p (difference s t c)
 
   between : (a b d : Bool) → cond a (pos 1) (pos 0) +ℤ (cond d (negsuc 0) (pos 0) +ℤ pos 0) ≡ cond a (pos 1) (pos 0) +ℤ (cond b (negsuc 0) (pos 0) +ℤ (cond b (pos 1) (pos 0) +ℤ (cond d (negsuc 0) (pos 0) +ℤ pos 0)))
   between true true true = refl
@@ -83,7 +83,7 @@ module _ (p : Presented) (few : length p.names ≤ GENERATORS) where
   times_one false true = refl
   times_one false false = refl
 
-  alike_unit : (t : List ℕ) (g : ℕ) → HasVariables t → g < length p.names → CountAlike (product t (unit_monomial g)) t
+  alike_unit : (t : List ℕ) (g : ℕ) → HasVariables t → g < n → CountAlike (product t (unit_monomial g)) t
   alike_unit t g long small c below =
       member_same p (difference (product t (unit_monomial g)) t c) (multiple moved (pos 1) t (binomial (unit_monomial g) c))
       (λ x.
@@ -92,7 +92,7 @@ module _ (p : Presented) (few : length p.names ≤ GENERATORS) where
       (member_of_generator p (pos 1) t (binomial (unit_monomial g) c) long (unit_binomial g c small below))
 
   -- the two exponents of a generator, of which one becomes 0
-  alike_pair : (g : ℕ) → g < length p.names → (front : List ℕ) (a b : ℕ) (back : List ℕ) → length front ≡ 2 * g → HasVariables (front ++ a ∷ b ∷ back)
+  alike_pair : (g : ℕ) → g < n → (front : List ℕ) (a b : ℕ) (back : List ℕ) → length front ≡ 2 * g → HasVariables (front ++ a ∷ b ∷ back)
       → CountAlike (front ++ a ∷ b ∷ back) (front ++ positive_part (pos a +ℤ neg_ℤ (pos b)) ∷ negative_part (pos a +ℤ neg_ℤ (pos b)) ∷ back)
   alike_pair g small front zero zero back e long = alike_self (front ++ 0 ∷ 0 ∷ back)
   alike_pair g small front (suc a) zero back e long =
@@ -110,7 +110,7 @@ module _ (p : Presented) (few : length p.names ≤ GENERATORS) where
       (subst (λ y. CountAlike less (front ++ positive_part y ∷ negative_part y ∷ back)) (sym z) (alike_pair g small front a b back e length_less))
 
   -- the exponents of the generators from g on
-  alike_parts : (g k : ℕ) → g + k ≡ length p.names → (front s back : List ℕ) → length front ≡ 2 * g → length s ≡ 2 * k → HasVariables (front ++ (s ++ back))
+  alike_parts : (g k : ℕ) → g + k ≡ n → (front s back : List ℕ) → length front ≡ 2 * g → length s ≡ 2 * k → HasVariables (front ++ (s ++ back))
       → CountAlike (front ++ (s ++ back)) (front ++ (parts k (read k s) ++ back))
   unfolding read
   alike_parts g zero all front [] back e f long = alike_self (front ++ back)
@@ -129,13 +129,13 @@ module _ (p : Presented) (few : length p.names ≤ GENERATORS) where
       (subst (λ u. CountAlike u (front ++ x ∷ y ∷ (parts k (read k s) ++ back))) (append_assoc front (x ∷ y ∷ []) (s ++ back))
       (subst (λ u. CountAlike (more ++ (s ++ back)) u) (append_assoc front (x ∷ y ∷ []) (parts k (read k s) ++ back)) rest))
 
-  read_product_of_parts : (a b : IntegerTuple (length p.names)) → read (length p.names) (product (parts (length p.names) a) (parts (length p.names) b)) ≡ plus (length p.names) a b
+  read_product_of_parts : (a b : IntegerTuple n) → read n (product (parts n a) (parts n b)) ≡ plus n a b
   read_product_of_parts a b =
       read-product n (parts n a) (parts n b) (length-parts n a ∙ sym (length-parts n b))
       ∙ (λ i. plus n ((ap (read n) (sym (append-nil (parts n a))) ∙ read-parts n a []) i) ((ap (read n) (sym (append-nil (parts n b))) ∙ read-parts n b []) i))
 
   -- the monomial of a sum counts like the product of the monomials
-  pub alike_product : (a b : IntegerTuple (length p.names)) → CountAlike (written (length p.names) (plus (length p.names) a b)) (product (written (length p.names) a) (written (length p.names) b))
+  pub alike_product : (a b : IntegerTuple n) → CountAlike (written n (plus n a b)) (product (written n a) (written n b))
   alike_product a b =
       let k : ℕ = VARIABLES - 2 * n in
       let back : List ℕ = replicate k 0 in

@@ -33,19 +33,21 @@ use Rattle.magnus_laws.proofs.UnitBinomials.{difference, alike_product}
 pub relator_over : (p : Presented) → IsPresented p → (r : List Letter) → Contains p.relators r → IsWordOver p r
 relator_over p known r listed = (All-contains (IsWritten (length p.names)) p.relators r (All-from_recursion _ p.relators known.relators) listed).0
 
--- a point as a place
+-- a point as a place, and a term of one as a term of the other
 abbrev pub up : (n : ℕ) → Point (tuples n) → Place
 up n a = record { m = written n a.0; c = a.1 }
 
+abbrev up_term : (n : ℕ) → ℤ × Point (tuples n) → ℤ × Place
+up_term n t = (t.0, up n t.1)
+
 module _ (p : Presented) (few : length p.names ≤ GENERATORS) where
-  abbrev n : ℕ
+  abbrev pub n : ℕ
   n = length p.names
 
-  exponents_next : (u : List Letter) (l : Letter) → exponents (tuples (length p.names)) (u ++ l ∷ []) ≡ plus (length p.names) (exponents (tuples (length p.names)) u) (step (tuples (length p.names)) l)
+  exponents_next : (u : List Letter) (l : Letter) → exponents (tuples n) (u ++ l ∷ []) ≡ plus n (exponents (tuples n) u) (step (tuples n) l)
   exponents_next u l = exponents-append (tuples n) u (l ∷ []) ∙ ap (plus n (exponents (tuples n) u)) (plus-none (tuples n) (step (tuples n) l))
 
-  term-up : (u : List Letter) (g : ℕ) (b : Bool) → IsWordOver p u → g < length p.names
-      → (let l : Letter = record { g = g; inv = b } in let t : ℤ × Point (tuples (length p.names)) = term_by (tuples (length p.names)) b (exponents (tuples (length p.names)) u) g in (let r : ℤ × Place = (t.0, up (length p.names) t.1) in r) ≡ letter_term u l)
+  term-up : (u : List Letter) (g : ℕ) (b : Bool) → IsWordOver p u → g < n → up_term n (term_by (tuples n) b (exponents (tuples n) u) g) ≡ letter_term u (record { g = g; inv = b })
   term-up u g true over below =
       let l : Letter = record { g = g; inv = true } in
       let e : written n (plus n (exponents (tuples n) u) (step (tuples n) l)) ≡ image (u ++ l ∷ []) =
@@ -54,18 +56,17 @@ module _ (p : Presented) (few : length p.names ≤ GENERATORS) where
   term-up u g false over below = λ i. (pos 1, record { m = sym (image-written n u few over) i; c = g })
 
   -- the Fox vector of a word
-  pub fox_after-up : (u w : List Letter) → IsWordOver p u → IsWordOver p w → rename (up (length p.names)) (fox_from (tuples (length p.names)) (exponents (tuples (length p.names)) u) w) ≡ fox_after u w
+  pub fox_after-up : (u w : List Letter) → IsWordOver p u → IsWordOver p w → rename (up n) (fox_from (tuples n) (exponents (tuples n) u) w) ≡ fox_after u w
   fox_after-up u [] ou ow = refl
   fox_after-up u (l ∷ w) ou ow =
       let next : List Letter = u ++ l ∷ [] in
       λ i. term-up u l.g l.inv ou ow.0 i
       ∷ (ap (λ z. rename (up n) (fox_from (tuples n) z w)) (sym (exponents_next u l)) ∙ fox_after-up next w (IsOver-append n u (l ∷ []) ou (ow.0, tt)) ow.1) i
 
-  pub fox-up : (w : List Letter) → IsWordOver p w → rename (up (length p.names)) (fox_in (tuples (length p.names)) w) ≡ fox w
+  pub fox-up : (w : List Letter) → IsWordOver p w → rename (up n) (fox_in (tuples n) w) ≡ fox w
   fox-up w over = fox_after-up [] w tt over
 
   -- ---- multiples
-
   congruent_next : (q : ℤ) (s t : List ℕ) (c : ℕ) (v w : FormalSum Place) → IsMember p (difference s t c) → AreCongruent p v w
       → AreCongruent p ((q, record { m = s; c = c }) ∷ v) ((q, record { m = t; c = c }) ∷ w)
   congruent_next q s t c v w d h =
@@ -87,8 +88,8 @@ module _ (p : Presented) (few : length p.names ≤ GENERATORS) where
       next q false false x y s r e f = omega (arith, ints)
 
   -- t·v over tuples is congruent to t·v over monomials
-  pub shift-up : (t : IntegerTuple (length p.names)) (v : FormalSum (Point (tuples (length p.names)))) → HasComponents (tuples (length p.names)) p v
-      → AreCongruent p (rename (up (length p.names)) (shift (tuples (length p.names)) t v)) (rename (moved (written (length p.names) t)) (rename (up (length p.names)) v))
+  pub shift-up : (t : IntegerTuple n) (v : FormalSum (Point (tuples n))) → HasComponents (tuples n) p v
+      → AreCongruent p (rename (up n) (shift (tuples n) t v)) (rename (moved (written n t)) (rename (up n) v))
   shift-up t [] over = member_nothing p
   shift-up t ((q, (a, c)) ∷ v) over =
       congruent_next q (written n (plus n t a)) (product (written n t) (written n a)) c (rename (up n) (shift (tuples n) t v)) (rename (moved (written n t)) (rename (up n) v))
@@ -96,12 +97,12 @@ module _ (p : Presented) (few : length p.names ≤ GENERATORS) where
 
   -- ---- the module
   module _ (known : IsPresented p) where
-    components_of : (g : FormalSum (Point (tuples (length p.names)))) → IsLatticeGenerator (tuples (length p.names)) p g → HasComponents (tuples (length p.names)) p g
+    components_of : (g : FormalSum (Point (tuples n))) → IsLatticeGenerator (tuples n) p g → HasComponents (tuples n) p g
     components_of _ (relator_vector r listed) = components-fox_from (tuples n) p (tuples n).none r (relator_over p known r listed)
     components_of _ (relator_binomial r c listed below) = (below, (below, tt))
     components_of _ (modulus_vector c some below) = (below, tt)
 
-    generator-up : (g : FormalSum (Point (tuples (length p.names)))) → IsLatticeGenerator (tuples (length p.names)) p g → IsGenerator p (rename (up (length p.names)) g)
+    generator-up : (g : FormalSum (Point (tuples n))) → IsLatticeGenerator (tuples n) p g → IsGenerator p (rename (up n) g)
     generator-up _ (relator_vector r listed) = subst (IsGenerator p) (sym (fox-up r (relator_over p known r listed))) (IsGenerator.relator_vector r listed)
     generator-up _ (relator_binomial r c listed below) =
         subst (IsGenerator p)
@@ -111,18 +112,18 @@ module _ (p : Presented) (few : length p.names ≤ GENERATORS) where
         subst (IsGenerator p) (λ i. (pos p.modulus, record { m = sym (written-none n few) i; c = c }) ∷ []) (IsGenerator.modulus_vector c some below)
 
     -- t·g for a generator g
-    shifted_generator : (t : IntegerTuple (length p.names)) (g : FormalSum (Point (tuples (length p.names)))) → IsLatticeGenerator (tuples (length p.names)) p g → IsMember p (rename (up (length p.names)) (shift (tuples (length p.names)) t g))
+    shifted_generator : (t : IntegerTuple n) (g : FormalSum (Point (tuples n))) → IsLatticeGenerator (tuples n) p g → IsMember p (rename (up n) (shift (tuples n) t g))
     shifted_generator t g is =
         let there : FormalSum Place = rename (moved (written n t)) (rename (up n) g) in
         congruent_member p (rename (up n) (shift (tuples n) t g)) there (shift-up t g (components_of g is))
         (subst (IsMember p) (scale-one there) (member_of_generator p (pos 1) (written n t) (rename (up n) g) (length-written n t few) (generator-up g is)))
 
-    sum-up : (v : FormalSum (Point (tuples (length p.names)))) → SumOfMultiples (shifted (tuples (length p.names))) (Anywhere (tuples (length p.names)) p) (IsLatticeGenerator (tuples (length p.names)) p) v → IsMember p (rename (up (length p.names)) v)
+    sum-up : (v : FormalSum (Point (tuples n))) → SumOfMultiples (shifted (tuples n)) (Anywhere (tuples n) p) (IsLatticeGenerator (tuples n) p) v → IsMember p (rename (up n) v)
     sum-up v (nothing) = member_nothing p
     sum-up v (more q t g rest moves is sum) =
         let this : FormalSum (Point (tuples n)) = shift (tuples n) t g in
         subst (IsMember p) (sym (rename-append (up n) (scale q this) rest ∙ ap (λ z. z ++ rename (up n) rest) (rename-scale (up n) q this)))
         (member_sum p (scale q (rename (up n) this)) (rename (up n) rest) (member_scale p q (rename (up n) this) (shifted_generator t g is)) (sum-up rest sum))
 
-    pub module-up : (v : FormalSum (Point (tuples (length p.names)))) → InModule (tuples (length p.names)) p v → IsMember p (rename (up (length p.names)) v)
+    pub module-up : (v : FormalSum (Point (tuples n))) → InModule (tuples n) p v → IsMember p (rename (up n) v)
     module-up v (w, sum, same) = member_same p (rename (up n) v) (rename (up n) w) (Same-rename (point_test (tuples n)) same_place (up n) v w same) (sum-up w sum)
