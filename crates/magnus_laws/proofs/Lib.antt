@@ -19,3 +19,4 @@ pub mod SecondHalf
 pub mod Writing
 pub mod Downward
 pub mod FoxRules
+pub mod ImagesInModule

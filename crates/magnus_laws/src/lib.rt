@@ -10,3 +10,5 @@
 pub mod magnus;
 pub mod maps;
 pub mod rules;
+#[cfg(test)]
+mod tests;

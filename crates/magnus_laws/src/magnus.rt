@@ -1,6 +1,6 @@
 //! Trivial words, equal words, and the module.
 
-ghost use Rattle.std.specs.Prelude.{List};
+ghost use Rattle.std.specs.Prelude.{◌↔◌, List};
 ghost use Rattle.free_words.specs.declared.letter.Letter.{Letter};
 ghost use Rattle.presentation.specs.Presented.{Presented, IsPresented};
 ghost use Rattle.derivation.specs.Moves.{IsWordOver, Trivial, Equal};
@@ -33,3 +33,20 @@ pub fn congruent_are_equal()
     ensures { (p : Presented) (u v : List Letter) → IsPresented p → IsWordOver p u → IsWordOver p v → AreCongruent p (fox u) (fox v)
         → Equal p u v }
 {}
+
+/// A word is trivial exactly where its Fox vector lies in the module.
+pub fn trivial_exactly_where_member()
+    ensures { (p : Presented) (w : List Letter) → IsPresented p → IsWordOver p w → Trivial p w ↔ IsMember p (fox w) }
+{
+    trivial_is_member();
+    member_is_trivial();
+}
+
+/// Words are equal exactly where their Fox vectors are congruent.
+pub fn equal_exactly_where_congruent()
+    ensures { (p : Presented) (u v : List Letter) → IsPresented p → IsWordOver p u → IsWordOver p v
+        → Equal p u v ↔ AreCongruent p (fox u) (fox v) }
+{
+    equal_are_congruent();
+    congruent_are_equal();
+}
