@@ -6,3 +6,4 @@ pub mod Evaluation
 pub mod Falling
 pub mod IntegerTuples
 pub mod Shortest
+pub mod Spans
