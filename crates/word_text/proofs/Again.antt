@@ -100,7 +100,7 @@ abbrev pub at : List Frame → List Letter → Spot → Reading
 at frames product spot = record { frames = frames; product = product; spot = spot }
 
 -- the bytes that go on with a bracket
-closes_at : (limit : ℕ) (find : Find) (s : Spot) (frames : List Frame) (w : List Letter) (c : ℕ) (bs : List ℕ) → Unstarred (Product s)
+pub closes_at : (limit : ℕ) (find : Find) (s : Spot) (frames : List Frame) (w : List Letter) (c : ℕ) (bs : List ℕ) → Unstarred (Product s)
     → mark_byte c ≡ marks.Other → is_blank c ≡ false → first_is c bs ≡ true → turn limit find (at frames w s) bs ≡ closes limit frames (at frames w s) bs
 closes_at limit find s frames w c bs u m n e =
     let k = closing c m n bs e in

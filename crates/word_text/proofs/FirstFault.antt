@@ -22,6 +22,7 @@ use Rattle.word_text.proofs.Completed.{Splits, inside_splits}
 use Rattle.word_text.proofs.Carets.{exponent_splits}
 use Rattle.word_text.proofs.Refused.{SameFirst, inside_clear, refuses_blocked, refused_by, run_first, refuses_name}
 use Rattle.word_text.proofs.RefusedNumbers.{refuses_exponent, no_size_due, no_size_large}
+use Rattle.word_text.proofs.RefusedLengths.{refuses_power, refuses_product, refuses_commutator, refused_within}
 use Rattle.word_text.proofs.BadBytes.{bad_is, is_bad}
 
 -- where a fault stands
@@ -125,14 +126,29 @@ fault_is find text _ (Stops.no_exponent frames outer spot place mid at a v e h a
     (size_clear (after_blanks (drop 1 at)) x.0 x.1 (blanks_once (drop 1 at)))
     (refuses_exponent written find text frames outer a v spot place mid at x.0 h atom p c x.1) x.2
 fault_is find text _ (Stops.long_power frames outer spot place mid at last a v negative n h atom p c x long) =
-    at_place find text place WordTooLong (inside_splits written find text frames outer spot place h)
-    (outer, factor_at written find text frames outer spot place h, Passes.by_power a v mid at last negative n atom p c x long)
+    at_place find text place WordTooLong (inside_splits written find text frames outer spot place h) (
+      outer,
+      last,
+      factor_at written find text frames outer spot place h,
+      Passes.by_power a v mid at last negative n atom p c x long,
+      refused_within written find text last (refuses_power written find text frames outer a v spot place mid at last negative n h atom p c x long),
+    )
 fault_is find text _ (Stops.long_commutator frames outer spot s t place mid last u v h m a c b d long) =
-    at_place find text place WordTooLong (inside_splits written find text frames outer spot place h)
-    (outer, factor_at written find text frames outer spot place h, Passes.by_commutator s t u v mid last m a c b d long)
+    at_place find text place WordTooLong (inside_splits written find text frames outer spot place h) (
+      outer,
+      drop 1 last,
+      factor_at written find text frames outer spot place h,
+      Passes.by_commutator s t u v mid last m a c b d long,
+      refused_within written find text (drop 1 last) (refuses_commutator written find text frames outer u v spot s t place mid last h m a c b d long),
+    )
 fault_is find text _ (Stops.long_product frames outer spot place rest v h f long) =
-    at_place find text place WordTooLong (inside_splits written find text frames outer spot place h)
-    (outer, factor_at written find text frames outer spot place h, Passes.by_product v rest f long)
+    at_place find text place WordTooLong (inside_splits written find text frames outer spot place h) (
+      outer,
+      rest,
+      factor_at written find text frames outer spot place h,
+      Passes.by_product v rest f long,
+      refused_within written find text rest (refuses_product written find text frames outer v spot place rest h f long),
+    )
 
 pub first_fault : (find : Find) (text : List ℕ) (e : Fault) → word_text find text ≡ Err e
     → IsFault find text (bytes_before text e.left) (bytes_from text e.left) e.kind

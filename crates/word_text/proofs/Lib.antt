@@ -30,5 +30,6 @@ pub mod Carets
 pub mod Ends
 pub mod Refused
 pub mod RefusedNumbers
+pub mod RefusedLengths
 pub mod BadBytes
 pub mod FirstFault

@@ -35,14 +35,14 @@ no_word_exponent limit find text frames outer a v spot place mid here e word h a
     (inl (e, no_exponent_ends limit frames outer (length place) a v mid here e p c none)) (sym y.2 ∙ x.2)
 
 -- `^` behind an atom and some of its powers
-abbrev AtCaret : ℕ → Find → List Letter → List Letter → List ℕ → List ℕ → Type 0
+abbrev pub AtCaret : ℕ → Find → List Letter → List Letter → List ℕ → List ℕ → Type 0
 AtCaret limit find a v text here = (frames : List Frame) × (outer : List Letter) × (spot : Spot) × (place : List ℕ) × (mid : List ℕ)
     × Inside limit find (after_blanks text) frames outer spot place × SpelledWithin limit find Atom place a mid × Raised limit a (after_blanks mid) v here
 
 abbrev Atom_raised : ℕ → Find → List Letter → List Letter → List ℕ → List ℕ → Type 0
 Atom_raised limit find a v place here = (mid : List ℕ) × SpelledWithin limit find Atom place a mid × Raised limit a (after_blanks mid) v here
 
-caret_moves : (limit m : ℕ) (find : Find) (text : List ℕ) (frames : List Frame) (outer a v : List Letter) (spot : Spot) (place mid here : List ℕ) → limit ≤ m
+pub caret_moves : (limit m : ℕ) (find : Find) (text : List ℕ) (frames : List Frame) (outer a v : List Letter) (spot : Spot) (place mid here : List ℕ) → limit ≤ m
     → Inside limit find (after_blanks text) frames outer spot place → SpelledWithin limit find Atom place a mid → Raised limit a (after_blanks mid) v here
     → Swap (AtCaret m find a v) text here
 caret_moves limit m find text frames outer a v spot place mid here le h atom p =

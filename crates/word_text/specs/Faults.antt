@@ -8,7 +8,7 @@ use Rattle.word_text.specs.Scan.{is_blank, is_known, name_at, digits_at, number,
 use Rattle.word_text.specs.Powers.{written}
 use Rattle.word_text.specs.Machine.{Find}
 use Rattle.word_text.specs.Grammar.{IsWordWithin}
-use Rattle.word_text.specs.Fronts.{TooLongAt}
+use Rattle.word_text.specs.Fronts.{FactorAt, Passes}
 
 -- a word of the grammar, of any length
 abbrev pub IsSomeWord : Find → List ℕ → Type 0
@@ -30,6 +30,23 @@ NameRefused find front place = (rest : List ℕ) → name_at rest ≡ name_at pl
 abbrev pub NumberRefused : Find → List ℕ → List ℕ → Type 0
 NumberRefused find front place = (rest : List ℕ) → digits_at rest ≡ digits_at place → IsSomeWord find (front ++ rest) → ⊥
 
+-- the bytes before the last `left` ones, and these
+abbrev pub bytes_before : List ℕ → ℕ → List ℕ
+bytes_before text left = take (length text - left) text
+
+abbrev pub bytes_from : List ℕ → ℕ → List ℕ
+bytes_from text left = drop (length text - left) text
+
+-- With the next byte the bytes begin no word of at most `limit` letters, its parts included; or they end here, and are none.
+abbrev pub RefusedWithin : ℕ → Find → List ℕ → List ℕ → Type 0
+RefusedWithin limit find front [] = (w : List Letter) → IsWordWithin limit find front w → ⊥
+RefusedWithin limit find front (b ∷ bs) = (rest : List ℕ) (w : List Letter) → IsWordWithin limit find (front ++ (b ∷ rest)) w → ⊥
+
+-- A factor that may stand at a place passes the limit, and no word within it begins as the text does, up to there.
+abbrev pub TooLongAt : ℕ → Find → List ℕ → List ℕ → Type 0
+TooLongAt limit find text place = (u : List Letter) × (rest : List ℕ) × FactorAt limit find text u place × Passes limit find u place rest
+    × RefusedWithin limit find (bytes_before text (length rest)) rest
+
 -- a byte that is in no token, and no blank
 abbrev pub IsBad : List ℕ → Type 0
 IsBad [] = ⊥
@@ -49,10 +66,3 @@ IsFault find text front place kinds.ModulusOutOfRange = ⊥
 IsFault find text front place kinds.TooManyQuestions = ⊥
 IsFault find text front place kinds.TooManyLetters = ⊥
 IsFault find text front place kinds.NoSession = ⊥
-
--- the bytes before the last `left` ones, and these
-abbrev pub bytes_before : List ℕ → ℕ → List ℕ
-bytes_before text left = take (length text - left) text
-
-abbrev pub bytes_from : List ℕ → ℕ → List ℕ
-bytes_from text left = drop (length text - left) text

@@ -36,17 +36,13 @@ pub record FactorAt (limit : ℕ) (find : Find) (text : List ℕ) (u : List Lett
   pub so_far : SoFar limit find spot begin u place
 
 -- A factor that stands at a place behind the product u makes a word of more than `limit` letters: by one of its powers, by a
--- commutator, or at its end, joined to u.
-pub data Passes (limit : ℕ) (find : Find) (u : List Letter) (place : List ℕ) : Type 0 where
+-- commutator, or at its end, joined to u. It is read so far, up to the last of these places.
+pub data Passes (limit : ℕ) (find : Find) (u : List Letter) (place : List ℕ) : List ℕ → Type 0 where
   by_power : (a v : List Letter) (mid caret last : List ℕ) (negative : Bool) (n : ℕ) → SpelledWithin limit find Atom place a mid
       → Raised limit a (after_blanks mid) v caret → first_is 94 caret ≡ true → IsExponent (after_blanks (drop 1 caret)) negative n last
-      → limit < length (power_of negative n v) → Passes limit find u place
+      → limit < length (power_of negative n v) → Passes limit find u place last
   by_commutator : (s t : Spot) (v w : List Letter) (mid last : List ℕ) → mark_of place ≡ marks.Square
       → SpelledWithin limit find (Product s) (after_blanks (drop 1 place)) v mid → first_is 44 mid ≡ true
       → SpelledWithin limit find (Product t) (after_blanks (drop 1 mid)) w last → first_is 93 last ≡ true
-      → limit < length (commutator v w) → Passes limit find u place
-  by_product : (v : List Letter) (rest : List ℕ) → SpelledWithin limit find Factor place v rest → limit < length (u ++ v) → Passes limit find u place
-
--- A factor that may stand at a place passes the limit.
-abbrev pub TooLongAt : ℕ → Find → List ℕ → List ℕ → Type 0
-TooLongAt limit find text place = (u : List Letter) × FactorAt limit find text u place × Passes limit find u place
+      → limit < length (commutator v w) → Passes limit find u place (drop 1 last)
+  by_product : (v : List Letter) (rest : List ℕ) → SpelledWithin limit find Factor place v rest → limit < length (u ++ v) → Passes limit find u place rest

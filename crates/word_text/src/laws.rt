@@ -30,9 +30,10 @@ pub fn before_a_fault_is_a_front()
     ensures { (find : Find) (text : List ℕ) (e : Fault) → word_text find text ≡ Err e → (e.left ≤ length text) × IsFront find (bytes_before text e.left) }
 {}
 
-/// What stands at the first fault is why no word goes on there. With the byte of [`BadByte`](crate::TextKind::BadByte) or
-/// `Expected`, or at the end of the text, what was read is the front of no word of any length; with the whole name of
-/// `UnknownName` or the whole number of `ExponentTooLarge` none goes on; and the factor of `WordTooLong` passes the limit.
+/// What stands at the first fault is why no word goes on there. With the byte of `BadByte` or `Expected`, or at the end of
+/// the text, what was read is the front of no word of any length; with the whole name of `UnknownName` or the whole number of
+/// `ExponentTooLarge` none goes on; the factor of `WordTooLong` passes the limit, and no word within the limit begins as the
+/// text does up to where that is met.
 #[tactic(auto, using(crate::proofs::FirstFault::first_fault))]
 pub fn at_a_fault_no_word_goes_on()
     ensures { (find : Find) (text : List ℕ) (e : Fault) → word_text find text ≡ Err e
