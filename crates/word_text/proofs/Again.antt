@@ -251,7 +251,7 @@ end_read limit (suc m) find s w lt u =
     turn_at limit find marks.Other (at [] w s) [] refl no_blanks ∙ no_factor limit s (at [] w s) [] u in
     rw e refl
 
-word_again : (limit : ℕ) (find : Find) (text : List ℕ) (w : List Letter) → IsWordWithin limit find text w → word_within limit find text ≡ Ok (w, [])
+pub word_again : (limit : ℕ) (find : Find) (text : List ℕ) (w : List Letter) → IsWordWithin limit find text w → word_within limit find text ≡ Ok (w, [])
 word_again limit find text w h =
     let x = from_text limit find text (at [] w h.0) [] (complete limit find (Product h.0) (after_blanks text) w [] h.1 []) in
     x.2 ∙ end_read limit x.0 find h.0 w (omega (arith, x.1)) (no_star limit find (Product h.0) (after_blanks text) w [] h.1)

@@ -8,7 +8,7 @@ use Rattle.word_text.specs.Scan.{is_blank, is_letter, is_digit, is_name_byte, is
 use Rattle.word_text.proofs.Marks.{name_some}
 
 -- blanks are skipped once
-skip_true : (b : ℕ) (bs : List ℕ) → is_blank b ≡ true → after_blanks (b ∷ bs) ≡ after_blanks bs
+pub skip_true : (b : ℕ) (bs : List ℕ) → is_blank b ≡ true → after_blanks (b ∷ bs) ≡ after_blanks bs
 unfolding after_blanks
 skip_true b bs e = rw (take_while-cons is_blank b bs, e) refl
 

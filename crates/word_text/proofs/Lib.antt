@@ -27,4 +27,9 @@ pub mod Lexed
 pub mod Moved
 pub mod Completed
 pub mod Carets
+pub mod Ends
+pub mod Refused
+pub mod RefusedNumbers
+pub mod RefusedLengths
+pub mod BadBytes
 pub mod FirstFault

@@ -62,11 +62,11 @@ abbrev Behind : ℕ → Find → Part → List Letter → List ℕ → List ℕ 
 Behind limit find p w bs rest = SpelledWithin limit find p (after_blanks (drop 1 bs)) w rest
 
 -- a product up to a byte that closes it
-abbrev Up_to : ℕ → Find → ℕ → Spot → List Letter → List ℕ → List ℕ → Type 0
+abbrev pub Up_to : ℕ → Find → ℕ → Spot → List Letter → List ℕ → List ℕ → Type 0
 Up_to limit find c s w bs rest = (mid : List ℕ) × SpelledWithin limit find (Product s) bs w mid × (first_is c mid ≡ true) × (rest ≡ drop 1 mid)
 
 -- both products of a square bracket
-abbrev Pair : ℕ → Find → Spot → Spot → List Letter → List Letter → List ℕ → List ℕ → Type 0
+abbrev pub Pair : ℕ → Find → Spot → Spot → List Letter → List Letter → List ℕ → List ℕ → Type 0
 Pair limit find s t u v bs rest = (mid : List ℕ) × SpelledWithin limit find (Product s) bs u mid × (first_is 44 mid ≡ true)
     × Up_to limit find 93 t v (after_blanks (drop 1 mid)) rest
 
@@ -74,6 +74,15 @@ up_to : (limit : ℕ) (find : Find) (c : ℕ) (s : Spot) (w : List Letter) (bs m
     → Swap (Up_to limit find c s w) bs (drop 1 mid)
 up_to limit find c s w bs mid f e =
     both (Parts limit find (Product s) w) (Byte c) (Up_to limit find c s w) bs mid (drop 1 mid) f (byte c mid e) (λ x y z p q. (y, p, q.0, q.1))
+
+pub pair_moves : (limit : ℕ) (find : Find) (s t : Spot) (u v : List Letter) (next mid last : List ℕ) → Swap (Parts limit find (Product s) u) next mid → first_is 44 mid ≡ true
+    → Swap (Parts limit find (Product t) v) (after_blanks (drop 1 mid)) last → first_is 93 last ≡ true → Swap (Pair limit find s t u v) next (drop 1 last)
+pair_moves limit find s t u v next mid last a c b d =
+    let second : List ℕ = after_blanks (drop 1 mid) in
+    both (Parts limit find (Product s) u) (λ (x y : List ℕ). (first_is 44 x ≡ true) × Up_to limit find 93 t v (after_blanks (drop 1 x)) y) (Pair limit find s t u v) next mid (drop 1 last) a
+    (both (Token 44) (Up_to limit find 93 t v) (λ (x y : List ℕ). (first_is 44 x ≡ true) × Up_to limit find 93 t v (after_blanks (drop 1 x)) y) mid second (drop 1 last)
+    (token 44 mid c) (up_to limit find 93 t v second last b d) (λ x y z p q. (p.0, subst (λ (l : List ℕ). Up_to limit find 93 t v l z) p.1 q)))
+    (λ x y z p q. (y, p, q.0, q.1))
 
 pub moves : (limit m : ℕ) (find : Find) (p : Part) (bs : List ℕ) (w : List Letter) (rest : List ℕ) → limit ≤ m → SpelledWithin limit find p bs w rest
     → Swap (Parts m find p w) bs rest
@@ -114,12 +123,7 @@ moves limit m find _ _ _ _ le (SpelledWithin.square s t bs mid last u v square a
     let next : List ℕ = after_blanks (drop 1 bs) in
     let second : List ℕ = after_blanks (drop 1 mid) in
     both (Marked marks.Square) (Pair m find s t u v) (Parts m find Atom (commutator u v)) bs next (drop 1 last) (marked marks.Square bs square (λ e. cc))
-    (both (Parts m find (Product s) u) (λ (x y : List ℕ). (first_is 44 x ≡ true) × Up_to m find 93 t v (after_blanks (drop 1 x)) y) (Pair m find s t u v) next mid (drop 1 last)
-    (moves limit m find (Product s) next u mid le a)
-    (both (Token 44) (Up_to m find 93 t v) (λ (x y : List ℕ). (first_is 44 x ≡ true) × Up_to m find 93 t v (after_blanks (drop 1 x)) y) mid second (drop 1 last)
-    (token 44 mid c) (up_to m find 93 t v second last (moves limit m find (Product t) second v last le b) d)
-    (λ x y z p q. (p.0, subst (λ (l : List ℕ). Up_to m find 93 t v l z) p.1 q)))
-    (λ x y z p q. (y, p, q.0, q.1)))
+    (pair_moves m find s t u v next mid last (moves limit m find (Product s) next u mid le a) c (moves limit m find (Product t) second v last le b) d)
     (λ x y z p q. subst (λ (l : List ℕ). SpelledWithin m find Atom x (commutator u v) l) (sym q.3.3)
     (SpelledWithin.square s t x q.0 q.3.0 u v p.0 (subst (λ (l : List ℕ). SpelledWithin m find (Product s) l u q.0) p.1 q.1) q.2 q.3.1 q.3.2 fits))
 

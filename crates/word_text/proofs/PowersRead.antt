@@ -8,7 +8,7 @@ use Rattle.word_text.specs.Scan.{◌>>=◌, first_is, after_blanks}
 use Rattle.word_text.specs.Powers.{Exponent, power_of, exponent_at, raised, powers_from, powers_within}
 use Rattle.word_text.specs.Grammar.{IsExponent, Raised, PowersWithin}
 use Rattle.word_text.proofs.Lexing.{skip_le, first_lt}
-use Rattle.word_text.proofs.Limits.{made_ok}
+use Rattle.word_text.proofs.Limits.{made_ok, made_long}
 use Rattle.word_text.proofs.Suffixes.{exponent, no_longer}
 use Rattle.word_text.proofs.Exponents.{NoExponent, ExponentRead, exponent_read, exponent_again, exponent_fault}
 
@@ -105,6 +105,14 @@ unfolding powers_from
 stopped limit start zero v at e lt t x = absurd (omega arith)
 stopped limit start (suc m) v at e lt t x = rw (t, exponent_fault (after_blanks (drop 1 at)) e x) refl
 
+long_power : (limit start m : ℕ) (v : List Letter) (at mid : List ℕ) (negative : Bool) (n : ℕ) → length at < m → first_is 94 at ≡ true
+    → IsExponent (after_blanks (drop 1 at)) negative n mid → limit < length (power_of negative n v)
+    → powers_from limit m start v at ≡ Err (record { kind = WordTooLong; left = start })
+unfolding powers_from
+long_power limit start zero v at mid negative n lt t x long = absurd (omega arith)
+long_power limit start (suc m) v at mid negative n lt t x long =
+    rw (t, exponent_again (after_blanks (drop 1 at)) negative n mid x, made_long limit start (power_of negative n v) long) refl
+
 pub powers_again : (limit start : ℕ) (w v : List Letter) (bs rest : List ℕ) → PowersWithin limit w (after_blanks bs) v rest → powers_within limit start w bs ≡ Ok (v, rest)
 unfolding powers_within
 powers_again limit start w v bs rest p =
@@ -117,3 +125,11 @@ unfolding powers_within
 powers_fault limit start w v bs at e p t x =
     let o = onward limit start (suc (length (after_blanks bs))) w v (after_blanks bs) at p (omega arith) in
     o.2 ∙ stopped limit start o.0 v at e o.1 t x
+
+pub powers_long : (limit start : ℕ) (w v : List Letter) (bs at mid : List ℕ) (negative : Bool) (n : ℕ) → Raised limit w (after_blanks bs) v at → first_is 94 at ≡ true
+    → IsExponent (after_blanks (drop 1 at)) negative n mid → limit < length (power_of negative n v)
+    → powers_within limit start w bs ≡ Err (record { kind = WordTooLong; left = start })
+unfolding powers_within
+powers_long limit start w v bs at mid negative n p t x long =
+    let o = onward limit start (suc (length (after_blanks bs))) w v (after_blanks bs) at p (omega arith) in
+    o.2 ∙ long_power limit start o.0 v at mid negative n o.1 t x long

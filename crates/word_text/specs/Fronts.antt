@@ -1,12 +1,14 @@
 -- Fronts of words: what stands before a place in a text, where each word so far has at most `limit` letters.
-use Rattle.std.specs.Prelude.{◌≡◌, ℕ, true, List, drop}
+use Rattle.std.specs.Prelude.{◌≡◌, ℕ, ◌<◌, Bool, true, List, ◌++◌, length, drop}
 use Rattle.free_words.specs.declared.letter.Letter.{Letter}
+use Rattle.free_words.specs.Words.{commutator}
 use Rattle.word_text.specs.declared.scan.Mark.TheVariants as marks
 use Rattle.word_text.specs.declared.machine.Spot.{Spot}
 use Rattle.word_text.specs.declared.machine.Spot.TheVariants.{Start, After, Starred}
 use Rattle.word_text.specs.Scan.{first_is, after_blanks, mark_of}
+use Rattle.word_text.specs.Powers.{power_of}
 use Rattle.word_text.specs.Machine.{Find}
-use Rattle.word_text.specs.Grammar.{Product, Atom, SpelledWithin, Raised}
+use Rattle.word_text.specs.Grammar.{Product, Factor, Atom, SpelledWithin, IsExponent, Raised}
 
 -- A product from `begin` up to a place at which a factor may stand: no factor yet, some, or some and `*`.
 abbrev pub SoFar : ℕ → Find → Spot → List ℕ → List Letter → List ℕ → Type 0
@@ -33,21 +35,14 @@ pub record FactorAt (limit : ℕ) (find : Find) (text : List ℕ) (u : List Lett
   pub begins : Begins limit find text begin
   pub so_far : SoFar limit find spot begin u place
 
--- At a place `^` stands behind an atom and some of its powers, whose word is v; the factor begins at `factor`.
-pub record CaretAt (limit : ℕ) (find : Find) (text : List ℕ) (factor : List ℕ) (v : List Letter) (place : List ℕ) : Type 0 where
-  pub before : List Letter
-  pub factor_here : FactorAt limit find text before factor
-  pub atom : List Letter
-  pub behind : List ℕ
-  pub spelled : SpelledWithin limit find Atom factor atom behind
-  pub raised : Raised limit atom (after_blanks behind) v place
-  pub caret : first_is 94 place ≡ true
-
--- All that stands before a place is the front of a word: a factor, or what may follow one, has to stand there, or the digits
--- of a power.
-pub data ComesTo (limit : ℕ) (find : Find) (text : List ℕ) : List ℕ → Type 0 where
-  to_factor : (u : List Letter) (place : List ℕ) → FactorAt limit find text u place → ComesTo limit find text place
-  to_exponent : (factor place : List ℕ) (v : List Letter) → CaretAt limit find text factor v place
-      → ComesTo limit find text (after_blanks (drop 1 place))
-  to_digits : (factor place : List ℕ) (v : List Letter) → CaretAt limit find text factor v place
-      → first_is 45 (after_blanks (drop 1 place)) ≡ true → ComesTo limit find text (after_blanks (drop 1 (after_blanks (drop 1 place))))
+-- A factor that stands at a place behind the product u makes a word of more than `limit` letters: by one of its powers, by a
+-- commutator, or at its end, joined to u. It is read so far, up to the last of these places.
+pub data Passes (limit : ℕ) (find : Find) (u : List Letter) (place : List ℕ) : List ℕ → Type 0 where
+  by_power : (a v : List Letter) (mid caret last : List ℕ) (negative : Bool) (n : ℕ) → SpelledWithin limit find Atom place a mid
+      → Raised limit a (after_blanks mid) v caret → first_is 94 caret ≡ true → IsExponent (after_blanks (drop 1 caret)) negative n last
+      → limit < length (power_of negative n v) → Passes limit find u place last
+  by_commutator : (s t : Spot) (v w : List Letter) (mid last : List ℕ) → mark_of place ≡ marks.Square
+      → SpelledWithin limit find (Product s) (after_blanks (drop 1 place)) v mid → first_is 44 mid ≡ true
+      → SpelledWithin limit find (Product t) (after_blanks (drop 1 mid)) w last → first_is 93 last ≡ true
+      → limit < length (commutator v w) → Passes limit find u place (drop 1 last)
+  by_product : (v : List Letter) (rest : List ℕ) → SpelledWithin limit find Factor place v rest → limit < length (u ++ v) → Passes limit find u place rest

@@ -4,7 +4,7 @@ ghost use Rattle.std.specs.Prelude.{◌≡◌, ℕ, ◌-◌, ◌<◌, ◌≤◌,
 ghost use Rattle.free_words.specs.declared.letter.Letter.{Letter};
 ghost use Rattle.free_words.specs.Words.{IsOver};
 ghost use Rattle.word_text.specs.declared.fault.Fault.{Fault};
-ghost use Rattle.word_text.specs.Faults.{IsFront, bytes_before};
+ghost use Rattle.word_text.specs.Faults.{IsFront, IsFault, bytes_before, bytes_from};
 ghost use Rattle.word_text.specs.Machine.{Find, finding, word_at};
 ghost use Rattle.word_text.specs.Naming.{IsNumberOf};
 ghost use Rattle.word_text.specs.Powers.{written};
@@ -23,10 +23,27 @@ pub fn spelled_is_read()
     ensures { (find : Find) (text : List ℕ) (w : List Letter) → IsWord find text w → word_text find text ≡ Ok w }
 {}
 
-/// What stands before the first fault is the front of a word: some bytes make a word of the grammar of it.
+/// What stands before the first fault is the front of a word: with some bytes behind it, it is a word of the grammar, of some
+/// length.
 #[tactic(auto, using(crate::proofs::FirstFault::before_fault))]
 pub fn before_a_fault_is_a_front()
     ensures { (find : Find) (text : List ℕ) (e : Fault) → word_text find text ≡ Err e → (e.left ≤ length text) × IsFront find (bytes_before text e.left) }
+{}
+
+/// What stands at the first fault is why no word goes on there. With the byte of `BadByte` or `Expected`, or at the end of
+/// the text, what was read is the front of no word of any length; with the whole name of `UnknownName` or the whole number of
+/// `ExponentTooLarge` none goes on; the factor of `WordTooLong` passes the limit, and no word within the limit begins as the
+/// text does up to where that is met.
+#[tactic(auto, using(crate::proofs::FirstFault::first_fault))]
+pub fn at_a_fault_no_word_goes_on()
+    ensures { (find : Find) (text : List ℕ) (e : Fault) → word_text find text ≡ Err e
+        → IsFault find text (bytes_before text e.left) (bytes_from text e.left) e.kind }
+{}
+
+/// A fault of a word at the head of a text is the first fault of the text.
+#[tactic(auto, using(crate::proofs::FirstFault::head_fault))]
+pub fn head_fault_is_first()
+    ensures { (find : Find) (text : List ℕ) (e : Fault) → word_at find text ≡ Err e → word_text find text ≡ Err e }
 {}
 
 /// The letters of a word of the grammar are generators that its names gave.
