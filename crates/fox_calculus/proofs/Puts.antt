@@ -1,16 +1,14 @@
 -- Lists of sums, written as vectors, that grow at the end.
-use Rattle.std.proofs.Common.{◌≡◌, ◌≢◌, ℕ, zero, suc, ◌+◌, ◌<◌, ◌≤◌, ◌==◌, Bool, true, false, List, [], ◌∷◌, ◌++◌, length, take, map, get_or, refl, sym, ap, subst, ◌∙◌, append_assoc, arith}
+use Rattle.std.proofs.Common.{◌≡◌, ◌≢◌, ℕ, zero, suc, ◌+◌, ◌<◌, ◌≤◌, ◌==◌, Bool, true, false, List, [], ◌∷◌, ◌++◌, length, take, map, get_or, sym, ap, subst, ◌∙◌, append_assoc, arith}
 use Rattle.std.specs.List.{range_with_len, flat_map}
 use Rattle.std.proofs.lemmas.List.{take_all, take_more, map-append, append-nil}
 use Rattle.std.proofs.lemmas.Bool.Decides.{nat_tests}
 use Rattle.std.proofs.lemmas.Grind.{flat_map-append}
 use Rattle.std.proofs.lemmas.List.FromFn.{map-range_with_len_more}
-use Rattle.formal_sums.specs.FormalSum.{FormalSum, Same}
+use Rattle.formal_sums.specs.FormalSum.{FormalSum}
 use Rattle.module_vec.specs.declared.places.Place.{Place}
 use Rattle.module_vec.specs.declared.places.Term.{Term}
-use Rattle.module_vec.specs.Places.{same_place}
-use Rattle.module_vec.specs.Vectors.{sum_of}
-use Rattle.fox_calculus.specs.Generators.{IsZero, IsWritten, AreWritten, binomial}
+use Rattle.fox_calculus.specs.Generators.{IsWritten, AreWritten, binomial}
 
 -- one more, which isn't zero
 pub written_more : (fs : List (FormalSum Place)) (gs : List (List Term)) (f : FormalSum Place) (g : List Term) → g ≢ [] → IsWritten f g → AreWritten fs gs → AreWritten (fs ++ f ∷ []) (gs ++ g ∷ [])

@@ -1,10 +1,9 @@
 -- The generators of the module of a presentation.
-use Rattle.std.specs.Prelude.{◌≡◌, ◌≢◌, ◌⊎◌, ℕ, ◌+◌, ◌*◌, ◌<◌, ◌==◌, ℤ, pos, negsuc, List, [], ◌∷◌, ◌++◌, map, length, Contains, if◌then◌else◌}
+use Rattle.std.specs.Prelude.{◌≢◌, ℕ, ◌+◌, ◌*◌, ◌==◌, pos, negsuc, List, [], ◌∷◌, ◌++◌, map, length, if◌then◌else◌}
 use Rattle.std.specs.List.{range_with_len, flat_map}
-use Rattle.free_words.specs.declared.letter.Letter.{Letter}
 use Rattle.presentation.specs.Presented.{Presented}
 use Rattle.formal_sums.specs.FormalSum.{FormalSum, Same}
-use Rattle.laurent_terms.specs.Monomials.{one, variable, variable_of, product}
+use Rattle.laurent_terms.specs.Monomials.{one, variable, product}
 use Rattle.module_vec.specs.declared.places.Place.{Place}
 use Rattle.module_vec.specs.declared.places.Term.{Term}
 use Rattle.module_vec.specs.Places.{same_place}

@@ -7,9 +7,13 @@
 
 mod binomials;
 mod derivatives;
+pub mod laws;
 mod listing;
 mod running;
 mod small;
 
 pub use derivatives::fox;
 pub use listing::generators;
+
+#[cfg(test)]
+mod tests;

@@ -38,7 +38,11 @@ fn put(made: &mut Vec<ModVec>, v: ModVec) -> Result<(), AllocError>
     Ok(())
 }
 
-fn put_relator_vectors(alloc: Global, made: &mut Vec<ModVec>, p: &Presentation) -> Result<(), AllocError>
+fn put_relator_vectors(
+    alloc: Global,
+    made: &mut Vec<ModVec>,
+    p: &Presentation,
+) -> Result<(), AllocError>
     ensures { OnOk result ((fs : List (FormalSum Place)) → AreWritten fs made.old.items → AreWritten (fs ++ relator_vectors p.now) made.new.items) }
 {
     p.known();
@@ -49,7 +53,12 @@ fn put_relator_vectors(alloc: Global, made: &mut Vec<ModVec>, p: &Presentation) 
 }
 
 // (m - 1)·e_c for each of so many components c.
-fn put_binomials(alloc: Global, made: &mut Vec<ModVec>, m: &Mono, count: u8) -> Result<(), AllocError>
+fn put_binomials(
+    alloc: Global,
+    made: &mut Vec<ModVec>,
+    m: &Mono,
+    count: u8,
+) -> Result<(), AllocError>
     ensures { OnOk result ((fs : List (FormalSum Place)) → AreWritten fs made.old.items → AreWritten (fs ++ map (binomial m.now) (range_with_len 0 count)) made.new.items) }
 {
     for c in 0..count {
@@ -58,7 +67,11 @@ fn put_binomials(alloc: Global, made: &mut Vec<ModVec>, m: &Mono, count: u8) -> 
     Ok(())
 }
 
-fn put_relator_binomials(alloc: Global, made: &mut Vec<ModVec>, p: &Presentation) -> Result<(), AllocError>
+fn put_relator_binomials(
+    alloc: Global,
+    made: &mut Vec<ModVec>,
+    p: &Presentation,
+) -> Result<(), AllocError>
     ensures { OnOk result ((fs : List (FormalSum Place)) → AreWritten fs made.old.items → AreWritten (fs ++ relator_binomials p.now) made.new.items) }
 {
     p.known();
@@ -68,7 +81,11 @@ fn put_relator_binomials(alloc: Global, made: &mut Vec<ModVec>, p: &Presentation
     Ok(())
 }
 
-fn put_unit_binomials(alloc: Global, made: &mut Vec<ModVec>, p: &Presentation) -> Result<(), AllocError>
+fn put_unit_binomials(
+    alloc: Global,
+    made: &mut Vec<ModVec>,
+    p: &Presentation,
+) -> Result<(), AllocError>
     ensures { OnOk result ((fs : List (FormalSum Place)) → AreWritten fs made.old.items → AreWritten (fs ++ unit_binomials p.now) made.new.items) }
 {
     p.known();
@@ -78,7 +95,11 @@ fn put_unit_binomials(alloc: Global, made: &mut Vec<ModVec>, p: &Presentation) -
     Ok(())
 }
 
-fn put_modulus_vectors(alloc: Global, made: &mut Vec<ModVec>, p: &Presentation) -> Result<(), AllocError>
+fn put_modulus_vectors(
+    alloc: Global,
+    made: &mut Vec<ModVec>,
+    p: &Presentation,
+) -> Result<(), AllocError>
     ensures { OnOk result ((fs : List (FormalSum Place)) → AreWritten fs made.old.items → AreWritten (fs ++ modulus_vectors p.now) made.new.items) }
 {
     if p.modulus() == 0 {

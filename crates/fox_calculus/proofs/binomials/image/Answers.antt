@@ -1,4 +1,4 @@
-use Rattle.std.proofs.Common.{List, ℤ, ap, ◌∙◌, arith}
+use Rattle.std.proofs.Common.{ap, ◌∙◌, arith}
 use Rattle.laurent_terms.specs.Monomials.{monomial_of}
 use Rattle.fox_calculus.proofs.Sums.{sums_are, image_small}
 use Rattle.fox_calculus.proofs.binomials.image.Goals as goal

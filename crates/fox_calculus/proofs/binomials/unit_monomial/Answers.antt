@@ -1,5 +1,5 @@
 use Rattle.std.proofs.Common.{arith, ◌*◌, ◌+◌, ap}
-use Rattle.laurent_terms.specs.Monomials.{degree, variable}
+use Rattle.laurent_terms.specs.Monomials.{degree}
 use Rattle.laurent_terms.proofs.Variables.{degree-variable}
 use Rattle.fox_calculus.proofs.binomials.unit_monomial.Goals as goal
 

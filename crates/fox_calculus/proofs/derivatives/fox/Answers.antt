@@ -1,4 +1,4 @@
-use Rattle.std.proofs.Common.{List, ap, sum_by, unsigned_abs, length, arith, ◌∙◌}
+use Rattle.std.proofs.Common.{ap, sum_by, unsigned_abs, length, arith}
 use Rattle.module_vec.specs.declared.places.Term.{Term}
 use Rattle.fox_calculus.proofs.Short.{terms_few, terms_small}
 use Rattle.fox_calculus.proofs.derivatives.fox.Goals as goal

@@ -1,4 +1,4 @@
-use Rattle.std.proofs.Common.{map, [], List, refl}
+use Rattle.std.proofs.Common.{map, List}
 use Rattle.std.specs.List.{flat_map}
 use Rattle.free_words.specs.declared.letter.Letter.{Letter}
 use Rattle.fox_calculus.specs.Fox.{image}

@@ -1,5 +1,5 @@
 use Rattle.std.proofs.Common.{map, take}
-use Rattle.std.specs.List.{flat_map, range_with_len}
+use Rattle.std.specs.List.{flat_map}
 use Rattle.fox_calculus.specs.Fox.{image}
 use Rattle.fox_calculus.specs.Generators.{binomial, components}
 use Rattle.fox_calculus.proofs.Puts.{Puts}

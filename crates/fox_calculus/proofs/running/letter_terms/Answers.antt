@@ -1,4 +1,4 @@
-use Rattle.std.proofs.Common.{slice_index_or, refl, rules, arith, false}
+use Rattle.std.proofs.Common.{refl, rules, false}
 use Rattle.free_words.specs.declared.letter.Letter.{Letter}
 use Rattle.free_words.proofs.OverLemmas.{IsOver-get_or}
 use Rattle.fox_calculus.proofs.Turns.{sums_begin, sums_small, sums_next, terms_next}

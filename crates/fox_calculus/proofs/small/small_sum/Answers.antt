@@ -1,4 +1,3 @@
-use Rattle.std.proofs.Common.{arith}
 use Rattle.fox_calculus.proofs.Short.{no_fault}
 use Rattle.fox_calculus.proofs.small.small_sum.Goals as goal
 
