@@ -30,7 +30,8 @@ module _ (L : Lattice) (p : Presented) {C : Type 0} {addition : Addition C} {Ali
       (laws.unit-plus _))
 
   -- vectors that differ by such a sum have the same value
-  pub values_agree : (v w s : FormalSum (Point L)) → Same (same_point L) (v ++ scale (negsuc 0) w) s → (sum : IsSum L p s) → Joins L r (sum_pairs L p s sum) → Alike (evaluate addition f v) (evaluate addition f w)
+  pub values_agree : (v w s : FormalSum (Point L)) → Same (same_point L) (v ++ scale (negsuc 0) w) s → (sum : IsSum L p s) → Joins L r (sum_pairs L p s sum)
+      → Alike (evaluate addition f v) (evaluate addition f w)
   values_agree v w s same sum joins =
       laws.transitive _ _ _
       (evaluate-same (point_test L) laws f v (s ++ w) (λ m. omega (arith, ints, same m, at-append L v (scale (negsuc 0) w) m, at-scale L (negsuc 0) w m, at-append L s w m)))
@@ -112,7 +113,8 @@ module _ (L : Lattice) (r : L.Z → L.Z) (z : L.Z) where
       omega (arith, ints, e, boundary_by l.inv a l.g, boundary b u)
 
   module _ (p : Presented) where
-    generator_boundary : (t : L.Z) (g : FormalSum (Point L)) (is : IsLatticeGenerator L p g) → Joins L r (generator_pairs L p t g is) → Modulo p.modulus (evaluate integer_addition bump (shift L t g)) (pos 0)
+    generator_boundary : (t : L.Z) (g : FormalSum (Point L)) (is : IsLatticeGenerator L p g) → Joins L r (generator_pairs L p t g is)
+        → Modulo p.modulus (evaluate integer_addition bump (shift L t g)) (pos 0)
     unfolding generator_pairs
     generator_boundary t _ (relator_vector w listed) joins =
         let e : indicator t ≡ indicator (L.plus t (exponents L w)) = ap (λ y. cond (L.same y z) (pos 1) (pos 0)) joins.0 in

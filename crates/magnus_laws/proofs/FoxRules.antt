@@ -29,7 +29,8 @@ use Rattle.magnus_laws.proofs.Members.{member_same, member_scale, congruent_same
 use Rattle.magnus_laws.proofs.Upward.{up, fox-up, shift-up}
 
 -- ---- products
-pub fox_of_product : (p : Presented) (u v : List Letter) → IsPresented p → IsWordOver p u → IsWordOver p v → AreCongruent p (fox (u ++ v)) (fox u ++ rename (moved (image u)) (fox v))
+pub fox_of_product : (p : Presented) (u v : List Letter) → IsPresented p → IsWordOver p u → IsWordOver p v
+    → AreCongruent p (fox (u ++ v)) (fox u ++ rename (moved (image u)) (fox v))
 fox_of_product p u v known ou ov =
     let n : ℕ = length p.names in
     let a : IntegerTuple n = exponents (tuples n) u in
@@ -108,7 +109,8 @@ fox_of_cancelled _ _ (Cancels.pair u v w x rest) y = pair_left_out u v x y ∙ f
 inverse_in_front : (w : List Letter) → Same same_place (fox (inverse w ++ w)) []
 inverse_in_front w = fox_of_cancelled (inverse w ++ w) [] (subst (λ z. Cancels (inverse w ++ z) []) (inverse-inverse w) (Cancels-inverse (inverse w)))
 
-pub fox_of_inverse : (p : Presented) (w : List Letter) → IsPresented p → IsWordOver p w → AreCongruent p (fox (inverse w)) (multiple moved (negsuc 0) (image (inverse w)) (fox w))
+pub fox_of_inverse : (p : Presented) (w : List Letter) → IsPresented p → IsWordOver p w
+    → AreCongruent p (fox (inverse w)) (multiple moved (negsuc 0) (image (inverse w)) (fox w))
 fox_of_inverse p w known over =
     let both : FormalSum Place = fox (inverse w ++ w) in
     let one : FormalSum Place = fox (inverse w) in

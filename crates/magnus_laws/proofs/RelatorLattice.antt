@@ -103,7 +103,8 @@ module _ (L : Lattice) (p : Presented) where
         let product : Gathers p flat.0 = gather p flat.0 flat.1 (sums flat.0 flat.1 flat.2) in
         (product.0, product.1, reaches_on p w flat.0 product.0 flat.3 product.2)
 
-    pub lattice_words_commute : (u v : List Letter) → IsWordOver p u → IsWordOver p v → InRelatorLattice (exponents L u) → InRelatorLattice (exponents L v) → Commute p u v
+    pub lattice_words_commute : (u v : List Letter) → IsWordOver p u → IsWordOver p v → InRelatorLattice (exponents L u) → InRelatorLattice (exponents L v)
+        → Commute p u v
     lattice_words_commute u v ou ov iu iv =
         let a : Gathers p u = gathers u ou iu in
         let b : Gathers p v = gathers v ov iv in

@@ -65,7 +65,8 @@ module _ (L : Lattice) where
     representative_near (e ∷ pairs) are a =
         by (L.same (representative pairs a) (representative pairs e.1)) refl (representative_near pairs are.1 a) (representative_near pairs are.1 e.0) (representative_near pairs are.1 e.1)
       where
-        by : (b : Bool) → L.same (representative pairs a) (representative pairs e.1) ≡ b → Near L p (representative pairs a) a → Near L p (representative pairs e.0) e.0 → Near L p (representative pairs e.1) e.1
+        by : (b : Bool) → L.same (representative pairs a) (representative pairs e.1) ≡ b → Near L p (representative pairs a) a → Near L p (representative pairs e.0) e.0
+            → Near L p (representative pairs e.1) e.1
             → Near L p (cond b (representative pairs e.0) (representative pairs a)) a
         by false test own first second = own
         by true test own first second =

@@ -45,7 +45,8 @@ module _ (p : Presented) (few : length p.names ≤ GENERATORS) where
   abbrev pub CountAlike : List ℕ → List ℕ → Type 0
   CountAlike s t = (c : ℕ) → c < n → IsMember p (difference s t c)
 
-  between : (a b d : Bool) → cond a (pos 1) (pos 0) +ℤ (cond d (negsuc 0) (pos 0) +ℤ pos 0) ≡ cond a (pos 1) (pos 0) +ℤ (cond b (negsuc 0) (pos 0) +ℤ (cond b (pos 1) (pos 0) +ℤ (cond d (negsuc 0) (pos 0) +ℤ pos 0)))
+  between : (a b d : Bool)
+      → cond a (pos 1) (pos 0) +ℤ (cond d (negsuc 0) (pos 0) +ℤ pos 0) ≡ cond a (pos 1) (pos 0) +ℤ (cond b (negsuc 0) (pos 0) +ℤ (cond b (pos 1) (pos 0) +ℤ (cond d (negsuc 0) (pos 0) +ℤ pos 0)))
   between true true true = refl
   between true true false = refl
   between true false true = refl
@@ -60,7 +61,8 @@ module _ (p : Presented) (few : length p.names ≤ GENERATORS) where
       member_same p (difference s u c) (difference s t c ++ difference t u c) (λ x. between (here s c x) (here t c x) (here u c x))
       (member_sum p (difference s t c) (difference t u c) (h c below) (k c below))
 
-  swapped : (a b : Bool) → cond a (pos 1) (pos 0) +ℤ (cond b (negsuc 0) (pos 0) +ℤ pos 0) ≡ cond b (negsuc 0 *ℤ pos 1) (pos 0) +ℤ (cond a (negsuc 0 *ℤ negsuc 0) (pos 0) +ℤ pos 0)
+  swapped : (a b : Bool)
+      → cond a (pos 1) (pos 0) +ℤ (cond b (negsuc 0) (pos 0) +ℤ pos 0) ≡ cond b (negsuc 0 *ℤ pos 1) (pos 0) +ℤ (cond a (negsuc 0 *ℤ negsuc 0) (pos 0) +ℤ pos 0)
   swapped true true = refl
   swapped true false = refl
   swapped false true = refl
@@ -77,7 +79,8 @@ module _ (p : Presented) (few : length p.names ≤ GENERATORS) where
   alike_self : (s : List ℕ) → CountAlike s s
   alike_self s c below = member_same p (difference s s c) [] (λ x. cancelled (here s c x)) (member_nothing p)
 
-  times_one : (a b : Bool) → cond a (pos 1) (pos 0) +ℤ (cond b (negsuc 0) (pos 0) +ℤ pos 0) ≡ cond a (pos 1 *ℤ pos 1) (pos 0) +ℤ (cond b (pos 1 *ℤ negsuc 0) (pos 0) +ℤ pos 0)
+  times_one : (a b : Bool)
+      → cond a (pos 1) (pos 0) +ℤ (cond b (negsuc 0) (pos 0) +ℤ pos 0) ≡ cond a (pos 1 *ℤ pos 1) (pos 0) +ℤ (cond b (pos 1 *ℤ negsuc 0) (pos 0) +ℤ pos 0)
   times_one true true = refl
   times_one true false = refl
   times_one false true = refl
