@@ -109,7 +109,8 @@ module _ (L : Lattice) (r : L.Z → L.Z) (z : L.Z) where
   boundary a [] = let e : indicator (L.plus a L.none) ≡ indicator a = ap indicator (plus-none L a) in omega (arith, ints, e)
   boundary a (l ∷ u) =
       let b : L.Z = L.plus a (step L l) in
-      let e : indicator (L.plus b (exponents L u)) ≡ indicator (L.plus a (L.plus (step L l) (exponents L u))) = ap indicator (L.plus_assoc a (step L l) (exponents L u)) in
+      let e : indicator (L.plus b (exponents L u)) ≡ indicator (L.plus a (L.plus (step L l) (exponents L u))) =
+      ap indicator (L.plus_assoc a (step L l) (exponents L u)) in
       omega (arith, ints, e, boundary_by l.inv a l.g, boundary b u)
 
   module _ (p : Presented) where
@@ -122,7 +123,8 @@ module _ (L : Lattice) (r : L.Z → L.Z) (z : L.Z) where
         (ap (evaluate integer_addition bump) (sym (fox_from-at L t w)) ∙ boundary t w ∙ omega (arith, ints, e))
     generator_boundary t _ (relator_binomial w c listed below) joins =
         let e : indicator (L.plus t (exponents L w)) ≡ indicator (L.plus t L.none) = ap (λ y. cond (L.same y z) (pos 1) (pos 0)) joins.0 in
-        let f : indicator (L.plus (L.plus t (exponents L w)) (L.one_at c)) ≡ indicator (L.plus (L.plus t L.none) (L.one_at c)) = ap (λ y. cond (L.same y z) (pos 1) (pos 0)) joins.1.0 in
+        let f : indicator (L.plus (L.plus t (exponents L w)) (L.one_at c)) ≡ indicator (L.plus (L.plus t L.none) (L.one_at c)) =
+        ap (λ y. cond (L.same y z) (pos 1) (pos 0)) joins.1.0 in
         modulo_same p.modulus (evaluate integer_addition bump (shift L t (binomial L (exponents L w) c))) (pos 0) (omega (arith, ints, e, f))
     generator_boundary t _ (modulus_vector c some below) joins = (bump (L.plus t L.none, c), swap (pos p.modulus *ℤ bump (L.plus t L.none, c)))
       where

@@ -105,7 +105,8 @@ module _ (p : Presented) where
       → ((v : List Letter) → length v ≤ k → IsWordOver p v → ((g : ℕ) → exponent_sum g v ≡ pos 0) → Gathers v) → Gathers (l ∷ w)
   gather_next k l w (a, b, e) short over sums rest =
       let parts = IsOver-parts (length p.names) a (flipped l ∷ b) (subst (IsWordOver p) e over.1) in
-      let gathered : Gathers (a ++ b) = rest (a ++ b) (omega (arith, short, length-append a b, length-append a (flipped l ∷ b), ap length e)) (IsOver-append (length p.names) a b parts.0 parts.1.1)
+      let gathered : Gathers (a ++ b) =
+      rest (a ++ b) (omega (arith, short, length-append a b, length-append a (flipped l ∷ b), ap length e)) (IsOver-append (length p.names) a b parts.0 parts.1.1)
       (λ g. sym (sum_without g l a b) ∙ ap (λ z. exponent_sum g (l ∷ z)) (sym e) ∙ sums g) in (
         commutator (l ∷ []) a ++ gathered.0,
         next (l ∷ []) a gathered.0 (over.0, tt) parts.0 gathered.1,

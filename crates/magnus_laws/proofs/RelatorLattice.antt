@@ -87,7 +87,8 @@ module _ (L : Lattice) (p : Presented) where
     level a (more r b listed rest) w over e =
         let x : L.Z = exponents L r in
         let longer : List Letter = inverse r ++ w in
-        let lower : Levels longer = level b rest longer (IsOver-append (length p.names) (inverse r) w (IsOver-inverse (length p.names) r (relator_over p known r listed)) over)
+        let lower : Levels longer =
+        level b rest longer (IsOver-append (length p.names) (inverse r) w (IsOver-inverse (length p.names) r (relator_over p known r listed)) over)
         (exponents-append L (inverse r) w ∙ (λ i. L.plus (exponents-inverse L r i) (e i)) ∙ back L x b) in
         (lower.0, lower.1, lower.2, reaches_on p w longer lower.0 (in_front (inverse r) w (trivial_inverse_relator p r listed)) lower.3)
     level a (less r b listed rest) w over e =

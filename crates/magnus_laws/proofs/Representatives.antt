@@ -86,7 +86,8 @@ module _ (L : Lattice) where
     unfolding generator_pairs
     generator_near t _ (relator_vector r listed) = (near_back L p (L.plus t (exponents L r)) t (near_relator L p t r listed), tt)
     generator_near t _ (relator_binomial r c listed below) =
-        let near : Near L p (L.plus t (exponents L r)) (L.plus t L.none) = subst (Near L p (L.plus t (exponents L r))) (sym (plus-none L t)) (near_relator L p t r listed) in
+        let near : Near L p (L.plus t (exponents L r)) (L.plus t L.none) =
+        subst (Near L p (L.plus t (exponents L r))) (sym (plus-none L t)) (near_relator L p t r listed) in
         (near, (near_plus L p (L.one_at c) (L.plus t (exponents L r)) (L.plus t L.none) near, tt))
     generator_near t _ (modulus_vector c some below) = tt
 
