@@ -152,10 +152,6 @@ unit_monomial-is g m e =
     ∙ product-append zeros zeros (1 ∷ 0 ∷ replicate m 0) (0 ∷ 1 ∷ replicate m 0) refl
     ∙ (λ i. zeros-product (2 * g) zeros (length-replicate (2 * g) 0) i ++ 1 ∷ 1 ∷ zeros-product m (replicate m 0) (length-replicate m 0) i)
 
-read-unit : (n g m : ℕ) (r : List ℕ) → read n r ≡ none n → read (suc n) (0 ∷ 0 ∷ r) ≡ none (suc n)
-unfolding read
-read-unit n g m r e = λ i. (pos 0, e i)
-
 pub read-zeros : (n k : ℕ) → read n (replicate k 0) ≡ none n
 unfolding read
 read-zeros zero k = refl

@@ -12,9 +12,6 @@ use Rattle.magnus_laws.proofs.LatticeModule.{IsLatticeGenerator, relator_vector,
 use Rattle.magnus_laws.proofs.RelatorLattice.{Near, near_itself, near_on, near_back, near_plus, near_relator}
 
 module _ (L : Lattice) where
-  abbrev pub Pairs : Type 0
-  Pairs = List (L.Z × L.Z)
-
   -- pair by pair, what stands for the second stands for the first from then on
   abbrev pub representative : List (L.Z × L.Z) → L.Z → L.Z
   representative [] a = a
