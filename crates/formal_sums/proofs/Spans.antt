@@ -1,7 +1,7 @@
 -- What a set of formal sums spans is closed under sums, multiples and equality.
 use Rattle.std.proofs.Common.{◌≡◌, Bool, ℤ, pos, negsuc, ◌*ℤ◌, [], ◌∷◌, ◌++◌, refl, sym, ap, subst, ◌∙◌, arith, append_assoc, append-nil}
 use borrow.Author.Differences.{ints}
-use Rattle.formal_sums.specs.FormalSum.{FormalSum, coefficient, Same, scale, rename}
+use Rattle.formal_sums.specs.FormalSum.{FormalSum, Same, scale, rename}
 use Rattle.formal_sums.specs.Keys.{IsEqualityTest}
 use Rattle.formal_sums.specs.Span.{multiple, SumOfMultiples, IsSpanned}
 use Rattle.formal_sums.specs.Span.SumOfMultiples.{nothing, more}
@@ -51,26 +51,30 @@ module _ {K T : Type 0} (eq : K → K → Bool) (move : T → K → K) (Moves : 
   spanned_zero_difference v w e =
       spanned_same (v ++ scale (negsuc 0) w) [] (λ k. omega (arith, ints, e k, coefficient-append eq v (scale (negsuc 0) w) k, coefficient-scale eq (negsuc 0) w k)) spanned_nothing
 
-  pub spanned_difference_back : (v w : FormalSum K) → IsSpanned eq move Moves IsGenerator (v ++ scale (negsuc 0) w) → IsSpanned eq move Moves IsGenerator (w ++ scale (negsuc 0) v)
+  pub spanned_difference_back : (v w : FormalSum K) → IsSpanned eq move Moves IsGenerator (v ++ scale (negsuc 0) w)
+      → IsSpanned eq move Moves IsGenerator (w ++ scale (negsuc 0) v)
   spanned_difference_back v w d =
       spanned_same (w ++ scale (negsuc 0) v) (scale (negsuc 0) (v ++ scale (negsuc 0) w))
       (λ k. omega (arith, ints, coefficient-append eq w (scale (negsuc 0) v) k, coefficient-scale eq (negsuc 0) v k, coefficient-scale eq (negsuc 0) (v ++ scale (negsuc 0) w) k, coefficient-append eq v (scale (negsuc 0) w) k, coefficient-scale eq (negsuc 0) w k))
       (spanned-scale (negsuc 0) (v ++ scale (negsuc 0) w) d)
 
-  pub spanned_difference_on : (u v w : FormalSum K) → IsSpanned eq move Moves IsGenerator (u ++ scale (negsuc 0) v) → IsSpanned eq move Moves IsGenerator (v ++ scale (negsuc 0) w) → IsSpanned eq move Moves IsGenerator (u ++ scale (negsuc 0) w)
+  pub spanned_difference_on : (u v w : FormalSum K) → IsSpanned eq move Moves IsGenerator (u ++ scale (negsuc 0) v)
+      → IsSpanned eq move Moves IsGenerator (v ++ scale (negsuc 0) w) → IsSpanned eq move Moves IsGenerator (u ++ scale (negsuc 0) w)
   spanned_difference_on u v w d e =
       spanned_same (u ++ scale (negsuc 0) w) ((u ++ scale (negsuc 0) v) ++ (v ++ scale (negsuc 0) w))
       (λ k. omega (arith, ints, coefficient-append eq (u ++ scale (negsuc 0) v) (v ++ scale (negsuc 0) w) k, coefficient-append eq u (scale (negsuc 0) v) k, coefficient-append eq v (scale (negsuc 0) w) k, coefficient-append eq u (scale (negsuc 0) w) k, coefficient-scale eq (negsuc 0) v k))
       (spanned-append (u ++ scale (negsuc 0) v) (v ++ scale (negsuc 0) w) d e)
 
-  pub spanned_difference-append : (v v' w w' : FormalSum K) → IsSpanned eq move Moves IsGenerator (v ++ scale (negsuc 0) v') → IsSpanned eq move Moves IsGenerator (w ++ scale (negsuc 0) w') → IsSpanned eq move Moves IsGenerator ((v ++ w) ++ scale (negsuc 0) (v' ++ w'))
+  pub spanned_difference-append : (v v' w w' : FormalSum K) → IsSpanned eq move Moves IsGenerator (v ++ scale (negsuc 0) v')
+      → IsSpanned eq move Moves IsGenerator (w ++ scale (negsuc 0) w') → IsSpanned eq move Moves IsGenerator ((v ++ w) ++ scale (negsuc 0) (v' ++ w'))
   spanned_difference-append v v' w w' d e =
       spanned_same ((v ++ w) ++ scale (negsuc 0) (v' ++ w')) ((v ++ scale (negsuc 0) v') ++ (w ++ scale (negsuc 0) w'))
       (λ k. omega (arith, ints, coefficient-append eq (v ++ w) (scale (negsuc 0) (v' ++ w')) k, coefficient-append eq v w k, coefficient-scale eq (negsuc 0) (v' ++ w') k, coefficient-append eq v' w' k, coefficient-append eq (v ++ scale (negsuc 0) v') (w ++ scale (negsuc 0) w') k, coefficient-append eq v (scale (negsuc 0) v') k, coefficient-append eq w (scale (negsuc 0) w') k, coefficient-scale eq (negsuc 0) v' k, coefficient-scale eq (negsuc 0) w' k))
       (spanned-append (v ++ scale (negsuc 0) v') (w ++ scale (negsuc 0) w') d e)
 
   -- what differs from a spanned sum by a spanned one is spanned
-  pub spanned_by_difference : (v w : FormalSum K) → IsSpanned eq move Moves IsGenerator (v ++ scale (negsuc 0) w) → IsSpanned eq move Moves IsGenerator w → IsSpanned eq move Moves IsGenerator v
+  pub spanned_by_difference : (v w : FormalSum K) → IsSpanned eq move Moves IsGenerator (v ++ scale (negsuc 0) w) → IsSpanned eq move Moves IsGenerator w
+      → IsSpanned eq move Moves IsGenerator v
   spanned_by_difference v w d is =
       spanned_same v ((v ++ scale (negsuc 0) w) ++ w)
       (λ k. omega (arith, ints, coefficient-append eq (v ++ scale (negsuc 0) w) w k, coefficient-append eq v (scale (negsuc 0) w) k, coefficient-scale eq (negsuc 0) w k))

@@ -30,7 +30,8 @@ module _ (L : Lattice) (p : Presented) {C : Type 0} {addition : Addition C} {Ali
       (laws.unit-plus _))
 
   -- vectors that differ by such a sum have the same value
-  pub values_agree : (v w s : FormalSum (Point L)) → Same (same_point L) (v ++ scale (negsuc 0) w) s → (sum : IsSum L p s) → Joins L r (sum_pairs L p s sum) → Alike (evaluate addition f v) (evaluate addition f w)
+  pub values_agree : (v w s : FormalSum (Point L)) → Same (same_point L) (v ++ scale (negsuc 0) w) s → (sum : IsSum L p s) → Joins L r (sum_pairs L p s sum)
+      → Alike (evaluate addition f v) (evaluate addition f w)
   values_agree v w s same sum joins =
       laws.transitive _ _ _
       (evaluate-same (point_test L) laws f v (s ++ w) (λ m. omega (arith, ints, same m, at-append L v (scale (negsuc 0) w) m, at-scale L (negsuc 0) w m, at-append L s w m)))
@@ -108,11 +109,13 @@ module _ (L : Lattice) (r : L.Z → L.Z) (z : L.Z) where
   boundary a [] = let e : indicator (L.plus a L.none) ≡ indicator a = ap indicator (plus-none L a) in omega (arith, ints, e)
   boundary a (l ∷ u) =
       let b : L.Z = L.plus a (step L l) in
-      let e : indicator (L.plus b (exponents L u)) ≡ indicator (L.plus a (L.plus (step L l) (exponents L u))) = ap indicator (L.plus_assoc a (step L l) (exponents L u)) in
+      let e : indicator (L.plus b (exponents L u)) ≡ indicator (L.plus a (L.plus (step L l) (exponents L u))) =
+      ap indicator (L.plus_assoc a (step L l) (exponents L u)) in
       omega (arith, ints, e, boundary_by l.inv a l.g, boundary b u)
 
   module _ (p : Presented) where
-    generator_boundary : (t : L.Z) (g : FormalSum (Point L)) (is : IsLatticeGenerator L p g) → Joins L r (generator_pairs L p t g is) → Modulo p.modulus (evaluate integer_addition bump (shift L t g)) (pos 0)
+    generator_boundary : (t : L.Z) (g : FormalSum (Point L)) (is : IsLatticeGenerator L p g) → Joins L r (generator_pairs L p t g is)
+        → Modulo p.modulus (evaluate integer_addition bump (shift L t g)) (pos 0)
     unfolding generator_pairs
     generator_boundary t _ (relator_vector w listed) joins =
         let e : indicator t ≡ indicator (L.plus t (exponents L w)) = ap (λ y. cond (L.same y z) (pos 1) (pos 0)) joins.0 in
@@ -120,7 +123,8 @@ module _ (L : Lattice) (r : L.Z → L.Z) (z : L.Z) where
         (ap (evaluate integer_addition bump) (sym (fox_from-at L t w)) ∙ boundary t w ∙ omega (arith, ints, e))
     generator_boundary t _ (relator_binomial w c listed below) joins =
         let e : indicator (L.plus t (exponents L w)) ≡ indicator (L.plus t L.none) = ap (λ y. cond (L.same y z) (pos 1) (pos 0)) joins.0 in
-        let f : indicator (L.plus (L.plus t (exponents L w)) (L.one_at c)) ≡ indicator (L.plus (L.plus t L.none) (L.one_at c)) = ap (λ y. cond (L.same y z) (pos 1) (pos 0)) joins.1.0 in
+        let f : indicator (L.plus (L.plus t (exponents L w)) (L.one_at c)) ≡ indicator (L.plus (L.plus t L.none) (L.one_at c)) =
+        ap (λ y. cond (L.same y z) (pos 1) (pos 0)) joins.1.0 in
         modulo_same p.modulus (evaluate integer_addition bump (shift L t (binomial L (exponents L w) c))) (pos 0) (omega (arith, ints, e, f))
     generator_boundary t _ (modulus_vector c some below) joins = (bump (L.plus t L.none, c), swap (pos p.modulus *ℤ bump (L.plus t L.none, c)))
       where

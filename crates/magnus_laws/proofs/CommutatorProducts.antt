@@ -36,7 +36,8 @@ number_itself a = grind (arith, nat_tests)
 no_letters : (g : ℕ) → exponent_sum g [] ≡ pos 0
 no_letters g = exponent_sum-outside 0 g [] tt (omega arith)
 
-sum_is : (g h : ℕ) (d t : Bool) (w : List Letter) → (h == g) ≡ t → exponent_sum g (the h d ∷ w) ≡ (if t then (if d then negsuc 0 else pos 1) else pos 0) +ℤ exponent_sum g w
+sum_is : (g h : ℕ) (d t : Bool) (w : List Letter) → (h == g) ≡ t
+    → exponent_sum g (the h d ∷ w) ≡ (if t then (if d then negsuc 0 else pos 1) else pos 0) +ℤ exponent_sum g w
 sum_is g h d t w e = exponent_sum-cons g (the h d) w ∙ ap (λ (s : Bool). (if s then (if d then negsuc 0 else pos 1) else pos 0) +ℤ exponent_sum g w) e
 
 -- the inverse of the letter stands in w, or each letter of w with its generator has its sign
@@ -48,7 +49,8 @@ look g b [] = inr (0, no_letters g ∙ by b)
     by false = refl
 look g b (x ∷ w) = by x.g x.inv (x.g == g) refl b (look g b w)
   where
-    by : (h : ℕ) (d t : Bool) → (h == g) ≡ t → (b : Bool) → Split (the g b) w ⊎ ((k : ℕ) × (exponent_sum g w ≡ signed b k)) → Split (the g b) (the h d ∷ w) ⊎ ((k : ℕ) × (exponent_sum g (the h d ∷ w) ≡ signed b k))
+    by : (h : ℕ) (d t : Bool) → (h == g) ≡ t → (b : Bool) → Split (the g b) w ⊎ ((k : ℕ) × (exponent_sum g w ≡ signed b k))
+        → Split (the g b) (the h d ∷ w) ⊎ ((k : ℕ) × (exponent_sum g (the h d ∷ w) ≡ signed b k))
     by h d t e b (inl (front, back, at)) = inl (the h d ∷ front, back, ap (λ l. the h d ∷ l) at)
     by h d false e b (inr (k, sum)) = inr (k, sum_is g h d false w e ∙ ap (λ z. pos 0 +ℤ z) sum ∙ omega (arith, ints))
     by h true true e true (inr (k, sum)) = inr (suc k, sum_is g h true true w e ∙ ap (λ z. negsuc 0 +ℤ z) sum ∙ omega (arith, ints))
@@ -103,7 +105,8 @@ module _ (p : Presented) where
       → ((v : List Letter) → length v ≤ k → IsWordOver p v → ((g : ℕ) → exponent_sum g v ≡ pos 0) → Gathers v) → Gathers (l ∷ w)
   gather_next k l w (a, b, e) short over sums rest =
       let parts = IsOver-parts (length p.names) a (flipped l ∷ b) (subst (IsWordOver p) e over.1) in
-      let gathered : Gathers (a ++ b) = rest (a ++ b) (omega (arith, short, length-append a b, length-append a (flipped l ∷ b), ap length e)) (IsOver-append (length p.names) a b parts.0 parts.1.1)
+      let gathered : Gathers (a ++ b) =
+      rest (a ++ b) (omega (arith, short, length-append a b, length-append a (flipped l ∷ b), ap length e)) (IsOver-append (length p.names) a b parts.0 parts.1.1)
       (λ g. sym (sum_without g l a b) ∙ ap (λ z. exponent_sum g (l ∷ z)) (sym e) ∙ sums g) in (
         commutator (l ∷ []) a ++ gathered.0,
         next (l ∷ []) a gathered.0 (over.0, tt) parts.0 gathered.1,

@@ -44,7 +44,8 @@ long_up : (n : ℕ) → n ≤ GENERATORS → (v : FormalSum (Point (tuples n))) 
 long_up n few [] = tt
 long_up n few (t ∷ v) = (length-written n t.1.0 few, long_up n few v)
 
-moved-down : (n : ℕ) (t : List ℕ) (v : FormalSum Place) → HasVariables t → AreLong v → rename (down n) (rename (moved t) v) ≡ shift (tuples n) (read n t) (rename (down n) v)
+moved-down : (n : ℕ) (t : List ℕ) (v : FormalSum Place) → HasVariables t → AreLong v
+    → rename (down n) (rename (moved t) v) ≡ shift (tuples n) (read n t) (rename (down n) v)
 moved-down n t [] long are = refl
 moved-down n t (c ∷ v) long are = λ i. (c.0, (read-product n t c.1.m (long ∙ sym are.0) i, c.1.c)) ∷ moved-down n t v long are.1 i
 

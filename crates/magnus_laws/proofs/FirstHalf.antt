@@ -34,8 +34,10 @@ module _ (L : Lattice) (p : Presented) where
       (λ m.
       let here : Point L = (L.plus a m.0, m.1) in
       let sum : at L (fox_in L r) here +ℤ at L (shift L a (fox_in L (inverse r))) here ≡ pos 0 = fox_in-inverse L r here in
-      let second : at L (shift L a (fox_in L (inverse r))) here ≡ at L (fox_in L (inverse r)) m = at-shift L a (fox_in L (inverse r)) here ∙ ap (λ z. at L (fox_in L (inverse r)) (z, m.1)) (back L a m.0) in
-      let first : at L (shift L (L.minus a) (fox_in L r)) m ≡ at L (fox_in L r) here = at-shift L (L.minus a) (fox_in L r) m ∙ ap (λ z. at L (fox_in L r) (L.plus z m.0, m.1)) (minus-minus L a) in
+      let second : at L (shift L a (fox_in L (inverse r))) here ≡ at L (fox_in L (inverse r)) m =
+      at-shift L a (fox_in L (inverse r)) here ∙ ap (λ z. at L (fox_in L (inverse r)) (z, m.1)) (back L a m.0) in
+      let first : at L (shift L (L.minus a) (fox_in L r)) m ≡ at L (fox_in L r) here =
+      at-shift L (L.minus a) (fox_in L r) m ∙ ap (λ z. at L (fox_in L r) (L.plus z m.0, m.1)) (minus-minus L a) in
       omega (arith, ints, sum, second, first, at-scale L (negsuc 0) (shift L (L.minus a) (fox_in L r)) m))
       (in_multiple L p (negsuc 0) (L.minus a) (fox_in L r) (in_generator L p (fox_in L r) (relator_vector r listed)))
 
@@ -68,14 +70,18 @@ module _ (L : Lattice) (p : Presented) where
       in_same L p (longer ++ scale (negsuc 0) shorter) (own ++ moved)
       (λ m.
       let back : Point L = (L.plus (L.minus a) m.0, m.1) in
-      let long : at L longer m ≡ at L (fox_in L u) m +ℤ at L (shift L a (fox_in L (s ++ v))) m = ap (λ z. at L z m) (fox_in-append L u (s ++ v)) ∙ at-append L (fox_in L u) (shift L a (fox_in L (s ++ v))) m in
-      let tail : at L (shift L a (fox_in L (s ++ v))) m ≡ at L (fox_in L s) back +ℤ at L (shift L e (fox_in L v)) back = at-shift L a (fox_in L (s ++ v)) m ∙ ap (λ z. at L z back) (fox_in-append L s v) ∙ at-append L (fox_in L s) (shift L e (fox_in L v)) back in
-      let short : at L shorter m ≡ at L (fox_in L u) m +ℤ at L (shift L a (fox_in L v)) m = ap (λ z. at L z m) (fox_in-append L u v) ∙ at-append L (fox_in L u) (shift L a (fox_in L v)) m in
+      let long : at L longer m ≡ at L (fox_in L u) m +ℤ at L (shift L a (fox_in L (s ++ v))) m =
+      ap (λ z. at L z m) (fox_in-append L u (s ++ v)) ∙ at-append L (fox_in L u) (shift L a (fox_in L (s ++ v))) m in
+      let tail : at L (shift L a (fox_in L (s ++ v))) m ≡ at L (fox_in L s) back +ℤ at L (shift L e (fox_in L v)) back =
+      at-shift L a (fox_in L (s ++ v)) m ∙ ap (λ z. at L z back) (fox_in-append L s v) ∙ at-append L (fox_in L s) (shift L e (fox_in L v)) back in
+      let short : at L shorter m ≡ at L (fox_in L u) m +ℤ at L (shift L a (fox_in L v)) m =
+      ap (λ z. at L z m) (fox_in-append L u v) ∙ at-append L (fox_in L u) (shift L a (fox_in L v)) m in
       let rest : at L (shift L a (fox_in L v)) m ≡ at L (fox_in L v) back = at-shift L a (fox_in L v) m in
       let one : at L own m ≡ pos 1 *ℤ at L (shift L a (fox_in L s)) m = at-scale L (pos 1) (shift L a (fox_in L s)) m in
       let two : at L (shift L a (fox_in L s)) m ≡ at L (fox_in L s) back = at-shift L a (fox_in L s) m in
       let three : at L moved m ≡ pos 1 *ℤ at L (shift L a d) m = at-scale L (pos 1) (shift L a d) m in
-      let four : at L (shift L a d) m ≡ at L (shift L e (fox_in L v)) back +ℤ at L (scale (negsuc 0) (fox_in L v)) back = at-shift L a d m ∙ at-append L (shift L e (fox_in L v)) (scale (negsuc 0) (fox_in L v)) back in
+      let four : at L (shift L a d) m ≡ at L (shift L e (fox_in L v)) back +ℤ at L (scale (negsuc 0) (fox_in L v)) back =
+      at-shift L a d m ∙ at-append L (shift L e (fox_in L v)) (scale (negsuc 0) (fox_in L v)) back in
       let five : at L (scale (negsuc 0) (fox_in L v)) back ≡ negsuc 0 *ℤ at L (fox_in L v) back = at-scale L (negsuc 0) (fox_in L v) back in
       let left : at L (longer ++ scale (negsuc 0) shorter) m ≡ at L longer m +ℤ at L (scale (negsuc 0) shorter) m = at-append L longer (scale (negsuc 0) shorter) m in
       let less : at L (scale (negsuc 0) shorter) m ≡ negsuc 0 *ℤ at L shorter m = at-scale L (negsuc 0) shorter m in

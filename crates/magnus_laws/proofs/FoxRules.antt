@@ -29,7 +29,8 @@ use Rattle.magnus_laws.proofs.Members.{member_same, member_scale, congruent_same
 use Rattle.magnus_laws.proofs.Upward.{up, fox-up, shift-up}
 
 -- ---- products
-pub fox_of_product : (p : Presented) (u v : List Letter) → IsPresented p → IsWordOver p u → IsWordOver p v → AreCongruent p (fox (u ++ v)) (fox u ++ rename (moved (image u)) (fox v))
+pub fox_of_product : (p : Presented) (u v : List Letter) → IsPresented p → IsWordOver p u → IsWordOver p v
+    → AreCongruent p (fox (u ++ v)) (fox u ++ rename (moved (image u)) (fox v))
 fox_of_product p u v known ou ov =
     let n : ℕ = length p.names in
     let a : IntegerTuple n = exponents (tuples n) u in
@@ -85,8 +86,10 @@ pair_terms u x y = by x.inv
     by true = gone_back (same_place (place_of (u ++ the true ∷ []) x.g) y)
     by false =
         let behind : List Letter = (u ++ the false ∷ []) ++ flipped (the false) ∷ [] in
-        let same : image behind ≡ image u = image_same behind u (λ g. ap (exponent_sum g) (append_assoc u (the false ∷ []) (flipped (the false) ∷ [])) ∙ pair_sums u (the false) g) in
-        ap (λ z. cond (same_place (place_of u x.g) y) (pos 1) (pos 0) +ℤ (cond (same_place (record { m = z; c = x.g }) y) (negsuc 0) (pos 0) +ℤ pos 0)) same ∙ gone (same_place (place_of u x.g) y)
+        let same : image behind ≡ image u =
+        image_same behind u (λ g. ap (exponent_sum g) (append_assoc u (the false ∷ []) (flipped (the false) ∷ [])) ∙ pair_sums u (the false) g) in
+        ap (λ z. cond (same_place (place_of u x.g) y) (pos 1) (pos 0) +ℤ (cond (same_place (record { m = z; c = x.g }) y) (negsuc 0) (pos 0) +ℤ pos 0)) same
+        ∙ gone (same_place (place_of u x.g) y)
 
 pair_left_out : (u v : List Letter) (x : Letter) → Same same_place (fox (u ++ x ∷ flipped x ∷ v)) (fox (u ++ v))
 pair_left_out u v x y =
@@ -95,7 +98,8 @@ pair_left_out u v x y =
     let behind : List Letter = (u ++ x ∷ []) ++ flipped x ∷ [] in
     let rest : fox_after behind v ≡ fox_after u v = fox_after_same behind u v (λ g. ap (exponent_sum g) (append_assoc u (x ∷ []) (flipped x ∷ [])) ∙ pair_sums u x g) in
     let left : coefficient same_place (fox (u ++ x ∷ flipped x ∷ v)) y ≡ coefficient same_place (fox u) y +ℤ coefficient same_place (one ∷ two ∷ fox_after u v) y =
-    ap (λ z. coefficient same_place z y) (fox_after-append [] u (x ∷ flipped x ∷ v) ∙ ap (λ z. fox u ++ one ∷ two ∷ z) rest) ∙ coefficient-append same_place (fox u) (one ∷ two ∷ fox_after u v) y in
+    ap (λ z. coefficient same_place z y) (fox_after-append [] u (x ∷ flipped x ∷ v) ∙ ap (λ z. fox u ++ one ∷ two ∷ z) rest)
+    ∙ coefficient-append same_place (fox u) (one ∷ two ∷ fox_after u v) y in
     let right : coefficient same_place (fox (u ++ v)) y ≡ coefficient same_place (fox u) y +ℤ coefficient same_place (fox_after u v) y =
     ap (λ z. coefficient same_place z y) (fox_after-append [] u v) ∙ coefficient-append same_place (fox u) (fox_after u v) y in
     omega (arith, ints, left, right, coefficient-append same_place (one ∷ two ∷ []) (fox_after u v) y, pair_terms u x y)
@@ -108,7 +112,8 @@ fox_of_cancelled _ _ (Cancels.pair u v w x rest) y = pair_left_out u v x y ∙ f
 inverse_in_front : (w : List Letter) → Same same_place (fox (inverse w ++ w)) []
 inverse_in_front w = fox_of_cancelled (inverse w ++ w) [] (subst (λ z. Cancels (inverse w ++ z) []) (inverse-inverse w) (Cancels-inverse (inverse w)))
 
-pub fox_of_inverse : (p : Presented) (w : List Letter) → IsPresented p → IsWordOver p w → AreCongruent p (fox (inverse w)) (multiple moved (negsuc 0) (image (inverse w)) (fox w))
+pub fox_of_inverse : (p : Presented) (w : List Letter) → IsPresented p → IsWordOver p w
+    → AreCongruent p (fox (inverse w)) (multiple moved (negsuc 0) (image (inverse w)) (fox w))
 fox_of_inverse p w known over =
     let both : FormalSum Place = fox (inverse w ++ w) in
     let one : FormalSum Place = fox (inverse w) in

@@ -41,7 +41,8 @@ module _ (q p : Presented) (images : List (List Letter)) (plain : q.modulus ≡ 
       let middle : List Letter = word_image images puts.piece in
       let last : List Letter = word_image images puts.back in
       let longer : word_image images b ≡ first ++ (middle ++ last) =
-      ap (word_image images) puts.with ∙ word_image-append images puts.front (puts.piece ++ puts.back) ∙ ap (λ z. first ++ z) (word_image-append images puts.piece puts.back) in
+      ap (word_image images) puts.with ∙ word_image-append images puts.front (puts.piece ++ puts.back)
+      ∙ ap (λ z. first ++ z) (word_image-append images puts.piece puts.back) in
       let shorter : word_image images a ≡ first ++ last = ap (word_image images) puts.without ∙ word_image-append images puts.front puts.back in
       subst (λ z. Reaches p z (word_image images a)) (sym longer)
       (subst (Reaches p (first ++ (middle ++ last))) (sym shorter) (reaches_between p first last middle [] (image_piece puts.piece puts.is_piece)))

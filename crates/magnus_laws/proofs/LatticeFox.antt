@@ -155,7 +155,8 @@ module _ (L : Lattice) where
   fox_from-pair_by : (b : Bool) (g : ℕ) (a : L.Z) (m : Point) → at (term_by b a g ∷ term_by (not b) (L.plus a (step_by b g)) g ∷ []) m ≡ pos 0
   fox_from-pair_by true g a m = pair_gone_back (same_point (L.plus a (L.minus (L.one_at g)), g) m)
   fox_from-pair_by false g a m =
-      let e : L.plus (L.plus a (L.one_at g)) (L.minus (L.one_at g)) ≡ a = L.plus_assoc a (L.one_at g) (L.minus (L.one_at g)) ∙ ap (L.plus a) (plus-minus L (L.one_at g)) ∙ plus-none L a in
+      let e : L.plus (L.plus a (L.one_at g)) (L.minus (L.one_at g)) ≡ a =
+      L.plus_assoc a (L.one_at g) (L.minus (L.one_at g)) ∙ ap (L.plus a) (plus-minus L (L.one_at g)) ∙ plus-none L a in
       ap (λ z. cond (same_point (a, g) m) (pos 1) (pos 0) +ℤ (cond (same_point (z, g) m) (negsuc 0) (pos 0) +ℤ pos 0)) e ∙ pair_gone (same_point (a, g) m)
 
   -- a letter and its inverse
@@ -170,8 +171,10 @@ module _ (L : Lattice) where
       let inner : FormalSum Point = fox_from b (w ++ inverse w) in
       let regroup : w ++ inverse (l ∷ w) ≡ (w ++ inverse w) ++ flipped l ∷ [] = ap (λ z. w ++ z) (inverse-cons l w) ∙ sym (append_assoc w (inverse w) (flipped l ∷ [])) in
       let split : fox_from b (w ++ inverse (l ∷ w)) ≡ inner ++ fox_from b (flipped l ∷ []) =
-      ap (fox_from b) regroup ∙ fox_from-append b (w ++ inverse w) (flipped l ∷ []) ∙ ap (λ z. inner ++ fox_from z (flipped l ∷ [])) (ap (L.plus b) (exponents-cancel w) ∙ plus-none L b) in
-      let rest : at (fox_from b (w ++ inverse (l ∷ w))) m ≡ at inner m +ℤ at (fox_from b (flipped l ∷ [])) m = ap (λ v. at v m) split ∙ at-append inner (fox_from b (flipped l ∷ [])) m in
+      ap (fox_from b) regroup ∙ fox_from-append b (w ++ inverse w) (flipped l ∷ [])
+      ∙ ap (λ z. inner ++ fox_from z (flipped l ∷ [])) (ap (L.plus b) (exponents-cancel w) ∙ plus-none L b) in
+      let rest : at (fox_from b (w ++ inverse (l ∷ w))) m ≡ at inner m +ℤ at (fox_from b (flipped l ∷ [])) m =
+      ap (λ v. at v m) split ∙ at-append inner (fox_from b (flipped l ∷ [])) m in
       let gone : at inner m ≡ pos 0 = fox_from-cancel b w m in
       let pair : cond (same_point (term_by l.inv a l.g).1 m) (term_by l.inv a l.g).0 (pos 0) +ℤ at (fox_from b (flipped l ∷ [])) m ≡ pos 0 = fox_from-pair a l m in
       omega (arith, ints, rest, gone, pair)
@@ -202,5 +205,7 @@ module _ (L : Lattice) where
   pub fox_in-commutator : (u v : List Letter) → exponents u ≡ L.none → exponents v ≡ L.none → (m : Point) → at (fox_in (commutator u v)) m ≡ pos 0
   fox_in-commutator u v e f m =
       let uv : exponents (u ++ v) ≡ L.none = exponents-append u v ∙ ap (λ z. L.plus z (exponents v)) e ∙ L.none-plus (exponents v) ∙ f in
-      let uvu : exponents (u ++ v ++ inverse u) ≡ L.none = exponents-append (u ++ v) (inverse u) ∙ ap (λ z. L.plus z (exponents (inverse u))) uv ∙ L.none-plus (exponents (inverse u)) ∙ exponents-inverse u ∙ ap L.minus e ∙ minus-none L in
+      let uvu : exponents (u ++ v ++ inverse u) ≡ L.none =
+      exponents-append (u ++ v) (inverse u) ∙ ap (λ z. L.plus z (exponents (inverse u))) uv ∙ L.none-plus (exponents (inverse u)) ∙ exponents-inverse u ∙ ap L.minus e
+      ∙ minus-none L in
       omega (arith, ints, fox_in-level (u ++ v ++ inverse u) (inverse v) uvu m, fox_in-level (u ++ v) (inverse u) uv m, fox_in-level u v e m, fox_in-inverse_level u e m, fox_in-inverse_level v f m)

@@ -80,7 +80,8 @@ module _ (L : Lattice) (p : Presented) where
   pub passes_relator : (r : List Letter) → Contains p.relators r → Passes (exponents L r)
   passes_relator r listed c below = in_generator (binomial L (exponents L r) c) (relator_binomial r c listed below)
 
-  turned : (b d : Bool) → cond b (pos 1) (pos 0) +ℤ (cond d (negsuc 0) (pos 0) +ℤ pos 0) ≡ cond d (negsuc 0 *ℤ pos 1) (pos 0) +ℤ (cond b (negsuc 0 *ℤ negsuc 0) (pos 0) +ℤ pos 0)
+  turned : (b d : Bool)
+      → cond b (pos 1) (pos 0) +ℤ (cond d (negsuc 0) (pos 0) +ℤ pos 0) ≡ cond d (negsuc 0 *ℤ pos 1) (pos 0) +ℤ (cond b (negsuc 0 *ℤ negsuc 0) (pos 0) +ℤ pos 0)
   turned true true = refl
   turned true false = refl
   turned false true = refl
@@ -95,26 +96,8 @@ module _ (L : Lattice) (p : Presented) where
       ∙ (λ i. cond (same_point L (sym (L.minus-plus e) i, c) m) (negsuc 0 *ℤ pos 1) (pos 0) +ℤ (cond (same_point L (sym (plus-none L (L.minus e)) i, c) m) (negsuc 0 *ℤ negsuc 0) (pos 0) +ℤ pos 0)))
       (in_multiple (negsuc 0) (L.minus e) (binomial L e c) (h c below))
 
-  -- x^(a+b) - 1 is x^b·(x^a - 1) + (x^b - 1)
-  summed : (a b d : Bool) → cond a (pos 1) (pos 0) +ℤ (cond d (negsuc 0) (pos 0) +ℤ pos 0) ≡ cond a (pos 1 *ℤ pos 1) (pos 0) +ℤ (cond b (pos 1 *ℤ negsuc 0) (pos 0) +ℤ (cond b (pos 1) (pos 0) +ℤ (cond d (negsuc 0) (pos 0) +ℤ pos 0)))
-  summed true true true = refl
-  summed true true false = refl
-  summed true false true = refl
-  summed true false false = refl
-  summed false true true = refl
-  summed false true false = refl
-  summed false false true = refl
-  summed false false false = refl
-
-  pub passes_plus : (a b : L.Z) → Passes a → Passes b → Passes (L.plus a b)
-  passes_plus a b h k c below =
-      in_same (binomial L (L.plus a b) c) (scale (pos 1) (shift L b (binomial L a c)) ++ binomial L b c)
-      (λ m.
-      summed (same_point L (L.plus a b, c) m) (same_point L (b, c) m) (same_point L (L.none, c) m)
-      ∙ (λ i. cond (same_point L (L.plus_comm a b i, c) m) (pos 1 *ℤ pos 1) (pos 0) +ℤ (cond (same_point L (sym (plus-none L b) i, c) m) (pos 1 *ℤ negsuc 0) (pos 0) +ℤ at L (binomial L b c) m)))
-      (in_append (scale (pos 1) (shift L b (binomial L a c))) (binomial L b c) (in_multiple (pos 1) b (binomial L a c) (h c below)) (k c below))
-
-  passed : (q : ℤ) (b d : Bool) (x y s t : ℤ) → s ≡ x +ℤ (cond d (negsuc 0 *ℤ q) (pos 0) +ℤ y) → t ≡ x +ℤ y → cond b q (pos 0) +ℤ s ≡ cond b (q *ℤ pos 1) (pos 0) +ℤ (cond d (q *ℤ negsuc 0) (pos 0) +ℤ t)
+  passed : (q : ℤ) (b d : Bool) (x y s t : ℤ) → s ≡ x +ℤ (cond d (negsuc 0 *ℤ q) (pos 0) +ℤ y) → t ≡ x +ℤ y
+      → cond b q (pos 0) +ℤ s ≡ cond b (q *ℤ pos 1) (pos 0) +ℤ (cond d (q *ℤ negsuc 0) (pos 0) +ℤ t)
   passed q true true x y s t e f = omega (arith, ints)
   passed q true false x y s t e f = omega (arith, ints)
   passed q false true x y s t e f = omega (arith, ints)

@@ -146,14 +146,11 @@ pub unit_monomial-is : (g m : ℕ) → 2 * g + suc (suc m) ≡ VARIABLES → uni
 unit_monomial-is g m e =
     let zeros : List ℕ = replicate (2 * g) 0 in
     let second : variable (2 * g + 1) ≡ zeros ++ 0 ∷ 1 ∷ replicate m 0 =
-    variable-is (2 * g + 1) m (omega (arith, e)) ∙ ap (λ z. z ++ 1 ∷ replicate m 0) (sym (replicate-append-replicate (2 * g) 1 0)) ∙ append_assoc zeros (0 ∷ []) (1 ∷ replicate m 0) in
+    variable-is (2 * g + 1) m (omega (arith, e)) ∙ ap (λ z. z ++ 1 ∷ replicate m 0) (sym (replicate-append-replicate (2 * g) 1 0))
+    ∙ append_assoc zeros (0 ∷ []) (1 ∷ replicate m 0) in
     (λ i. product (variable-is (2 * g) (suc m) e i) (second i))
     ∙ product-append zeros zeros (1 ∷ 0 ∷ replicate m 0) (0 ∷ 1 ∷ replicate m 0) refl
     ∙ (λ i. zeros-product (2 * g) zeros (length-replicate (2 * g) 0) i ++ 1 ∷ 1 ∷ zeros-product m (replicate m 0) (length-replicate m 0) i)
-
-read-unit : (n g m : ℕ) (r : List ℕ) → read n r ≡ none n → read (suc n) (0 ∷ 0 ∷ r) ≡ none (suc n)
-unfolding read
-read-unit n g m r e = λ i. (pos 0, e i)
 
 pub read-zeros : (n k : ℕ) → read n (replicate k 0) ≡ none n
 unfolding read

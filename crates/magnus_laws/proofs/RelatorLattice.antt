@@ -87,7 +87,8 @@ module _ (L : Lattice) (p : Presented) where
     level a (more r b listed rest) w over e =
         let x : L.Z = exponents L r in
         let longer : List Letter = inverse r ++ w in
-        let lower : Levels longer = level b rest longer (IsOver-append (length p.names) (inverse r) w (IsOver-inverse (length p.names) r (relator_over p known r listed)) over)
+        let lower : Levels longer =
+        level b rest longer (IsOver-append (length p.names) (inverse r) w (IsOver-inverse (length p.names) r (relator_over p known r listed)) over)
         (exponents-append L (inverse r) w ∙ (λ i. L.plus (exponents-inverse L r i) (e i)) ∙ back L x b) in
         (lower.0, lower.1, lower.2, reaches_on p w longer lower.0 (in_front (inverse r) w (trivial_inverse_relator p r listed)) lower.3)
     level a (less r b listed rest) w over e =
@@ -103,7 +104,8 @@ module _ (L : Lattice) (p : Presented) where
         let product : Gathers p flat.0 = gather p flat.0 flat.1 (sums flat.0 flat.1 flat.2) in
         (product.0, product.1, reaches_on p w flat.0 product.0 flat.3 product.2)
 
-    pub lattice_words_commute : (u v : List Letter) → IsWordOver p u → IsWordOver p v → InRelatorLattice (exponents L u) → InRelatorLattice (exponents L v) → Commute p u v
+    pub lattice_words_commute : (u v : List Letter) → IsWordOver p u → IsWordOver p v → InRelatorLattice (exponents L u) → InRelatorLattice (exponents L v)
+        → Commute p u v
     lattice_words_commute u v ou ov iu iv =
         let a : Gathers p u = gathers u ou iu in
         let b : Gathers p v = gathers v ov iv in

@@ -12,9 +12,6 @@ use Rattle.magnus_laws.proofs.LatticeModule.{IsLatticeGenerator, relator_vector,
 use Rattle.magnus_laws.proofs.RelatorLattice.{Near, near_itself, near_on, near_back, near_plus, near_relator}
 
 module _ (L : Lattice) where
-  abbrev pub Pairs : Type 0
-  Pairs = List (L.Z × L.Z)
-
   -- pair by pair, what stands for the second stands for the first from then on
   abbrev pub representative : List (L.Z × L.Z) → L.Z → L.Z
   representative [] a = a
@@ -65,7 +62,8 @@ module _ (L : Lattice) where
     representative_near (e ∷ pairs) are a =
         by (L.same (representative pairs a) (representative pairs e.1)) refl (representative_near pairs are.1 a) (representative_near pairs are.1 e.0) (representative_near pairs are.1 e.1)
       where
-        by : (b : Bool) → L.same (representative pairs a) (representative pairs e.1) ≡ b → Near L p (representative pairs a) a → Near L p (representative pairs e.0) e.0 → Near L p (representative pairs e.1) e.1
+        by : (b : Bool) → L.same (representative pairs a) (representative pairs e.1) ≡ b → Near L p (representative pairs a) a → Near L p (representative pairs e.0) e.0
+            → Near L p (representative pairs e.1) e.1
             → Near L p (cond b (representative pairs e.0) (representative pairs a)) a
         by false test own first second = own
         by true test own first second =
@@ -85,7 +83,8 @@ module _ (L : Lattice) where
     unfolding generator_pairs
     generator_near t _ (relator_vector r listed) = (near_back L p (L.plus t (exponents L r)) t (near_relator L p t r listed), tt)
     generator_near t _ (relator_binomial r c listed below) =
-        let near : Near L p (L.plus t (exponents L r)) (L.plus t L.none) = subst (Near L p (L.plus t (exponents L r))) (sym (plus-none L t)) (near_relator L p t r listed) in
+        let near : Near L p (L.plus t (exponents L r)) (L.plus t L.none) =
+        subst (Near L p (L.plus t (exponents L r))) (sym (plus-none L t)) (near_relator L p t r listed) in
         (near, (near_plus L p (L.one_at c) (L.plus t (exponents L r)) (L.plus t L.none) near, tt))
     generator_near t _ (modulus_vector c some below) = tt
 

@@ -34,7 +34,8 @@ module _ (p : Presented) where
 -- where words write the elements of the lattice
 module _ (L : Lattice) (p : Presented) (known : IsPresented p) (sums : (w : List Letter) → IsWordOver p w → exponents L w ≡ L.none → (g : ℕ) → exponent_sum g w ≡ pos 0)
     (write : L.Z → List Letter) (write_over : (a : L.Z) → IsWordOver p (write a)) (write_exponents : (a : L.Z) → exponents L (write a) ≡ a) where
-  pub congruent_reaches : (p.modulus ≡ 1 → ⊥) → (u v : List Letter) → IsWordOver p u → IsWordOver p v → InModule L p (fox_in L u ++ scale (negsuc 0) (fox_in L v)) → Reaches p u v
+  pub congruent_reaches : (p.modulus ≡ 1 → ⊥) → (u v : List Letter) → IsWordOver p u → IsWordOver p v → InModule L p (fox_in L u ++ scale (negsuc 0) (fox_in L v))
+      → Reaches p u v
   congruent_reaches proper u v ou ov (s, sum, same) =
       let pairs : List (L.Z × L.Z) = sum_pairs L p s sum in
       let r : L.Z → L.Z = representative L pairs in

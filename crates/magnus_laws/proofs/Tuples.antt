@@ -76,7 +76,8 @@ given_from j (suc n) r f a within past =
     ∙ (λ i. (ap f (sym here) ∙ within 0 (omega arith)) i ∷ given_from (j + 1) n r f a.1 (λ g below. let next : j + 1 + g ≡ j + suc g = omega arith in ap f next ∙ within (suc g) (omega (arith, below))) (λ g h. past g (omega (arith, h))) i)
 
 -- the exponent sums of a word over n generators, of n + r in all
-pub sums_given : (n r : ℕ) (w : List Letter) → IsOver n w → map (λ g. exponent_sum g w) (range_with_len 0 (n + r)) ≡ entries n (exponents (tuples n) w) ++ replicate r (pos 0)
+pub sums_given : (n r : ℕ) (w : List Letter) → IsOver n w
+    → map (λ g. exponent_sum g w) (range_with_len 0 (n + r)) ≡ entries n (exponents (tuples n) w) ++ replicate r (pos 0)
 sums_given n r w over =
     given_from 0 n r (λ g. exponent_sum g w) (exponents (tuples n) w)
     (λ g below. let e : 0 + g ≡ g = omega arith in ap (λ k. exponent_sum k w) e ∙ sym (entry-exponents n w over g))

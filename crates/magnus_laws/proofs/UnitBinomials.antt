@@ -45,7 +45,8 @@ module _ (p : Presented) (few : length p.names ≤ GENERATORS) where
   abbrev pub CountAlike : List ℕ → List ℕ → Type 0
   CountAlike s t = (c : ℕ) → c < n → IsMember p (difference s t c)
 
-  between : (a b d : Bool) → cond a (pos 1) (pos 0) +ℤ (cond d (negsuc 0) (pos 0) +ℤ pos 0) ≡ cond a (pos 1) (pos 0) +ℤ (cond b (negsuc 0) (pos 0) +ℤ (cond b (pos 1) (pos 0) +ℤ (cond d (negsuc 0) (pos 0) +ℤ pos 0)))
+  between : (a b d : Bool)
+      → cond a (pos 1) (pos 0) +ℤ (cond d (negsuc 0) (pos 0) +ℤ pos 0) ≡ cond a (pos 1) (pos 0) +ℤ (cond b (negsuc 0) (pos 0) +ℤ (cond b (pos 1) (pos 0) +ℤ (cond d (negsuc 0) (pos 0) +ℤ pos 0)))
   between true true true = refl
   between true true false = refl
   between true false true = refl
@@ -60,7 +61,8 @@ module _ (p : Presented) (few : length p.names ≤ GENERATORS) where
       member_same p (difference s u c) (difference s t c ++ difference t u c) (λ x. between (here s c x) (here t c x) (here u c x))
       (member_sum p (difference s t c) (difference t u c) (h c below) (k c below))
 
-  swapped : (a b : Bool) → cond a (pos 1) (pos 0) +ℤ (cond b (negsuc 0) (pos 0) +ℤ pos 0) ≡ cond b (negsuc 0 *ℤ pos 1) (pos 0) +ℤ (cond a (negsuc 0 *ℤ negsuc 0) (pos 0) +ℤ pos 0)
+  swapped : (a b : Bool)
+      → cond a (pos 1) (pos 0) +ℤ (cond b (negsuc 0) (pos 0) +ℤ pos 0) ≡ cond b (negsuc 0 *ℤ pos 1) (pos 0) +ℤ (cond a (negsuc 0 *ℤ negsuc 0) (pos 0) +ℤ pos 0)
   swapped true true = refl
   swapped true false = refl
   swapped false true = refl
@@ -77,7 +79,8 @@ module _ (p : Presented) (few : length p.names ≤ GENERATORS) where
   alike_self : (s : List ℕ) → CountAlike s s
   alike_self s c below = member_same p (difference s s c) [] (λ x. cancelled (here s c x)) (member_nothing p)
 
-  times_one : (a b : Bool) → cond a (pos 1) (pos 0) +ℤ (cond b (negsuc 0) (pos 0) +ℤ pos 0) ≡ cond a (pos 1 *ℤ pos 1) (pos 0) +ℤ (cond b (pos 1 *ℤ negsuc 0) (pos 0) +ℤ pos 0)
+  times_one : (a b : Bool)
+      → cond a (pos 1) (pos 0) +ℤ (cond b (negsuc 0) (pos 0) +ℤ pos 0) ≡ cond a (pos 1 *ℤ pos 1) (pos 0) +ℤ (cond b (pos 1 *ℤ negsuc 0) (pos 0) +ℤ pos 0)
   times_one true true = refl
   times_one true false = refl
   times_one false true = refl
@@ -123,8 +126,11 @@ module _ (p : Presented) (few : length p.names ≤ GENERATORS) where
       let y : ℕ = negative_part z in
       let more : List ℕ = front ++ x ∷ y ∷ [] in
       let first : CountAlike (front ++ a ∷ b ∷ (s ++ back)) (front ++ x ∷ y ∷ (s ++ back)) = alike_pair g (omega (arith, all)) front a b (s ++ back) e long in
-      let long_more : HasVariables (more ++ (s ++ back)) = ap length (append_assoc front (x ∷ y ∷ []) (s ++ back)) ∙ omega (arith, long, length-append front (a ∷ b ∷ (s ++ back)), length-append front (x ∷ y ∷ (s ++ back))) in
-      let rest : CountAlike (more ++ (s ++ back)) (more ++ (parts k (read k s) ++ back)) = alike_parts (suc g) k (omega (arith, all)) more s back (omega (arith, e, length-append front (x ∷ y ∷ []))) (omega (arith, f)) long_more in
+      let long_more : HasVariables (more ++ (s ++ back)) =
+      ap length (append_assoc front (x ∷ y ∷ []) (s ++ back))
+      ∙ omega (arith, long, length-append front (a ∷ b ∷ (s ++ back)), length-append front (x ∷ y ∷ (s ++ back))) in
+      let rest : CountAlike (more ++ (s ++ back)) (more ++ (parts k (read k s) ++ back)) =
+      alike_parts (suc g) k (omega (arith, all)) more s back (omega (arith, e, length-append front (x ∷ y ∷ []))) (omega (arith, f)) long_more in
       alike_on (front ++ a ∷ b ∷ (s ++ back)) (front ++ x ∷ y ∷ (s ++ back)) (front ++ x ∷ y ∷ (parts k (read k s) ++ back)) first
       (subst (λ u. CountAlike u (front ++ x ∷ y ∷ (parts k (read k s) ++ back))) (append_assoc front (x ∷ y ∷ []) (s ++ back))
       (subst (λ u. CountAlike (more ++ (s ++ back)) u) (append_assoc front (x ∷ y ∷ []) (parts k (read k s) ++ back)) rest))
@@ -141,8 +147,11 @@ module _ (p : Presented) (few : length p.names ≤ GENERATORS) where
       let back : List ℕ = replicate k 0 in
       let s : List ℕ = product (parts n a) (parts n b) in
       let split : product (written n a) (written n b) ≡ s ++ back =
-      (λ i. product (written-parts n a i) (written-parts n b i)) ∙ product-append (parts n a) (parts n b) back back (length-parts n a ∙ sym (length-parts n b)) ∙ ap (λ z. s ++ z) (product-zeros k back (length-replicate k 0)) in
-      let long : HasVariables (s ++ back) = ap length (sym split) ∙ length-product VARIABLES (written n a) (written n b) (length-written n a few) (length-written n b few) in
-      let to : CountAlike (s ++ back) (parts n (read n s) ++ back) = alike_parts 0 n (omega arith) [] s back refl (length-product (2 * n) (parts n a) (parts n b) (length-parts n a) (length-parts n b)) long in
+      (λ i. product (written-parts n a i) (written-parts n b i)) ∙ product-append (parts n a) (parts n b) back back (length-parts n a ∙ sym (length-parts n b))
+      ∙ ap (λ z. s ++ z) (product-zeros k back (length-replicate k 0)) in
+      let long : HasVariables (s ++ back) =
+      ap length (sym split) ∙ length-product VARIABLES (written n a) (written n b) (length-written n a few) (length-written n b few) in
+      let to : CountAlike (s ++ back) (parts n (read n s) ++ back) =
+      alike_parts 0 n (omega arith) [] s back refl (length-product (2 * n) (parts n a) (parts n b) (length-parts n a) (length-parts n b)) long in
       subst (λ z. CountAlike (written n (plus n a b)) z) (sym split)
       (subst (λ z. CountAlike z (s ++ back)) (ap (λ z. parts n z ++ back) (read_product_of_parts a b) ∙ sym (written-parts n (plus n a b))) (alike_back (s ++ back) (parts n (read n s) ++ back) to))

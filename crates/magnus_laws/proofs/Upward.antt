@@ -47,7 +47,8 @@ module _ (p : Presented) (few : length p.names ≤ GENERATORS) where
   exponents_next : (u : List Letter) (l : Letter) → exponents (tuples n) (u ++ l ∷ []) ≡ plus n (exponents (tuples n) u) (step (tuples n) l)
   exponents_next u l = exponents-append (tuples n) u (l ∷ []) ∙ ap (plus n (exponents (tuples n) u)) (plus-none (tuples n) (step (tuples n) l))
 
-  term-up : (u : List Letter) (g : ℕ) (b : Bool) → IsWordOver p u → g < n → up_term n (term_by (tuples n) b (exponents (tuples n) u) g) ≡ letter_term u (record { g = g; inv = b })
+  term-up : (u : List Letter) (g : ℕ) (b : Bool) → IsWordOver p u → g < n
+      → up_term n (term_by (tuples n) b (exponents (tuples n) u) g) ≡ letter_term u (record { g = g; inv = b })
   term-up u g true over below =
       let l : Letter = record { g = g; inv = true } in
       let e : written n (plus n (exponents (tuples n) u) (step (tuples n) l)) ≡ image (u ++ l ∷ []) =
@@ -81,7 +82,8 @@ module _ (p : Presented) (few : length p.names ≤ GENERATORS) where
       (coefficient-append same_place v (scale (negsuc 0) second) x) (coefficient-append same_place v (scale (negsuc 0) w) x))
       (member_sum p this rest (member_scale p q (difference s t c) d) h)
     where
-      next : (q : ℤ) (a b : Bool) (x y s r : ℤ) → s ≡ x +ℤ (cond b (negsuc 0 *ℤ q) (pos 0) +ℤ y) → r ≡ x +ℤ y → cond a q (pos 0) +ℤ s ≡ cond a (q *ℤ pos 1) (pos 0) +ℤ (cond b (q *ℤ negsuc 0) (pos 0) +ℤ r)
+      next : (q : ℤ) (a b : Bool) (x y s r : ℤ) → s ≡ x +ℤ (cond b (negsuc 0 *ℤ q) (pos 0) +ℤ y) → r ≡ x +ℤ y
+          → cond a q (pos 0) +ℤ s ≡ cond a (q *ℤ pos 1) (pos 0) +ℤ (cond b (q *ℤ negsuc 0) (pos 0) +ℤ r)
       next q true true x y s r e f = omega (arith, ints)
       next q true false x y s r e f = omega (arith, ints)
       next q false true x y s r e f = omega (arith, ints)
@@ -118,7 +120,8 @@ module _ (p : Presented) (few : length p.names ≤ GENERATORS) where
         congruent_member p (rename (up n) (shift (tuples n) t g)) there (shift-up t g (components_of g is))
         (subst (IsMember p) (scale-one there) (member_of_generator p (pos 1) (written n t) (rename (up n) g) (length-written n t few) (generator-up g is)))
 
-    sum-up : (v : FormalSum (Point (tuples n))) → SumOfMultiples (shifted (tuples n)) (Anywhere (tuples n) p) (IsLatticeGenerator (tuples n) p) v → IsMember p (rename (up n) v)
+    sum-up : (v : FormalSum (Point (tuples n))) → SumOfMultiples (shifted (tuples n)) (Anywhere (tuples n) p) (IsLatticeGenerator (tuples n) p) v
+        → IsMember p (rename (up n) v)
     sum-up v (nothing) = member_nothing p
     sum-up v (more q t g rest moves is sum) =
         let this : FormalSum (Point (tuples n)) = shift (tuples n) t g in
