@@ -1,0 +1,14 @@
+//! The texts of monomials, places and vectors over the names of a presentation.
+//!
+//! Each value has one spelling. A vector is `0`, or its terms in falling order with one space between them, as
+//! `+2*a.b'@a -1*1@b`: coefficient, `*`, monomial, `@`, component.
+#![tactic(auto)]
+
+mod factors;
+mod monomials;
+mod places;
+mod vectors;
+
+pub use monomials::{put_mono, write_mono};
+pub use places::{put_place, write_place};
+pub use vectors::{put_vector, write_vector};

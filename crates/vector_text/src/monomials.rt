@@ -1,0 +1,55 @@
+//! The texts of monomials.
+
+ghost use Rattle.std.specs.Prelude.{◌≡◌, ◌++◌, [], codes, if◌then◌else◌, length, OnOk, IfOk};
+ghost use Rattle.vector_text.specs.Spelling.{monomial_text};
+ghost use Rattle.vector_text.specs.Over.{MonoIsOver};
+
+use crate::factors::{Factor, put_factor};
+use laurent_terms::Mono;
+use presentation::Presentation;
+use std::alloc::{AllocError, Global};
+
+/// The text of a monomial over the presentation's generators: `1`, or its factors in the order of the variables with
+/// points between them, as `a.a'.b'^3`, where `a'` is the variable that stands for the inverse of a.
+pub fn write_mono(alloc: Global, p: &Presentation, m: &Mono) -> Result<Vec<u8>, AllocError>
+    requires { MonoIsOver (length p.now.names) m.now }
+    ensures { IfOk result (λ text. text.items ≡ monomial_text p.now.names m.now) }
+{
+    let mut out = Vec::new(alloc);
+    put_mono(&mut out, p, m)?;
+    Ok(out)
+}
+
+/// Appends the text of a monomial over the presentation's generators.
+#[tactic(auto, using(crate::proofs::Writing::factor_left_out, crate::proofs::Writing::factor_written, crate::proofs::Writing::factors_end))]
+pub fn put_mono(out: &mut Vec<u8>, p: &Presentation, m: &Mono) -> Result<(), AllocError>
+    requires { MonoIsOver (length p.now.names) m.now }
+    ensures { OnOk result (out.new.items ≡ out.old.items ++ monomial_text p.now.names m.now) }
+{
+    p.known();
+    // The proof needs that this is a monomial, and the call says so.
+    let _ = m.degree();
+    let mut begun = false;
+    for variable in 0..2 * p.count() {
+        let exponent = m.exp(variable);
+        if exponent > 0 {
+            put_point(out, begun)?;
+            put_factor(out, p, Factor { variable, exponent })?;
+            begun = true;
+        }
+    }
+    if begun {
+        return Ok(());
+    }
+    out.extend_from_slice(b"1")
+}
+
+// Appends the point before a further factor.
+fn put_point(out: &mut Vec<u8>, begun: bool) -> Result<(), AllocError>
+    ensures { OnOk result (out.new.items ≡ out.old.items ++ (if begun then codes "." else [])) }
+{
+    if begun {
+        return out.extend_from_slice(b".");
+    }
+    Ok(())
+}

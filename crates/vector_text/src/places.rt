@@ -1,0 +1,30 @@
+//! The texts of places.
+
+ghost use Rattle.std.specs.Prelude.{◌≡◌, ◌++◌, length, OnOk, IfOk};
+ghost use Rattle.vector_text.specs.Spelling.{place_text};
+ghost use Rattle.vector_text.specs.Over.{PlaceIsOver};
+
+use crate::monomials::put_mono;
+use module_vec::Place;
+use presentation::Presentation;
+use std::alloc::{AllocError, Global};
+
+/// The text of a place over the presentation's generators: the monomial, `@`, and the name of the component.
+pub fn write_place(alloc: Global, p: &Presentation, at: &Place) -> Result<Vec<u8>, AllocError>
+    requires { PlaceIsOver (length p.now.names) at.now }
+    ensures { IfOk result (λ text. text.items ≡ place_text p.now.names at.now) }
+{
+    let mut out = Vec::new(alloc);
+    put_place(&mut out, p, at)?;
+    Ok(out)
+}
+
+/// Appends the text of a place over the presentation's generators.
+pub fn put_place(out: &mut Vec<u8>, p: &Presentation, at: &Place) -> Result<(), AllocError>
+    requires { PlaceIsOver (length p.now.names) at.now }
+    ensures { OnOk result (out.new.items ≡ out.old.items ++ place_text p.now.names at.now) }
+{
+    put_mono(out, p, &at.m)?;
+    out.extend_from_slice(b"@")?;
+    out.extend_from_slice(p.name(at.c).as_bytes())
+}
