@@ -1,6 +1,7 @@
--- A strictly falling sum with no zero coefficient has no more terms than any sum that is the same.
+-- A strictly falling sum with no zero coefficient has no more terms than any sum that is the same, and no other keys.
 use Rattle.std.proofs.Common.{◌≡◌, ◌≢◌, ◌<◌, ◌≤◌, Bool, true, false, if◌then◌else◌, ℤ, pos, ◌+ℤ◌, List, [], ◌∷◌, length, IsTrue, refl, sym, ap, subst, ◌∙◌, arith}
 use Rattle.std.proofs.Math.IntN.{+ℤ_idl}
+use Rattle.std.specs.List.{AllByRecursion}
 use Rattle.formal_sums.specs.FormalSum.{FormalSum, coefficient, Same, Falling, NonZero}
 use Rattle.formal_sums.specs.Keys.{IsEqualityTest, IsStrictOrder}
 use Rattle.formal_sums.proofs.Falling.{coefficient-above, coefficient-first}
@@ -60,21 +61,52 @@ module _ {K : Type 0} {eq : K → K → Bool} (test : IsEqualityTest eq) where
           rw f (h ∙ sym (+ℤ_idl (coefficient eq v x)))
       by false e h = ap (λ z. (if eq t.1 x then t.0 else pos 0) +ℤ z) h
 
-module _ {K : Type 0} {eq : K → K → Bool} (test : IsEqualityTest eq) {Below : K → K → Type 0} (order : IsStrictOrder Below) where
-  pub falling_shortest : (v w : FormalSum K) → Falling Below v → NonZero v → Same eq v w → length v ≤ length w
-  falling_shortest [] w f n e = omega arith
-  falling_shortest (t ∷ v) w f n e =
-      let first : coefficient eq w t.1 ≡ t.0 = sym (e t.1) ∙ coefficient-first test order t v f.0 in
-      let less = shorter test t.1 w (λ z. n.0 (sym first ∙ z)) in
-      let rest = falling_shortest v (without test t.1 w) f.1 n.1 (λ x. by x (eq x t.1) refl) in
-      omega (arith, less, rest)
+  all_without : (P : K → Type 0) (k : K) (v : FormalSum K) → AllByRecursion (λ t. P t.1) v → AllByRecursion (λ t. P t.1) (without k v)
+  all_without P k [] all = tt
+  all_without P k (t ∷ v) all = by (eq t.1 k) (all_without P k v all.1)
     where
-      by : (x : K) (b : Bool) → eq x t.1 ≡ b → coefficient eq v x ≡ coefficient eq (without test t.1 w) x
-      by x true c =
+      by : (b : Bool) → AllByRecursion (λ t. P t.1) (without k v) → AllByRecursion (λ t. P t.1) (if b then without k v else t ∷ without k v)
+      by true h = h
+      by false h = (all.0, h)
+
+  -- a key with a coefficient stands in the sum
+  key_found : (P : K → Type 0) (k : K) (v : FormalSum K) → coefficient eq v k ≢ pos 0 → AllByRecursion (λ t. P t.1) v → P k
+  key_found P k [] n all = absurd (n refl)
+  key_found P k (t ∷ v) n all = by (eq t.1 k) refl n (λ m. key_found P k v m all.1)
+    where
+      by : (b : Bool) → eq t.1 k ≡ b → ((if b then t.0 else pos 0) +ℤ coefficient eq v k ≢ pos 0) → (coefficient eq v k ≢ pos 0 → P k) → P k
+      by true e m rest = subst P (test.sound t.1 k e) all.0
+      by false e m rest = rest (λ z. m (+ℤ_idl (coefficient eq v k) ∙ z))
+
+module _ {K : Type 0} {eq : K → K → Bool} (test : IsEqualityTest eq) {Below : K → K → Type 0} (order : IsStrictOrder Below) where
+  -- without the first term on both sides the sums stay the same
+  same_rest : (t : ℤ × K) (v w : FormalSum K) → Falling Below (t ∷ v) → Same eq (t ∷ v) w → Same eq v (without test t.1 w)
+  same_rest t v w f e x = by (eq x t.1) refl
+    where
+      by : (b : Bool) → eq x t.1 ≡ b → coefficient eq v x ≡ coefficient eq (without test t.1 w) x
+      by true c =
           let is : x ≡ t.1 = test.sound x t.1 c in
           ap (coefficient eq v) is ∙ (coefficient-above test order t.1 v f.0 ∙ sym (ap (coefficient eq (without test t.1 w)) is ∙ coefficient-left_out test t.1 w))
-      by x false c =
+      by false c =
           let other : x ≡ t.1 → ⊥ = unlike test x t.1 c in
           let other' : eq t.1 x ≡ false = unlike_back test t.1 x (λ p. other (sym p)) (eq t.1 x) refl in
           let whole : coefficient eq (t ∷ v) x ≡ coefficient eq v x = rw other' (+ℤ_idl (coefficient eq v x)) in
           sym whole ∙ (e x ∙ sym (coefficient-kept test t.1 x w other))
+
+  first_coefficient : (t : ℤ × K) (v w : FormalSum K) → Falling Below (t ∷ v) → Same eq (t ∷ v) w → coefficient eq w t.1 ≡ t.0
+  first_coefficient t v w f e = sym (e t.1) ∙ coefficient-first test order t v f.0
+
+  pub falling_shortest : (v w : FormalSum K) → Falling Below v → NonZero v → Same eq v w → length v ≤ length w
+  falling_shortest [] w f n e = omega arith
+  falling_shortest (t ∷ v) w f n e =
+      let less = shorter test t.1 w (λ z. n.0 (sym (first_coefficient t v w f e) ∙ z)) in
+      let rest = falling_shortest v (without test t.1 w) f.1 n.1 (same_rest t v w f e) in
+      omega (arith, less, rest)
+
+  -- its keys are keys of every sum that is the same
+  pub falling_keys : (P : K → Type 0) (v w : FormalSum K) → Falling Below v → NonZero v → Same eq v w → AllByRecursion (λ t. P t.1) w → AllByRecursion (λ t. P t.1) v
+  falling_keys P [] w f n e all = tt
+  falling_keys P (t ∷ v) w f n e all = (
+    key_found test P t.1 w (λ z. n.0 (sym (first_coefficient t v w f e) ∙ z)) all,
+    falling_keys P v (without test t.1 w) f.1 n.1 (same_rest t v w f e) (all_without test P t.1 w all),
+  )

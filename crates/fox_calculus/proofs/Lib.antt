@@ -4,3 +4,4 @@ pub mod Short
 pub mod Puts
 pub mod Listed
 pub mod Members
+pub mod Over

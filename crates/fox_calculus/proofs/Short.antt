@@ -39,7 +39,7 @@ coefficient_small (t ∷ v) x =
     subst (λ n. unsigned_abs (coefficient_at (t ∷ v) x) ≤ n) (sym (sum_by-cons (λ t. unsigned_abs t.k) t v))
     (grows (same_place t.at x) t.k (coefficient_at v x) (sum_by (λ t. unsigned_abs t.k) v) (coefficient_small v x))
 
-nonzero : (v : List Term) → AllByRecursion IsTerm v → NonZero (sum_of v)
+pub nonzero : (v : List Term) → AllByRecursion IsTerm v → NonZero (sum_of v)
 nonzero [] h = tt
 nonzero (t ∷ v) h = (h.0.nonzero, nonzero v h.1)
 

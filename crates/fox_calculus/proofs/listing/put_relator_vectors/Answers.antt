@@ -9,7 +9,7 @@ loop-r-init c = puts_none c.args.made.now.items
 pub loop-r-preserved : goal.loop-r-preserved
 loop-r-preserved c =
     puts_item fox c.relators-r-items.result.now c.loop-r.r-index c.r-item.result _ c.args.made.now.items c.loop-r.made.items c.put.new.made.items c.loop-r-test.true
-    c.r-item.is c.loop-r.invariant (λ fs h. c.in_ok-put.ensures fs (fox c.r-item.result) c.in_ok-fox.ensures h)
+    c.r-item.is c.loop-r.invariant (λ fs h. c.in_ok-put.ensures fs (fox c.r-item.result) c.in_ok-fox.ensures.is h)
 
 pub returns : goal.returns
 returns c =
