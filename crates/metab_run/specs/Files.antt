@@ -7,7 +7,10 @@ use Rattle.word_text.specs.declared.fault.Fault.{Fault}
 use Rattle.word_text.specs.declared.fault.TextFault.{TextFault}
 use Rattle.word_text.specs.declared.fault.ReadFault as read
 use Rattle.word_text.specs.declared.fault.ReadFault.TheVariants as faults
-use Rattle.word_text.specs.Place.{placed}
+use Rattle.free_words.specs.declared.letter.Letter.{Letter}
+use Rattle.word_text.specs.Machine.{finding}
+use Rattle.word_text.specs.Place.{placed, word_text}
+use Rattle.presentation.specs.Presented.{Presented}
 use Rattle.metab_run.specs.declared.status.Status.TheVariants.{Done, ReadFault}
 use Rattle.metab_run.specs.Answers.{Answer, unread, too_long, refused}
 
@@ -71,3 +74,13 @@ abbrev pub WordGives : {X : Type 0} → Result X TextFault → Result X Halt →
 WordGives read (Ok x) = read ≡ Ok x
 WordGives read (Err (Says a)) = (f : TextFault) × (read ≡ Err f) × (a ≡ refused (codes "word") f)
 WordGives read (Err NoMemory) = Unit {0}
+
+-- the word of the command line as a text
+abbrev pub read_word : Presented → List ℕ → Result (List Letter) TextFault
+read_word p text = in_lines (word_text (finding p.names)) text
+
+-- what a command gives: the answer that is due, unless memory runs out
+abbrev pub CommandEnd : (Answer → Type 0) → Result Answer Halt → Type 0
+CommandEnd due (Ok a) = due a
+CommandEnd due (Err (Says a)) = due a
+CommandEnd due (Err NoMemory) = Unit {0}

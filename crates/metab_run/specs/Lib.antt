@@ -3,4 +3,5 @@ pub mod Words
 pub mod Files
 pub mod Ends
 pub mod Steps
+pub mod FoxAnswers
 pub mod Top

@@ -1,10 +1,5 @@
 -- What the command `steps` answers.
 use Rattle.std.specs.Prelude.{◌≡◌, ℕ, List, ◌++◌, Option, IfSome, Result, Ok, Err, codes, decimal}
-use Rattle.word_text.specs.declared.fault.TextFault.{TextFault}
-use Rattle.metab_run.specs.declared.answer.Halt.{Halt}
-use Rattle.metab_run.specs.declared.answer.Halt.TheVariants as halts
-use Rattle.word_text.specs.Machine.{finding}
-use Rattle.word_text.specs.Place.{word_text}
 use Rattle.presentation.specs.Presented.{Presented}
 use Rattle.presentation.specs.Reading.{presentation_text}
 use Rattle.free_words.specs.declared.letter.Letter.{Letter}
@@ -20,8 +15,8 @@ use Rattle.derivation.specs.Moves.{Trivial}
 use Rattle.metab_run.specs.declared.status.Status.TheVariants.{Done, Fails}
 use Rattle.metab_run.specs.declared.TheConstants.{PRESENTATION_BYTES, DERIVATION_BYTES}
 use Rattle.metab_run.specs.Answers.{Answer}
-use Rattle.metab_run.specs.Words.{Asked}
-use Rattle.metab_run.specs.Files.{in_lines, ReadLeads, FileLeads}
+use Rattle.metab_run.specs.Words.{StepsAsked}
+use Rattle.metab_run.specs.Files.{in_lines, read_word, ReadLeads, FileLeads}
 
 -- the name that a reason has in an answer
 abbrev pub reason_text : MoveReason → List ℕ
@@ -54,29 +49,19 @@ Shows (Err steps.NoMemory) a = ⊥
 abbrev pub MovesLead : Presented → List Letter → List Move → Answer → Type 0
 MovesLead p w moves a = (made : Result (Unit {0}) StepsFault) × StepsGive p w moves made × Shows made a
 
--- the word of the command line as a text
-abbrev pub read_word : Presented → List ℕ → Result (List Letter) TextFault
-read_word p text = in_lines (word_text (finding p.names)) text
-
 -- the presentation is known: the word is read, then the derivation, and then its moves are made
-abbrev pub WordLeads : Type 0 → (List ℕ → Option (List ℕ)) → Asked → Presented → Answer → Type 0
+abbrev pub WordLeads : Type 0 → (List ℕ → Option (List ℕ)) → StepsAsked → Presented → Answer → Type 0
 WordLeads counted under q p a =
     ReadLeads (codes "word") (read_word p q.word)
     (λ w. FileLeads counted DERIVATION_BYTES q.derivation (under q.derivation) (derivation_text p) (MovesLead p w)) a
 
 -- the answer that is due to `steps` over these texts; `counted` says that the shelf has counted a failure
-abbrev pub StepsLead : Type 0 → (List ℕ → Option (List ℕ)) → Asked → Answer → Type 0
+abbrev pub StepsLead : Type 0 → (List ℕ → Option (List ℕ)) → StepsAsked → Answer → Type 0
 StepsLead counted under q a =
     FileLeads counted PRESENTATION_BYTES q.presentation (under q.presentation) (in_lines presentation_text) (WordLeads counted under q) a
 
 -- the word that `steps` was asked about is trivial over the presentation that the file spells
-abbrev pub AskedTrivial : (List ℕ → Option (List ℕ)) → Asked → Type 0
+abbrev pub AskedTrivial : (List ℕ → Option (List ℕ)) → StepsAsked → Type 0
 AskedTrivial under q =
     IfSome (under q.presentation) (λ bytes. IfSome (under q.derivation) (λ _.
     (p : Presented) × (w : List Letter) × (in_lines presentation_text bytes ≡ Ok p) × (read_word p q.word ≡ Ok w) × Trivial p w))
-
--- what the command gives: the answer that is due, unless memory runs out
-abbrev pub StepsEnd : Type 0 → (List ℕ → Option (List ℕ)) → Asked → Result Answer Halt → Type 0
-StepsEnd counted under q (Ok a) = StepsLead counted under q a
-StepsEnd counted under q (Err (halts.Says a)) = StepsLead counted under q a
-StepsEnd counted under q (Err halts.NoMemory) = Unit {0}

@@ -4,6 +4,9 @@ use Rattle.std.specs.Str.{bytes_eq}
 use denote.Bor.{Bor}
 use Rattle.word_text.specs.Scan.{first_is}
 use Rattle.metab_run.specs.declared.words.StepsWords.{StepsWords}
+use Rattle.metab_run.specs.declared.words.FoxWords.{FoxWords}
+use Rattle.metab_run.specs.declared.words.Command.{Command}
+use Rattle.metab_run.specs.declared.words.Command.TheVariants as commands
 
 -- a word that begins with `-` and is longer than one byte asks for an option
 abbrev pub is_option : List ℕ → Bool
@@ -22,20 +25,49 @@ arguments (w ∷ ws) =
 abbrev pub shown : List (Bor (List ℕ)) → List (List ℕ)
 shown ws = map (λ w. w.now) ws
 
--- what the words ask for: the command `steps` with a presentation's name, a word and a derivation's name
-pub record Asked : Type 0 where
+-- what `steps` is asked: a presentation's name, a word and a derivation's name
+pub record StepsAsked : Type 0 where
   pub presentation : List ℕ
   pub word : List ℕ
   pub derivation : List ℕ
 
-abbrev pub three : List (List ℕ) → Option Asked
+-- what `fox` is asked: a presentation's name and a word
+pub record FoxAsked : Type 0 where
+  pub presentation : List ℕ
+  pub word : List ℕ
+
+-- a command with what it is asked
+pub data Asked : Type 0 where
+  Steps : StepsAsked → Asked
+  Fox : FoxAsked → Asked
+
+abbrev pub three : List (List ℕ) → Option StepsAsked
 three (p ∷ w ∷ d ∷ []) = Some (record { presentation = p; word = w; derivation = d })
 three _ = None
 
-abbrev pub steps_words : List (List ℕ) → Option Asked
-steps_words [] = None
-steps_words (command ∷ ws) = if bytes_eq command (codes "steps") then option_and_then three (arguments ws) else None
+abbrev pub two : List (List ℕ) → Option FoxAsked
+two (p ∷ w ∷ []) = Some (record { presentation = p; word = w })
+two _ = None
+
+-- the command of this name, where its arguments are of its form
+abbrev pub command_of : List ℕ → List (List ℕ) → Option Asked
+command_of name ws =
+    if bytes_eq name (codes "steps") then option_map Steps (three ws)
+    else if bytes_eq name (codes "fox") then option_map Fox (two ws)
+    else None
+
+-- what the words of the command line ask for: its first word is a command's name
+abbrev pub command : List (List ℕ) → Option Asked
+command [] = None
+command (name ∷ ws) = option_and_then (command_of name) (arguments ws)
 
 -- what the code holds of them
-abbrev pub asked : StepsWords → Asked
-asked w = record { presentation = w.presentation.now; word = w.word.now; derivation = w.derivation.now }
+abbrev pub steps_asked : StepsWords → StepsAsked
+steps_asked w = record { presentation = w.presentation.now; word = w.word.now; derivation = w.derivation.now }
+
+abbrev pub fox_asked : FoxWords → FoxAsked
+fox_asked w = record { presentation = w.presentation.now; word = w.word.now }
+
+abbrev pub asked : Command → Asked
+asked (commands.Steps w) = Steps (steps_asked w)
+asked (commands.Fox w) = Fox (fox_asked w)

@@ -1,17 +1,19 @@
 //! Texts under names, read whole.
 
-ghost use Rattle.std.specs.Prelude.{◌≡◌, ℕ, ◌≤◌, List, IfOk, IfErr, All};
+ghost use Rattle.std.specs.Prelude.{◌≡◌, ℕ, ◌≤◌, List, length, IfOk, IfErr, All};
 ghost use Rattle.mb_io.specs.Shelf.{CountRose};
 ghost use Rattle.presentation.specs.Reading.{presentation_text};
 ghost use Rattle.derivation.specs.Making.{IsInsertOver};
 ghost use Rattle.derivation.specs.Reading.{derivation_text};
-ghost use Rattle.metab_run.specs.Files.{Loaded, FileGives, HasCause, Refuses, in_lines};
+ghost use Rattle.presentation.specs.Presented.{IsWritten};
+ghost use Rattle.metab_run.specs.Files.{Loaded, FileGives, HasCause, Refuses, WordGives, in_lines, read_word};
 
 use crate::answer::{Answer, Halt};
 use crate::{DERIVATION_BYTES, PRESENTATION_BYTES};
 use derivation::{Move, read_derivation};
 use mb_io::{LoadFault, Shelf, read_all};
-use presentation::{Presentation, read_presentation};
+use free_words::Word;
+use presentation::{Presentation, read_presentation, read_word};
 use std::alloc::Global;
 use word_text::ReadFault;
 
@@ -79,5 +81,17 @@ pub fn load_derivation<S: Shelf>(
     match read_derivation(alloc, p, &text) {
         Ok(moves) => Ok(moves),
         Err(fault) => Err(refusal(alloc, name, &fault)),
+    }
+}
+
+/// The word of the command line, over a presentation.
+pub fn command_word(alloc: Global, p: &Presentation, text: &str) -> Result<Word, Halt>
+    ensures gives { WordGives (read_word p.now text.now) result }
+    ensures cause { IfErr result (HasCause ⊥) }
+    ensures over { IfOk result (λ w. IsWritten (length p.now.names) w) }
+{
+    match read_word(alloc, p, text.as_bytes()) {
+        Ok(w) => Ok(w),
+        Err(fault) => Err(refusal(alloc, "word", &fault)),
     }
 }

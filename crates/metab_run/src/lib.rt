@@ -3,6 +3,7 @@
 
 mod answer;
 mod files;
+mod fox;
 mod status;
 mod steps;
 #[cfg(test)]

@@ -3,19 +3,16 @@
 ghost use Rattle.std.specs.Prelude.{◌≡◌, ◌≢◌, ℕ, ◌≤◌, List, length, IfOk, IfErr, IsOk};
 ghost use Rattle.mb_io.specs.Shelf.{CountRose};
 ghost use Rattle.derivation.specs.Making.{StepsGive};
-ghost use Rattle.metab_run.specs.Steps.{reason_text, trivial, Shows, read_word, StepsEnd, AskedTrivial};
-ghost use Rattle.metab_run.specs.Files.{WordGives, HasCause};
-ghost use Rattle.metab_run.specs.Words.{asked};
-ghost use Rattle.presentation.specs.Presented.{IsWritten};
+ghost use Rattle.metab_run.specs.Steps.{reason_text, trivial, Shows, StepsLead, AskedTrivial};
+ghost use Rattle.metab_run.specs.Files.{CommandEnd, HasCause};
+ghost use Rattle.metab_run.specs.Words.{steps_asked};
 
 use crate::answer::{Answer, Halt};
-use crate::files::{load_derivation, load_presentation, refusal};
+use crate::files::{command_word, load_derivation, load_presentation};
 use crate::status::Status;
 use crate::words::StepsWords;
 use derivation::{MoveReason, StepsFault, check_steps};
-use free_words::Word;
 use mb_io::Shelf;
-use presentation::{Presentation, read_word};
 use std::alloc::{AllocError, Global};
 
 // The name of a reason in an answer.
@@ -54,29 +51,17 @@ fn shown(alloc: Global, made: Result<(), StepsFault>) -> Result<Answer, AllocErr
     Ok(Answer::new(status, text.into_bytes()))
 }
 
-// The word of the command line.
-fn word(alloc: Global, p: &Presentation, text: &str) -> Result<Word, Halt>
-    ensures gives { WordGives (read_word p.now text.now) result }
-    ensures cause { IfErr result (HasCause ⊥) }
-    ensures over { IfOk result (λ w. IsWritten (length p.now.names) w) }
-{
-    match read_word(alloc, p, text.as_bytes()) {
-        Ok(w) => Ok(w),
-        Err(fault) => Err(refusal(alloc, "word", &fault)),
-    }
-}
-
 /// The answer to `steps` over these texts.
 pub fn steps<S: Shelf>(alloc: Global, shelf: &mut S, words: &StepsWords) -> Result<Answer, Halt>
-    ensures exact { StepsEnd (CountRose (S.faults shelf.old) (S.faults shelf.new)) (S.under shelf.old) (asked words.now) result }
-    ensures trivial { IfOk result (λ a. a.status ≡ Status.Done → AskedTrivial (S.under shelf.old) (asked words.now)) }
+    ensures exact { CommandEnd (StepsLead (CountRose (S.faults shelf.old) (S.faults shelf.new)) (S.under shelf.old) (steps_asked words.now)) result }
+    ensures trivial { IfOk result (λ a. a.status ≡ Status.Done → AskedTrivial (S.under shelf.old) (steps_asked words.now)) }
     ensures read { IfOk result (λ a. a.status ≢ Status.ReadFault) }
     ensures cause { IfErr result (HasCause (CountRose (S.faults shelf.old) (S.faults shelf.new))) }
     ensures same { (n : List ℕ) → S.under shelf.new n ≡ S.under shelf.old n }
     ensures later { S.faults shelf.old ≤ S.faults shelf.new }
 {
     let p = load_presentation(alloc, shelf, words.presentation)?;
-    let w = word(alloc, &p, words.word)?;
+    let w = command_word(alloc, &p, words.word)?;
     let moves = load_derivation(alloc, shelf, &p, words.derivation)?;
     let answer = shown(alloc, check_steps(alloc, &p, &w, &moves))?;
     Ok(answer)

@@ -2,14 +2,15 @@
 
 ghost use Rattle.std.specs.Prelude.{◌≡◌, ℕ, ◌≤◌, List, IfOk, map, string_bytes};
 ghost use Rattle.mb_io.specs.Shelf.{CountRose};
-ghost use Rattle.metab_run.specs.Words.{steps_words};
+ghost use Rattle.metab_run.specs.Words.{command};
 ghost use Rattle.metab_run.specs.Ends.{Ends};
 ghost use Rattle.metab_run.specs.Top.{IsDue, ShownTrivial};
 
 use crate::answer::{Answer, Halt};
+use crate::fox::fox;
 use crate::status::Status;
 use crate::steps::steps;
-use crate::words::steps_words;
+use crate::words::{Command, read_command};
 use crate::writing::deliver;
 use mb_io::{Shelf, Sink};
 use std::alloc::{AllocError, Global};
@@ -17,14 +18,18 @@ use std::alloc::{AllocError, Global};
 // The answer that is due to these words.
 fn answer<S: Shelf>(alloc: Global, words: &[String], shelf: &mut S) -> Result<Answer, AllocError>
     ensures due { IfOk result (λ a. IsDue (CountRose (S.faults shelf.old) (S.faults shelf.new)) (S.under shelf.old) (map string_bytes words.now) a) }
-    ensures trivial { IfOk result (λ a. a.status ≡ Status.Done → ShownTrivial (S.under shelf.old) (steps_words (map string_bytes words.now))) }
+    ensures trivial { IfOk result (λ a. a.status ≡ Status.Done → ShownTrivial (S.under shelf.old) (command (map string_bytes words.now))) }
     ensures cause { IfOk result (λ a. a.status ≡ Status.ReadFault → CountRose (S.faults shelf.old) (S.faults shelf.new)) }
     ensures later { S.faults shelf.old ≤ S.faults shelf.new }
 {
-    let Some(asked) = steps_words(alloc, words)? else {
+    let Some(asked) = read_command(alloc, words)? else {
         return Answer::refused_words(alloc);
     };
-    match steps(alloc, shelf, &asked) {
+    let answered = match asked {
+        Command::Steps(words) => steps(alloc, shelf, &words),
+        Command::Fox(words) => fox(alloc, shelf, &words),
+    };
+    match answered {
         Ok(answer) => Ok(answer),
         Err(Halt::Says(answer)) => Ok(answer),
         Err(Halt::NoMemory) => Err(AllocError),
@@ -48,7 +53,7 @@ pub fn metab_alone<S: Shelf, K: Sink>(
         (CountRose (K.faults out.old) (K.faults out.new)) (K.taken out.old) (K.taken out.new) result }
 
     // `steps` says yes only to a word that moves carry to the empty word.
-    ensures trivial { result ≡ Status.Done → ShownTrivial (S.under shelf.old) (steps_words (map string_bytes words.now)) }
+    ensures trivial { result ≡ Status.Done → ShownTrivial (S.under shelf.old) (command (map string_bytes words.now)) }
 
     // A read fault is answered only where the shelf has counted one, and a write fault where the sink has.
     ensures read_fault { result ≡ Status.ReadFault → CountRose (S.faults shelf.old) (S.faults shelf.new) }

@@ -1,7 +1,7 @@
 //! The words of the command line.
 
 ghost use Rattle.std.specs.Prelude.{◌≡◌, ◌++◌, map, string_bytes, option_map, IfOk, OnOk};
-ghost use Rattle.metab_run.specs.Words.{is_option, arguments, three, steps_words, shown, asked};
+ghost use Rattle.metab_run.specs.Words.{is_option, arguments, three, two, command_of, command, shown, steps_asked, fox_asked, asked};
 
 use std::alloc::{AllocError, Global};
 
@@ -11,6 +11,20 @@ pub struct StepsWords<'a> {
     pub presentation: &'a str,
     pub word: &'a str,
     pub derivation: &'a str,
+}
+
+/// What the command `fox` is asked: the name of a presentation, and a word.
+#[derive(Clone, Copy)]
+pub struct FoxWords<'a> {
+    pub presentation: &'a str,
+    pub word: &'a str,
+}
+
+/// A command with what it is asked.
+#[derive(Clone, Copy)]
+pub enum Command<'a> {
+    Steps(StepsWords<'a>),
+    Fox(FoxWords<'a>),
 }
 
 // Whether the word asks for an option.
@@ -53,7 +67,7 @@ fn arguments<'a>(alloc: Global, words: &'a [String]) -> Result<Option<Vec<&'a st
 
 // Three arguments, as `steps` wants them.
 fn three<'a>(words: &[&'a str]) -> Option<StepsWords<'a>>
-    ensures { option_map asked result ≡ three (shown words.now) }
+    ensures { option_map steps_asked result ≡ three (shown words.now) }
 {
     match words {
         [presentation, word, derivation] => Some(StepsWords {
@@ -65,18 +79,38 @@ fn three<'a>(words: &[&'a str]) -> Option<StepsWords<'a>>
     }
 }
 
-/// What the words ask of the command `steps`, if that is the command and they are of its form.
-pub fn steps_words(alloc: Global, words: &[String]) -> Result<Option<StepsWords<'_>>, AllocError>
-    ensures { IfOk result (λ found. option_map asked found ≡ steps_words (map string_bytes words.now)) }
+// Two arguments, as `fox` wants them.
+fn two<'a>(words: &[&'a str]) -> Option<FoxWords<'a>>
+    ensures { option_map fox_asked result ≡ two (shown words.now) }
 {
-    let Some((command, rest)) = words.split_first() else {
+    match words {
+        [presentation, word] => Some(FoxWords { presentation, word }),
+        _ => None,
+    }
+}
+
+// The command of this name, if its arguments are of its form.
+fn command_of<'a>(name: &str, words: &[&'a str]) -> Option<Command<'a>>
+    ensures { option_map asked result ≡ command_of name.now (shown words.now) }
+{
+    if name == "steps" {
+        Some(Command::Steps(three(words)?))
+    } else if name == "fox" {
+        Some(Command::Fox(two(words)?))
+    } else {
+        None
+    }
+}
+
+/// What the words ask for, if there is such a command and they are of its form.
+pub fn read_command(alloc: Global, words: &[String]) -> Result<Option<Command<'_>>, AllocError>
+    ensures { IfOk result (λ found. option_map asked found ≡ command (map string_bytes words.now)) }
+{
+    let Some((name, rest)) = words.split_first() else {
         return Ok(None);
     };
-    if command.as_str() != "steps" {
-        return Ok(None);
-    }
     match arguments(alloc, rest)? {
         None => Ok(None),
-        Some(found) => Ok(three(&found)),
+        Some(found) => Ok(command_of(name.as_str(), &found)),
     }
 }

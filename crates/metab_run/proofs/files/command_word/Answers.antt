@@ -3,7 +3,7 @@ use Rattle.word_text.specs.declared.fault.ReadFault.{ReadFault}
 use Rattle.word_text.specs.Machine.{finding}
 use Rattle.word_text.specs.Place.{word_text, ReadsText}
 use Rattle.metab_run.proofs.Wording.{word_refused}
-use Rattle.metab_run.proofs.steps.word.Goals as goal
+use Rattle.metab_run.proofs.files.command_word.Goals as goal
 
 pub returns-in-Err : goal.returns-in-Err
 returns-in-Err c =
