@@ -115,3 +115,7 @@ room_each t (e ∷ g) f h = (h, each g f.0)
     each : (w : List Term) → Below e.at w → AllByRecursion (λ u. degree t + degree u.at.m ≤ DEGREE) w
     each [] below = tt
     each (u ∷ w) below = (omega (arith, h, below_degree u.at e.at below.0), each w below.1)
+
+pub lead_degree : (e : Term) (g : List Term) → Below e.at g → AllByRecursion (λ t. degree t.at.m ≤ degree e.at.m) g
+lead_degree e [] below = tt
+lead_degree e (t ∷ g) below = (below_degree t.at e.at below.0, lead_degree e g below.1)

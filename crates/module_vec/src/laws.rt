@@ -1,8 +1,10 @@
 //! The laws of vectors, as contracts of functions that do nothing: what the calls of this crate give can be relied on to
 //! stand for finite maps, and the reduction of a vector to have one course.
 
-ghost use Rattle.std.specs.Prelude.{◌≡◌, ℕ, ◌↔◌, ◌≤ℤ◌, List, length};
+ghost use Rattle.std.specs.Prelude.{◌≡◌, ◌∷◌, ◌≤◌, ℕ, ◌↔◌, ◌≤ℤ◌, List, length};
 ghost use Rattle.std.specs.Cmp.{IsTotalOrder};
+ghost use Rattle.std.specs.List.{AllByRecursion};
+ghost use Rattle.laurent_terms.specs.Monomials.{degree};
 ghost use Rattle.std.specs.declared.cmp.Ordering.TheVariants.{Equal};
 ghost use Rattle.module_vec.specs.declared.places.Place.{Place};
 ghost use Rattle.module_vec.specs.declared.places.Term.{Term};
@@ -26,6 +28,11 @@ pub fn order_is_kept_by_multiples()
 /// A vector is determined by its coefficients.
 pub fn coefficients_determine_vectors()
     ensures { (v w : List Term) → IsSparse v → IsSparse w → ((x : Place) → coefficient_at v x ≡ coefficient_at w x) → v ≡ w }
+{}
+
+/// The lead of a vector has its greatest degree.
+pub fn leads_have_the_greatest_degree()
+    ensures { (e : Term) (g : List Term) → IsSparse (e ∷ g) → AllByRecursion (λ t. degree t.at.m ≤ degree e.at.m) g }
 {}
 
 /// A place has at most one reducer, and no entry that reduces the place has a smaller lead coefficient.

@@ -22,9 +22,14 @@ pub struct Term {
 
 impl Place {
     /// The stated order: the greater monomial, and at one monomial the greater component.
+    #[inline]
     pub fn compare(&self, other: &Place) -> Ordering
         ensures { result ≡ place_cmp self.now other.now }
     {
-        self.cmp(other)
+        // Most comparisons end at the degree.
+        match self.m.degree().cmp(&other.m.degree()) {
+            Ordering::Equal => self.cmp(other),
+            unequal => unequal,
+        }
     }
 }

@@ -18,7 +18,7 @@ pub fn sum(alloc: Global, list: &[Term]) -> Result<Vec<Term>, VecFault>
         (FailsBy (SumIsWide f)) }
 {
     let mut sorted = Vec::from_slice(alloc, list)?;
-    sorted.sort_unstable_by(|a, b| b.at.compare(&a.at));
+    sorted.sort_by(|a, b| b.at.compare(&a.at))?;
     collect(alloc, sorted.as_slice())
 }
 
