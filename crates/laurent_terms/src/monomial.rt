@@ -120,7 +120,11 @@ impl Mono {
     pub fn compare(&self, other: &Mono) -> Ordering
         ensures { result ≡ mono_cmp self.now other.now }
     {
-        self.cmp(other)
+        // Most monomials differ in degree, and then no exponent is looked at.
+        match self.total.cmp(&other.total) {
+            Ordering::Equal => self.cmp(other),
+            unequal => unequal,
+        }
     }
 
     /// The degree of the least common multiple, which may pass [`DEGREE`].

@@ -168,6 +168,38 @@ fn steps_are_made_or_refused(rt: HostRuntime) -> Result<(), Fail> {
 }
 
 #[test]
+fn words_have_fox_vectors(rt: HostRuntime) -> Result<(), Fail> {
+    let alloc = rt.alloc();
+    for (p, w, text) in [
+        ("<a,b|>", "1", "word 1\nfox 0\n"),
+        ("<a|>", "a a^-1 a", "word a\nfox +1*1@a\n"),
+        (
+            "<a,b|>",
+            "[a,b]",
+            "word a b a^-1 b^-1\nfox +1*a@b -1*b@a -1*1@b +1*1@a\n",
+        ),
+        (
+            "<a,b|>",
+            DOUBLE,
+            "word a b a^-1 b^-1 a^2 b a^-1 b^-1 a^-1 b a^2 b^-1 a^-2\nfox 0\n",
+        ),
+        (
+            "<a,t | t a t^-1 a^-2>",
+            "t a t^-1 a^-2",
+            "word t a t^-1 a^-2\nfox -1*a@t -1*a'@a +1*t@a +1*1@t -1*1@a\n",
+        ),
+    ] {
+        let words = words(alloc, &["fox", "p", w])?;
+        let mut shelf = shelf(alloc, p.as_bytes(), b"", &[])?;
+        let mut out = sink(alloc, &[])?;
+        let status = metab_alone(alloc, words.as_slice(), &mut shelf, &mut out);
+        assert!(rt; out.taken() == text.as_bytes(), "{w}");
+        assert!(rt; status == Status::Done, "{w}");
+    }
+    Ok(())
+}
+
+#[test]
 fn texts_are_refused_at_their_first_fault(rt: HostRuntime) -> Result<(), Fail> {
     let refused = [
         ("<a | a c>", "1", "", "p line 1 column 8 unknown-name"),
@@ -241,7 +273,7 @@ fn texts_are_refused_at_their_first_fault(rt: HostRuntime) -> Result<(), Fail> {
 #[test]
 fn words_outside_the_table_are_refused(rt: HostRuntime) -> Result<(), Fail> {
     let alloc = rt.alloc();
-    let lines: [&[&str]; 9] = [
+    let lines: [&[&str]; 12] = [
         &[],
         &["step"],
         &["steps"],
@@ -249,6 +281,9 @@ fn words_outside_the_table_are_refused(rt: HostRuntime) -> Result<(), Fail> {
         &["steps", "p", "1", "d", "e"],
         &["steps", "--help", "p", "1", "d"],
         &["steps", "-x", "1", "d"],
+        &["fox", "p"],
+        &["fox", "p", "1", "d"],
+        &["fox", "--", "p"],
         &["run", "--workers", "0", "p", "q"],
         &["solo", "p"],
     ];
