@@ -2,7 +2,7 @@
 
 use super::{fox, generators};
 use laurent_terms::Mono;
-use module_vec::ModVec;
+use module_vec::{ModVec, Term};
 use presentation::{read_presentation, read_word};
 use std::alloc::Global;
 
@@ -24,12 +24,21 @@ fn counts(alloc: Global, p: &str) -> Option<(usize, usize)> {
     Some((made.len(), first.terms().len()))
 }
 
+fn is(t: &Term, row: &Row) -> bool {
+    let (exponents, c, k) = *row;
+    exponents.len() <= 24
+        && Mono::of_exponents(exponents) == Some(t.at.m)
+        && t.at.c == c
+        && t.k == k
+}
+
 fn has(v: &ModVec, rows: &[Row]) -> bool {
+    for (t, row) in v.terms().iter().zip(rows) {
+        if !is(t, row) {
+            return false;
+        }
+    }
     v.terms().len() == rows.len()
-        && v.terms().iter().zip(rows).all(|(t, row)| {
-            let (exponents, c, k) = *row;
-            Mono::of_exponents(exponents) == Some(t.at.m) && t.at.c == c && t.k == k
-        })
 }
 
 #[test]

@@ -11,8 +11,8 @@ ghost use Rattle.metab_run.specs.Files.{Loaded, FileGives, HasCause, Refuses, Wo
 use crate::answer::{Answer, Halt};
 use crate::{DERIVATION_BYTES, PRESENTATION_BYTES};
 use derivation::{Move, read_derivation};
-use mb_io::{LoadFault, Shelf, read_all};
 use free_words::Word;
+use mb_io::{LoadFault, Shelf, read_all};
 use presentation::{Presentation, read_presentation, read_word};
 use std::alloc::Global;
 use word_text::ReadFault;
