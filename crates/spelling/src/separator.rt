@@ -1,6 +1,6 @@
 //! Cutting a text at a separator.
 
-ghost use Rattle.std.specs.Prelude.{◌≡◌, ◌<◌, option_map, length, IfSome};
+ghost use Rattle.std.specs.Prelude.{◌≡◌, ◌<◌, ℕ, List, ◌∷◌, option_map, length, IfSome, MatchOption};
 ghost use Rattle.spelling.specs.Spelling.{cut, first_part};
 
 /// What stands before the first byte `separator` of the text, and what stands behind it; None where there is no such byte.
@@ -29,5 +29,15 @@ pub fn first_part(text: &[u8], separator: u8) -> (&[u8], Option<&[u8]>)
     match cut(text, separator) {
         Some((front, rest)) => (front, Some(rest)),
         None => (text, None),
+    }
+}
+
+/// What stands behind the first byte of the text, where that is `byte`.
+pub fn after_byte(text: &[u8], byte: u8) -> Option<&[u8]>
+    ensures { MatchOption result ((rest : List ℕ) → text.now ≡ byte ∷ rest → ⊥) (λ rest. text.now ≡ byte ∷ rest.now) }
+{
+    match text.split_first() {
+        Some((first, rest)) if *first == byte => Some(rest),
+        _ => None,
     }
 }

@@ -1,8 +1,13 @@
 -- Monomials, places and vectors over so many generators.
 use Rattle.std.specs.List.{AllByRecursion}
 use Rattle.std.specs.Prelude.{◌≡◌, ℕ, ◌*◌, ◌<◌, ◌≤◌, List, slice_index}
+use Rattle.laurent_terms.specs.declared.TheConstants.{DEGREE}
+use Rattle.laurent_terms.specs.Monomials.{IsMonomial}
 use Rattle.module_vec.specs.declared.places.Place.{Place}
 use Rattle.module_vec.specs.declared.places.Term.{Term}
+use Rattle.module_vec.specs.Places.{IsPlace}
+use Rattle.module_vec.specs.Vectors.{IsVector}
+use Rattle.vector_text.specs.declared.factors.Factor.{Factor}
 
 -- each variable of another generator has the exponent 0
 abbrev pub MonoIsOver : ℕ → List ℕ → Type 0
@@ -15,3 +20,27 @@ pub record PlaceIsOver (n : ℕ) (p : Place) : Type 0 where
 
 abbrev pub VectorIsOver : ℕ → List Term → Type 0
 VectorIsOver n v = AllByRecursion (λ t. PlaceIsOver n t.at) v
+
+-- what a Mono over n generators holds
+pub record IsMonoOf (n : ℕ) (s : List ℕ) : Type 0 where
+  pub mono : IsMonomial s
+  pub over : MonoIsOver n s
+
+-- what a Place over n generators holds
+pub record IsPlaceOf (n : ℕ) (p : Place) : Type 0 where
+  pub place : IsPlace p
+  pub over : PlaceIsOver n p
+
+-- what a ModVec over n generators holds
+pub record IsVectorOf (n : ℕ) (v : List Term) : Type 0 where
+  pub vector : IsVector v
+  pub over : VectorIsOver n v
+
+-- the exponent of a factor
+abbrev pub IsExponent : ℕ → Type 0
+IsExponent e = (0 < e) × (e ≤ DEGREE)
+
+-- a factor over n generators
+pub record IsFactorOf (n : ℕ) (f : Factor) : Type 0 where
+  pub variable : f.variable < 2 * n
+  pub exponent : IsExponent f.exponent

@@ -1,11 +1,15 @@
 //! Factors: a variable and its exponent.
 
 ghost use Rattle.std.specs.Prelude.{◌≡◌, ◌<◌, ◌*◌, ◌++◌, length, OnOk};
+ghost use Rattle.spelling.specs.Spelling.{IsRead};
 ghost use Rattle.vector_text.specs.Spelling.{variable_text, exponent_text, factor_text};
+ghost use Rattle.vector_text.specs.Over.{IsExponent, IsFactorOf};
 
+use laurent_terms::DEGREE;
 use presentation::Presentation;
-use spelling::write_number;
+use spelling::{after_byte, read_number, write_number};
 use std::alloc::AllocError;
+use word_text::split_name;
 
 /// A power of the variable numbered `variable`: x_g has the number 2g, and y_g, which stands for its inverse, 2g + 1.
 #[derive(Clone, Copy)]
@@ -42,4 +46,44 @@ fn put_exponent(out: &mut Vec<u8>, exponent: u16) -> Result<(), AllocError>
     }
     out.extend_from_slice(b"^")?;
     write_number(out, u32::from(exponent))
+}
+
+/// The factor that the text spells.
+#[tactic(auto, using(crate::proofs::FactorTexts::no_generator, crate::proofs::FactorTexts::no_inverse_exponent, crate::proofs::FactorTexts::no_exponent, crate::proofs::FactorTexts::inverse_read, crate::proofs::FactorTexts::factor_read))]
+pub fn read_factor(p: &Presentation, text: &[u8]) -> Option<Factor>
+    ensures { IsRead (factor_text p.now.names) (IsFactorOf (length p.now.names)) text.now result }
+{
+    p.known();
+    let (name, rest) = split_name(text);
+    let g = p.generator(name)?;
+    if let Some(rest) = after_byte(rest, b'\'') {
+        let exponent = read_exponent(rest)?;
+        return Some(Factor {
+            variable: 2 * g + 1,
+            exponent,
+        });
+    }
+    let exponent = read_exponent(rest)?;
+    Some(Factor {
+        variable: 2 * g,
+        exponent,
+    })
+}
+
+#[tactic(auto, using(crate::proofs::FactorTexts::no_number, crate::proofs::FactorTexts::no_hat, crate::proofs::FactorTexts::one_written, crate::proofs::FactorTexts::past_degree, crate::proofs::FactorTexts::exponent_read))]
+fn read_exponent(text: &[u8]) -> Option<u16>
+    ensures { IsRead exponent_text IsExponent text.now result }
+{
+    if text.is_empty() {
+        return Some(1);
+    }
+    let digits = after_byte(text, b'^')?;
+    let exponent = read_number(digits)?;
+    if exponent < 2 {
+        return None;
+    }
+    if exponent > DEGREE {
+        return None;
+    }
+    Some(exponent as u16)
 }
