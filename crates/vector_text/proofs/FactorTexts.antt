@@ -1,5 +1,5 @@
 -- The texts of factors.
-use Rattle.std.proofs.Common.{◌≡◌, ◌≢◌, ◌⊎◌, inl, inr, ℕ, zero, suc, ◌+◌, ◌*◌, ◌/◌, ◌%◌, ◌<◌, ◌≤◌, ◌^◌, ◌==◌, Bool, true, false, if◌then◌else◌, List, [], ◌∷◌, ◌++◌, length, take, drop, Option, Some, None, decimal, codes, refl, sym, ap, subst, ◌∙◌, arith, append_assoc, append-nil}
+use Rattle.std.proofs.Common.{◌≡◌, ℕ, zero, suc, ◌+◌, ◌*◌, ◌/◌, ◌%◌, ◌<◌, ◌≤◌, ◌^◌, ◌==◌, Bool, true, false, if◌then◌else◌, List, [], ◌∷◌, ◌++◌, length, take, drop, Option, Some, None, decimal, refl, sym, ap, subst, ◌∙◌, arith, append_assoc, append-nil}
 use Rattle.std.proofs.lemmas.Bool.Decides.{nat_tests}
 use Rattle.std.proofs.lemmas.Option.{none-some, same_Some}
 use Rattle.laurent_terms.specs.declared.TheConstants.{DEGREE}
@@ -17,7 +17,7 @@ use Rattle.presentation.proofs.WritingEnds.{hat_no_name}
 use Rattle.presentation.proofs.WritingNames.{name_holds, name_taken, name_left, name_found}
 use Rattle.presentation.proofs.WritingBack.{AreNames}
 use Rattle.vector_text.specs.declared.factors.Factor.{Factor}
-use Rattle.vector_text.specs.Spelling.{variable_text, exponent_text, factor_text}
+use Rattle.vector_text.specs.Spelling.{exponent_text, factor_text}
 use Rattle.vector_text.specs.Over.{IsExponent, IsFactorOf}
 
 -- what stands behind `^`
@@ -207,13 +207,15 @@ odd_half g = (omega arith, grind (arith, nat_tests))
 pub inverse_read : (names : List (List ℕ)) → AreNames names → (text rest : List ℕ) (g e : ℕ) → finding names (name_at text) ≡ Some g → g < length names → after_name text ≡ 39 ∷ rest
     → IsRead exponent_text IsExponent rest (Some e) → IsRead (factor_text names) (IsFactorOf (length names)) text (Some (record { variable = 2 * g + 1; exponent = e }))
 inverse_read names known text rest g e found lt is good =
-    let a = odd_half g in
-    (record { variable = omega arith; exponent = good.0 },
-    named text ∙ rw (name_is names (name_at text) g found, is, good.1, a.0, a.1) (sym (append_assoc (name_of names g) (39 ∷ []) (exponent_text e))))
+    let a = odd_half g in (
+      record { variable = omega arith; exponent = good.0 },
+      named text ∙ rw (name_is names (name_at text) g found, is, good.1, a.0, a.1) (sym (append_assoc (name_of names g) (39 ∷ []) (exponent_text e))),
+    )
 
 pub factor_read : (names : List (List ℕ)) → AreNames names → (text : List ℕ) (g e : ℕ) → finding names (name_at text) ≡ Some g → g < length names
     → IsRead exponent_text IsExponent (after_name text) (Some e) → IsRead (factor_text names) (IsFactorOf (length names)) text (Some (record { variable = 2 * g; exponent = e }))
 factor_read names known text g e found lt good =
-    let a = even_half g in
-    (record { variable = omega arith; exponent = good.0 },
-    named text ∙ rw (name_is names (name_at text) g found, good.1, a.0, a.1, append-nil (name_of names g)) refl)
+    let a = even_half g in (
+      record { variable = omega arith; exponent = good.0 },
+      named text ∙ rw (name_is names (name_at text) g found, good.1, a.0, a.1, append-nil (name_of names g)) refl,
+    )

@@ -5,7 +5,7 @@ use Rattle.std.specs.List.{AllByRecursion}
 use Rattle.spelling.specs.Spelling.{IsRead, cut, parted, first_part}
 use Rattle.spelling.proofs.Cuts.{cut_here, cut_joins}
 use Rattle.spelling.proofs.Lacking.{Lacks, not_cut}
-use Rattle.presentation.specs.Writing.{joined, led_by}
+use Rattle.presentation.specs.Writing.{joined}
 
 -- spellings without the byte c, each of one valid value
 pub record IsApart {X : Type 0} (c : ℕ) (spelling : X → List ℕ) (IsValid : X → Type 0) : Type 0 where

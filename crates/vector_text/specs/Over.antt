@@ -1,6 +1,6 @@
 -- Monomials, places and vectors over so many generators.
 use Rattle.std.specs.List.{AllByRecursion}
-use Rattle.std.specs.Prelude.{◌≡◌, ℕ, ◌*◌, ◌<◌, ◌≤◌, List, slice_index}
+use Rattle.std.specs.Prelude.{◌≡◌, ℕ, ◌*◌, ◌<◌, ◌≤◌, List, length, slice_index}
 use Rattle.laurent_terms.specs.declared.TheConstants.{DEGREE}
 use Rattle.laurent_terms.specs.Monomials.{IsMonomial}
 use Rattle.module_vec.specs.declared.places.Place.{Place}
@@ -8,6 +8,7 @@ use Rattle.module_vec.specs.declared.places.Term.{Term}
 use Rattle.module_vec.specs.Places.{IsPlace}
 use Rattle.module_vec.specs.Vectors.{IsVector}
 use Rattle.vector_text.specs.declared.factors.Factor.{Factor}
+use Rattle.vector_text.specs.Spelling.{factors_from}
 
 -- each variable of another generator has the exponent 0
 abbrev pub MonoIsOver : ℕ → List ℕ → Type 0
@@ -25,6 +26,11 @@ VectorIsOver n v = AllByRecursion (λ t. PlaceIsOver n t.at) v
 pub record IsMonoOf (n : ℕ) (s : List ℕ) : Type 0 where
   pub mono : IsMonomial s
   pub over : MonoIsOver n s
+
+-- the same, with a factor
+pub record IsProductOf (n : ℕ) (s : List ℕ) : Type 0 where
+  pub mono : IsMonoOf n s
+  pub some : 0 < length (factors_from 0 s)
 
 -- what a Place over n generators holds
 pub record IsPlaceOf (n : ℕ) (p : Place) : Type 0 where

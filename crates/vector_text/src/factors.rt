@@ -1,11 +1,12 @@
 //! Factors: a variable and its exponent.
 
-ghost use Rattle.std.specs.Prelude.{◌≡◌, ◌<◌, ◌*◌, ◌++◌, length, OnOk};
+ghost use Rattle.std.specs.Prelude.{◌≡◌, ◌<◌, ◌*◌, ◌++◌, length, slice_set, replicate, pos, unsigned_abs, OnOk, IfSome};
+ghost use Rattle.laurent_terms.specs.Monomials.{one, monomial_of, MadeWithin, IsMonomial};
 ghost use Rattle.spelling.specs.Spelling.{IsRead};
 ghost use Rattle.vector_text.specs.Spelling.{variable_text, exponent_text, factor_text};
 ghost use Rattle.vector_text.specs.Over.{IsExponent, IsFactorOf};
 
-use laurent_terms::DEGREE;
+use laurent_terms::{DEGREE, Mono, VARIABLES};
 use presentation::Presentation;
 use spelling::{after_byte, read_number, write_number};
 use std::alloc::AllocError;
@@ -86,4 +87,31 @@ fn read_exponent(text: &[u8]) -> Option<u16>
         return None;
     }
     Some(exponent as u16)
+}
+
+/// The factor as a monomial, or `None` where its exponent passes [`DEGREE`].
+#[tactic(auto, using(crate::proofs::Powers::even_power, crate::proofs::Powers::odd_power))]
+pub fn power(f: Factor) -> Option<Mono>
+    requires variable { f.variable < VARIABLES }
+    requires some { 0 < f.exponent }
+    ensures made { MadeWithin f.exponent (slice_set one f.variable f.exponent) result }
+    ensures monomial { IfSome result IsMonomial }
+{
+    let exponent = i32::from(f.exponent);
+    if f.variable % 2 == 0 {
+        return signed_power(f.variable / 2, exponent);
+    }
+    signed_power(f.variable / 2, -exponent)
+}
+
+// The monomial of an integer vector with one number that isn't 0.
+#[tactic(auto, using(crate::proofs::Powers::total_set))]
+fn signed_power(g: u8, exponent: i32) -> Option<Mono>
+    requires { 2 * g < VARIABLES }
+    ensures made { MadeWithin (unsigned_abs exponent) (monomial_of (slice_set (replicate 24 (pos 0)) g exponent)) result }
+    ensures monomial { IfSome result IsMonomial }
+{
+    let mut exponents = [0; VARIABLES / 2];
+    exponents[usize::from(g)] = exponent;
+    Mono::of_exponents(&exponents)
 }

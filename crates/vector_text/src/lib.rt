@@ -5,10 +5,12 @@
 #![tactic(auto)]
 
 mod factors;
+mod fault;
 mod monomials;
 mod places;
 mod vectors;
 
-pub use monomials::{put_mono, write_mono};
+pub use fault::SpellFault;
+pub use monomials::{put_mono, read_mono, write_mono};
 pub use places::{put_place, write_place};
 pub use vectors::{put_vector, write_vector};

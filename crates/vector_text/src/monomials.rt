@@ -1,12 +1,16 @@
 //! The texts of monomials.
 
 ghost use Rattle.std.specs.Prelude.{◌≡◌, ◌++◌, [], codes, if◌then◌else◌, length, OnOk, IfOk};
-ghost use Rattle.vector_text.specs.Spelling.{monomial_text};
-ghost use Rattle.vector_text.specs.Over.{MonoIsOver};
+ghost use Rattle.vector_text.specs.Spelling.{factors_text, monomial_text};
+ghost use Rattle.vector_text.specs.Over.{MonoIsOver, IsMonoOf, IsProductOf};
+ghost use Rattle.vector_text.specs.Reading.{Reads};
+ghost use Rattle.spelling.specs.Spelling.{IsRead};
 
-use crate::factors::{Factor, put_factor};
+use crate::SpellFault;
+use crate::factors::{Factor, power, put_factor, read_factor};
 use laurent_terms::Mono;
 use presentation::Presentation;
+use spelling::first_part;
 use std::alloc::{AllocError, Global};
 
 /// The text of a monomial over the presentation's generators: `1`, or its factors in the order of the variables with
@@ -42,6 +46,48 @@ pub fn put_mono(out: &mut Vec<u8>, p: &Presentation, m: &Mono) -> Result<(), All
         return Ok(());
     }
     out.extend_from_slice(b"1")
+}
+
+/// The monomial over the presentation's generators that the text spells, or `Spelling` where it is no monomial's.
+pub fn read_mono(p: &Presentation, text: &[u8]) -> Result<Mono, SpellFault>
+    ensures { Reads (monomial_text p.now.names) (IsMonoOf (length p.now.names)) text.now result }
+{
+    match mono_of(p, text) {
+        Some(m) => Ok(m),
+        None => Err(SpellFault::Spelling),
+    }
+}
+
+/// The monomial that the text spells.
+pub fn mono_of(p: &Presentation, text: &[u8]) -> Option<Mono>
+    ensures { IsRead (monomial_text p.now.names) (IsMonoOf (length p.now.names)) text.now result }
+{
+    if text == b"1".as_slice() {
+        return Some(Mono::one());
+    }
+    product_of(p, text)
+}
+
+// The product of the factors that the text spells, in the order of their variables.
+fn product_of(p: &Presentation, text: &[u8]) -> Option<Mono>
+    ensures { IsRead (factors_text p.now.names) (IsProductOf (length p.now.names)) text.now result }
+{
+    p.known();
+    let mut made = Mono::one();
+    let mut next = 0;
+    let mut left = Some(text);
+    while let Some(rest) = left {
+        let (front, after) = first_part(rest, b'.');
+        let factor = read_factor(p, front)?;
+        if factor.variable < next {
+            return None;
+        }
+        let power = power(factor)?;
+        made = made.times(&power)?;
+        next = factor.variable + 1;
+        left = after;
+    }
+    Some(made)
 }
 
 // Appends the point before a further factor.
