@@ -192,7 +192,7 @@ unfolding name_at after_name
 named text = sym (whole (prefix_len is_name_byte text) text)
 
 -- the generator that is found has this name
-name_is : (names : List (List ℕ)) (name : List ℕ) (g : ℕ) → finding names name ≡ Some g → name ≡ name_of names g
+pub name_is : (names : List (List ℕ)) (name : List ℕ) (g : ℕ) → finding names name ≡ Some g → name ≡ name_of names g
 name_is names name g e =
     let P : Option ℕ → Type 0 = IsNumberOf names name in
     let h = subst P e (finding_first names name) in

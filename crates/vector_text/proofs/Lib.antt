@@ -4,3 +4,6 @@ pub mod FactorTexts
 pub mod FactorLists
 pub mod Powers
 pub mod MonomialTexts
+pub mod PlaceTexts
+pub mod TermTexts
+pub mod VectorTexts

@@ -8,19 +8,20 @@ use Rattle.laurent_terms.specs.declared.TheConstants.{VARIABLES, DEGREE}
 use Rattle.laurent_terms.specs.Monomials.{one, degree, product, IsMonomial}
 use Rattle.spelling.specs.Spelling.{IsRead, first_part}
 use Rattle.spelling.proofs.Lacking.{Lacks, lacks_append, apart, decimal_lacks}
-use Rattle.word_text.specs.Scan.{is_name_byte, is_letter, is_digit}
+use Rattle.word_text.specs.Scan.{is_name_byte, is_letter, is_digit, mark_of, mark_byte}
+use Rattle.word_text.specs.declared.scan.Mark.TheVariants as marks
 use Rattle.presentation.specs.Presented.{IsName}
-use Rattle.presentation.specs.Writing.{joined, name_of}
+use Rattle.presentation.specs.Writing.{joined, led_by, name_of}
 use Rattle.presentation.proofs.WritingBytes.{Passes}
 use Rattle.presentation.proofs.WritingEnds.{name_byte_other}
-use Rattle.presentation.proofs.WritingNames.{name_holds, name_passes}
+use Rattle.presentation.proofs.WritingNames.{name_holds, name_passes, name_marked}
 use Rattle.presentation.proofs.WritingBack.{AreNames}
 use Rattle.vector_text.specs.declared.factors.Factor.{Factor}
 use Rattle.vector_text.specs.Spelling.{variable_text, exponent_text, factor_text, factors_from, product_text, monomial_text, factors_text}
 use Rattle.vector_text.specs.Over.{MonoIsOver, IsMonoOf, IsProductOf, IsFactorOf}
-use Rattle.vector_text.proofs.Parts.{IsApart, Leaves, goes_on, unread, read_next}
+use Rattle.vector_text.proofs.Parts.{IsApart, Leaves, listed, goes_on, unread, read_next, listed_same, listed_lacks, all_weaker}
 use Rattle.vector_text.proofs.FactorTexts.{factor_same}
-use Rattle.vector_text.proofs.FactorLists.{factor, factors_valid, total, total-append, total_is, rises, factor_more, product_set}
+use Rattle.vector_text.proofs.FactorLists.{factor, factors_valid, factors_same, total, total-append, total_is, rises, factor_more, product_set}
 
 -- a byte that stands in no factor
 pub record IsSeparator (c : ℕ) : Type 0 where
@@ -200,3 +201,38 @@ product_none names text other bad = λ s h e. by s h e (some_or_none (length (fa
   by : (s : List ℕ) → IsMonoOf (length names) s → text ≡ monomial_text names s → (length (factors_from 0 s) ≡ 0) ⊎ (0 < length (factors_from 0 s)) → ⊥
   by s h e (inl none) = other (e ∙ none_is names (factors_from 0 s) none)
   by s h e (inr some) = bad s (record { mono = h; some = some }) (e ∙ product_is names (factors_from 0 s) some)
+
+not_digit_one : (c : ℕ) → (c < 48) ⊎ (57 < c) → (49 == c) ≡ false
+not_digit_one c (inl lt) = apart 49 c (λ e. omega (arith, lt, e))
+not_digit_one c (inr lt) = apart 49 c (λ e. omega (arith, lt, e))
+
+-- a monomial's text lacks each byte that isn't its factors' or their separator
+pub monomial_lacks : (c : ℕ) (names : List (List ℕ)) (s : List ℕ) → IsSeparator c → 46 ≢ c → AreNames names → IsMonoOf (length names) s → Lacks c (monomial_text names s)
+monomial_lacks c names s o ne known h = by (factors_from 0 s) (valid (length names) s h.mono h.over) where
+  by : (fs : List Factor) → AllByRecursion (IsFactorHere names) fs → Lacks c (product_text (map (factor_text names) fs))
+  by [] k = (not_digit_one c o.digit, tt)
+  by (f ∷ fs) k = listed_lacks c 46 (factor_text names) (f ∷ fs) ne (all_weaker (f ∷ fs) (λ g q. factor_lacks c names g o known q) k)
+
+first_marked : (names : List (List ℕ)) (f : Factor) (fs : List Factor) → AreNames names → IsFactorOf (length names) f → mark_of (listed 46 (factor_text names) (f ∷ fs)) ≡ marks.Letter
+first_marked names f fs known h =
+    let below : f.variable / 2 < length names = omega (arith, h.variable) in
+    let tick : List ℕ = if f.variable % 2 == 0 then [] else 39 ∷ [] in
+    let more : List ℕ = led_by (46 ∷ []) (map (factor_text names) fs) in
+    let is : listed 46 (factor_text names) (f ∷ fs) ≡ name_of names (f.variable / 2) ++ (tick ++ (exponent_text f.exponent ++ more)) = simp append_assoc in
+    ap mark_of is ∙ name_marked (name_of names (f.variable / 2)) (tick ++ (exponent_text f.exponent ++ more)) (name_holds IsName names (f.variable / 2) known.each below)
+
+one_marked : mark_of (49 ∷ []) ≡ marks.One
+unfolding mark_byte is_letter
+one_marked = refl
+
+-- a text is that of one monomial
+pub monomial_same : (names : List (List ℕ)) → AreNames names → (s t : List ℕ) → IsMonoOf (length names) s → IsMonoOf (length names) t → monomial_text names s ≡ monomial_text names t → s ≡ t
+monomial_same names known s t h k e =
+    factors_same 0 s t (h.mono.variables ∙ sym k.mono.variables)
+    (by (factors_from 0 s) (factors_from 0 t) (valid (length names) s h.mono h.over) (valid (length names) t k.mono k.over) e) where
+  by : (fs gs : List Factor) → AllByRecursion (IsFactorHere names) fs → AllByRecursion (IsFactorHere names) gs
+      → product_text (map (factor_text names) fs) ≡ product_text (map (factor_text names) gs) → fs ≡ gs
+  by [] [] p q e' = refl
+  by [] (g ∷ gs) p q e' = let m : marks.One ≡ marks.Letter = sym one_marked ∙ ap mark_of e' ∙ first_marked names g gs known q.0 in cc
+  by (f ∷ fs) [] p q e' = let m : marks.One ≡ marks.Letter = sym one_marked ∙ ap mark_of (sym e') ∙ first_marked names f fs known p.0 in cc
+  by (f ∷ fs) (g ∷ gs) p q e' = listed_same 46 (factor_text names) (IsFactorHere names) (factors_apart names known) (f ∷ fs) (g ∷ gs) p q (ap Some e')

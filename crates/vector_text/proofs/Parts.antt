@@ -1,11 +1,11 @@
 -- Texts of values with a separator between each two, read from the first value on.
-use Rattle.std.proofs.Common.{◌≡◌, ℕ, ◌<◌, List, [], ◌∷◌, ◌++◌, length, map, Option, Some, None, refl, sym, ap, subst, ◌∙◌, arith, append_assoc, append-nil}
+use Rattle.std.proofs.Common.{◌≡◌, ◌≢◌, ℕ, ◌<◌, List, [], ◌∷◌, ◌++◌, length, map, Option, Some, None, refl, sym, ap, subst, ◌∙◌, arith, append_assoc, append-nil}
 use Rattle.std.proofs.lemmas.Option.{none-some}
 use Rattle.std.specs.List.{AllByRecursion}
 use Rattle.spelling.specs.Spelling.{IsRead, cut, parted, first_part}
 use Rattle.spelling.proofs.Cuts.{cut_here, cut_joins}
-use Rattle.spelling.proofs.Lacking.{Lacks, not_cut}
-use Rattle.presentation.specs.Writing.{joined}
+use Rattle.spelling.proofs.Lacking.{Lacks, lacks_append, apart, not_cut}
+use Rattle.presentation.specs.Writing.{joined, led_by}
 
 -- spellings without the byte c, each of one valid value
 pub record IsApart {X : Type 0} (c : ℕ) (spelling : X → List ℕ) (IsValid : X → Type 0) : Type 0 where
@@ -147,3 +147,27 @@ read_next c spelling IsValid apart text rest front after made xs x h e all_made 
     let n = next_is c spelling IsValid apart text rest front after made xs h e all_made all_xs some is in
     let same : n.next ≡ x = apart.one n.next x n.valid good.0 (sym n.text ∙ good.1) in
     (n.more, rw (← same) n.split)
+
+-- lists of valid values with one text are one list
+pub listed_same : {X : Type 0} (c : ℕ) (spelling : X → List ℕ) (IsValid : X → Type 0) → IsApart c spelling IsValid → (xs ys : List X)
+    → AllByRecursion IsValid xs → AllByRecursion IsValid ys → others c spelling xs ≡ others c spelling ys → xs ≡ ys
+listed_same c spelling IsValid apart [] [] h k e = refl
+listed_same c spelling IsValid apart [] (y ∷ ys) h k e = absurd (none-some (listed c spelling (y ∷ ys)) e)
+listed_same c spelling IsValid apart (x ∷ xs) [] h k e = absurd (none-some (listed c spelling (x ∷ xs)) (sym e))
+listed_same c spelling IsValid apart (x ∷ xs) (y ∷ ys) h k e =
+    let both = pair_same (sym (first_listed c spelling x xs (apart.lacks x h.0)) ∙ ap (first_part c) (some_same e) ∙ first_listed c spelling y ys (apart.lacks y k.0)) in
+    let first : x ≡ y = apart.one x y h.0 k.0 both.0 in
+    let rest : xs ≡ ys = listed_same c spelling IsValid apart xs ys h.1 k.1 both.1 in cc (first, rest)
+
+led_lacks : {X : Type 0} (b c : ℕ) (spelling : X → List ℕ) (xs : List X) → c ≢ b → AllByRecursion (λ x. Lacks b (spelling x)) xs → Lacks b (led_by (c ∷ []) (map spelling xs))
+led_lacks b c spelling [] ne h = tt
+led_lacks b c spelling (x ∷ xs) ne h = (apart c b ne, lacks_append b (spelling x) (led_by (c ∷ []) (map spelling xs)) h.0 (led_lacks b c spelling xs ne h.1))
+
+-- a byte that stands in no value's spelling and is not the separator
+pub listed_lacks : {X : Type 0} (b c : ℕ) (spelling : X → List ℕ) (xs : List X) → c ≢ b → AllByRecursion (λ x. Lacks b (spelling x)) xs → Lacks b (listed c spelling xs)
+listed_lacks b c spelling [] ne h = tt
+listed_lacks b c spelling (x ∷ xs) ne h = lacks_append b (spelling x) (led_by (c ∷ []) (map spelling xs)) h.0 (led_lacks b c spelling xs ne h.1)
+
+pub all_weaker : {X : Type 0} {P Q : X → Type 0} (xs : List X) → ((x : X) → P x → Q x) → AllByRecursion P xs → AllByRecursion Q xs
+all_weaker [] f h = tt
+all_weaker (x ∷ xs) f h = (f x h.0, all_weaker xs f h.1)

@@ -47,3 +47,7 @@ term_text names t = coefficient t.k ++ (codes "*" ++ place_text names t.at)
 abbrev pub vector_text : List (List ℕ) → List Term → List ℕ
 vector_text names [] = codes "0"
 vector_text names (t ∷ v) = joined (codes " ") (map (term_text names) (t ∷ v))
+
+-- the same without the `0`
+abbrev pub terms_text : List (List ℕ) → List Term → List ℕ
+terms_text names v = joined (codes " ") (map (term_text names) v)

@@ -8,9 +8,10 @@ mod factors;
 mod fault;
 mod monomials;
 mod places;
+mod terms;
 mod vectors;
 
 pub use fault::SpellFault;
 pub use monomials::{put_mono, read_mono, write_mono};
-pub use places::{put_place, write_place};
-pub use vectors::{put_vector, write_vector};
+pub use places::{put_place, read_place, write_place};
+pub use vectors::{put_vector, read_vector, write_vector};

@@ -2,11 +2,15 @@
 
 ghost use Rattle.std.specs.Prelude.{◌≡◌, ◌++◌, length, OnOk, IfOk};
 ghost use Rattle.vector_text.specs.Spelling.{place_text};
-ghost use Rattle.vector_text.specs.Over.{PlaceIsOver};
+ghost use Rattle.spelling.specs.Spelling.{IsRead};
+ghost use Rattle.vector_text.specs.Over.{PlaceIsOver, IsPlaceOf};
+ghost use Rattle.vector_text.specs.Reading.{Reads};
 
-use crate::monomials::put_mono;
+use crate::SpellFault;
+use crate::monomials::{mono_of, put_mono};
 use module_vec::Place;
 use presentation::Presentation;
+use spelling::cut;
 use std::alloc::{AllocError, Global};
 
 /// The text of a place over the presentation's generators: the monomial, `@`, and the name of the component.
@@ -27,4 +31,26 @@ pub fn put_place(out: &mut Vec<u8>, p: &Presentation, at: &Place) -> Result<(), 
     put_mono(out, p, &at.m)?;
     out.extend_from_slice(b"@")?;
     out.extend_from_slice(p.name(at.c).as_bytes())
+}
+
+/// The place over the presentation's generators that the text spells, or `Spelling` where it is no place's.
+pub fn read_place(p: &Presentation, text: &[u8]) -> Result<Place, SpellFault>
+    ensures { Reads (place_text p.now.names) (IsPlaceOf (length p.now.names)) text.now result }
+{
+    match place_of(p, text) {
+        Some(at) => Ok(at),
+        None => Err(SpellFault::Spelling),
+    }
+}
+
+/// The place that the text spells.
+
+pub fn place_of(p: &Presentation, text: &[u8]) -> Option<Place>
+    ensures { IsRead (place_text p.now.names) (IsPlaceOf (length p.now.names)) text.now result }
+{
+    p.known();
+    let (front, name) = cut(text, b'@')?;
+    let m = mono_of(p, front)?;
+    let c = p.generator(name)?;
+    Some(Place { m, c })
 }

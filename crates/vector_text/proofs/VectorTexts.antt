@@ -1,0 +1,2 @@
+-- The texts of vectors, read term by term.
+use Rattle.std.proofs.Common.{◌≡◌}
