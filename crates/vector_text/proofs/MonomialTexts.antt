@@ -230,9 +230,9 @@ pub monomial_same : (names : List (List ℕ)) → AreNames names → (s t : List
 monomial_same names known s t h k e =
     factors_same 0 s t (h.mono.variables ∙ sym k.mono.variables)
     (by (factors_from 0 s) (factors_from 0 t) (valid (length names) s h.mono h.over) (valid (length names) t k.mono k.over) e) where
-  by : (fs gs : List Factor) → AllByRecursion (IsFactorHere names) fs → AllByRecursion (IsFactorHere names) gs
-      → product_text (map (factor_text names) fs) ≡ product_text (map (factor_text names) gs) → fs ≡ gs
-  by [] [] p q e' = refl
-  by [] (g ∷ gs) p q e' = let m : marks.One ≡ marks.Letter = sym one_marked ∙ ap mark_of e' ∙ first_marked names g gs known q.0 in cc
-  by (f ∷ fs) [] p q e' = let m : marks.One ≡ marks.Letter = sym one_marked ∙ ap mark_of (sym e') ∙ first_marked names f fs known p.0 in cc
-  by (f ∷ fs) (g ∷ gs) p q e' = listed_same 46 (factor_text names) (IsFactorHere names) (factors_apart names known) (f ∷ fs) (g ∷ gs) p q (ap Some e')
+      by : (fs gs : List Factor) → AllByRecursion (IsFactorHere names) fs → AllByRecursion (IsFactorHere names) gs
+          → product_text (map (factor_text names) fs) ≡ product_text (map (factor_text names) gs) → fs ≡ gs
+      by [] [] p q e' = refl
+      by [] (g ∷ gs) p q e' = let m : marks.One ≡ marks.Letter = sym one_marked ∙ ap mark_of e' ∙ first_marked names g gs known q.0 in cc
+      by (f ∷ fs) [] p q e' = let m : marks.One ≡ marks.Letter = sym one_marked ∙ ap mark_of (sym e') ∙ first_marked names f fs known p.0 in cc
+      by (f ∷ fs) (g ∷ gs) p q e' = listed_same 46 (factor_text names) (IsFactorHere names) (factors_apart names known) (f ∷ fs) (g ∷ gs) p q (ap Some e')

@@ -1,5 +1,5 @@
 -- Texts of values with a separator between each two, read from the first value on.
-use Rattle.std.proofs.Common.{◌≡◌, ◌≢◌, ℕ, ◌<◌, List, [], ◌∷◌, ◌++◌, length, map, Option, Some, None, refl, sym, ap, subst, ◌∙◌, arith, append_assoc, append-nil}
+use Rattle.std.proofs.Common.{◌≡◌, ◌≢◌, ℕ, suc, ◌<◌, List, [], ◌∷◌, ◌++◌, length, map, Option, Some, None, refl, sym, ap, subst, ◌∙◌, arith, append_assoc, append-nil}
 use Rattle.std.proofs.lemmas.Option.{none-some}
 use Rattle.std.specs.List.{AllByRecursion}
 use Rattle.spelling.specs.Spelling.{IsRead, cut, parted, first_part}
@@ -25,6 +25,11 @@ others c spelling (x ∷ xs) = Some (listed c spelling (x ∷ xs))
 abbrev pub ended : {X : Type 0} → ℕ → (X → List ℕ) → List X → List ℕ
 ended c spelling [] = []
 ended c spelling (x ∷ xs) = spelling x ++ c ∷ ended c spelling xs
+
+-- how much is left to be read
+abbrev pub size : Option (List ℕ) → ℕ
+size None = 0
+size (Some rest) = suc (length rest)
 
 -- the text is that of the values that were read, and of what is left, if something is
 abbrev pub Leaves : {X : Type 0} → ℕ → (X → List ℕ) → List ℕ → List X → Option (List ℕ) → Type 0

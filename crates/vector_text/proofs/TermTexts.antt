@@ -1,9 +1,9 @@
 -- The texts of terms.
-use Rattle.std.proofs.Common.{◌≡◌, ◌≢◌, ◌⊎◌, inl, inr, ℕ, zero, suc, ◌<◌, ℤ, pos, negsuc, List, [], ◌∷◌, ◌++◌, length, Option, Some, None, refl, sym, ap, ◌∙◌, arith}
+use Rattle.std.proofs.Common.{◌≡◌, ◌≢◌, inl, ℕ, zero, suc, ◌<◌, ℤ, pos, negsuc, List, ◌∷◌, length, Some, None, refl, sym, ap, ◌∙◌, arith}
 use Rattle.std.proofs.lemmas.Option.{none-some}
 use Rattle.spelling.specs.Spelling.{IsRead, cut, coefficient, IsCoefficient}
 use Rattle.spelling.proofs.Cuts.{cut_here, cut_joins}
-use Rattle.spelling.proofs.Lacking.{Lacks, lacks_append, apart, coefficient_lacks, coefficient_same}
+use Rattle.spelling.proofs.Lacking.{Lacks, lacks_append, coefficient_lacks, coefficient_same}
 use Rattle.word_text.specs.Scan.{is_name_byte, is_letter, is_digit}
 use Rattle.presentation.proofs.WritingBack.{AreNames}
 use Rattle.module_vec.specs.declared.places.Place.{Place}
