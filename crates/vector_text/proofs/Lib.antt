@@ -7,3 +7,4 @@ pub mod MonomialTexts
 pub mod PlaceTexts
 pub mod TermTexts
 pub mod VectorTexts
+pub mod ReadingBack

@@ -1,16 +1,17 @@
 -- The texts of vectors, read term by term.
-use Rattle.std.proofs.Common.{◌≡◌, ◌≢◌, ◌⊎◌, inl, inr, ℕ, zero, suc, ◌-◌, ◌<◌, List, [], ◌∷◌, ◌++◌, length, slice_get, MatchOption, Option, Some, None, refl, ap, subst, ◌∙◌, arith, length-append}
+use Rattle.std.proofs.Common.{◌≡◌, ◌≢◌, ◌⊎◌, inl, inr, ℕ, zero, suc, ℤ, pos, negsuc, map, sym, append_assoc, ◌-◌, ◌<◌, List, [], ◌∷◌, ◌++◌, length, slice_get, MatchOption, Option, Some, None, refl, ap, subst, ◌∙◌, arith, length-append}
 use Rattle.std.specs.List.{AllByRecursion}
-use Rattle.spelling.specs.Spelling.{IsRead, first_part}
+use Rattle.spelling.specs.Spelling.{IsRead, first_part, coefficient}
+use Rattle.presentation.specs.Writing.{led_by}
 use Rattle.presentation.proofs.WritingBack.{AreNames}
 use Rattle.module_vec.specs.declared.places.Term.{Term}
 use Rattle.module_vec.specs.Places.{IsBelow}
 use Rattle.module_vec.specs.Vectors.{IsTerm, IsVector}
 use Rattle.module_vec.proofs.Order.{order}
 use Rattle.module_vec.proofs.Lists.{Above, Falls, falls_insert, all_join}
-use Rattle.vector_text.specs.Spelling.{term_text, vector_text, terms_text}
+use Rattle.vector_text.specs.Spelling.{place_text, term_text, vector_text, terms_text}
 use Rattle.vector_text.specs.Over.{PlaceIsOver, VectorIsOver, IsVectorOf, IsTermOf, IsSumOf, MayFollow}
-use Rattle.vector_text.proofs.Parts.{Leaves, goes_on, unread, read_next}
+use Rattle.vector_text.proofs.Parts.{Leaves, goes_on, unread, read_next, listed_same}
 use Rattle.vector_text.proofs.TermTexts.{terms_apart}
 
 -- a vector on its way: its terms so far, and what is left of the text
@@ -118,3 +119,19 @@ sum_none names text other bad v h e = by (some_or_none (length v)) where
   by : (length v ≡ 0) ⊎ (0 < length v) → ⊥
   by (inl none) = other (e ∙ none_is names v none)
   by (inr some) = bad v (record { vector = h; some = some }) (e ∙ sum_is names v some)
+
+head_same : {a b : ℕ} {s t : List ℕ} → a ∷ s ≡ b ∷ t → a ≡ b
+head_same e = cc
+
+-- a coefficient doesn't begin with `0`
+not_zero : (z : ℤ) (more : List ℕ) → 48 ∷ [] ≡ coefficient z ++ more → ⊥
+not_zero (pos n) more e = omega (arith, head_same e)
+not_zero (negsuc n) more e = omega (arith, head_same e)
+
+-- a text is that of one vector
+pub vector_same : (names : List (List ℕ)) → AreNames names → (v w : List Term) → IsVectorOf (length names) v → IsVectorOf (length names) w → vector_text names v ≡ vector_text names w → v ≡ w
+vector_same names known [] [] h k e = refl
+vector_same names known [] (u ∷ w) h k e = absurd (not_zero u.k (42 ∷ place_text names u.at ++ led_by (32 ∷ []) (map (term_text names) w)) (e ∙ append_assoc (coefficient u.k) (42 ∷ place_text names u.at) (led_by (32 ∷ []) (map (term_text names) w))))
+vector_same names known (t ∷ v) [] h k e = absurd (not_zero t.k (42 ∷ place_text names t.at ++ led_by (32 ∷ []) (map (term_text names) v)) (sym e ∙ append_assoc (coefficient t.k) (42 ∷ place_text names t.at) (led_by (32 ∷ []) (map (term_text names) v))))
+vector_same names known (t ∷ v) (u ∷ w) h k e =
+    listed_same 32 (term_text names) (IsTermOf (length names)) (terms_apart names known) (t ∷ v) (u ∷ w) (all_terms (length names) (t ∷ v) h) (all_terms (length names) (u ∷ w) k) (ap Some e)

@@ -8,3 +8,13 @@ abbrev pub Reads : {X : Type 0} → (X → List ℕ) → (X → Type 0) → List
 Reads spelling IsValid text (Ok x) = IsValid x × (text ≡ spelling x)
 Reads {X} spelling IsValid text (Err Spelling) = (x : X) → IsValid x → text ≡ spelling x → ⊥
 Reads spelling IsValid text (Err NoMemory) = Unit {0}
+
+-- this value, or want of memory
+abbrev pub ReadBack : {X : Type 0} → X → Result X SpellFault → Type 0
+ReadBack x (Ok y) = y ≡ x
+ReadBack x (Err Spelling) = ⊥
+ReadBack x (Err NoMemory) = Unit {0}
+
+-- a reader of this text answers x
+abbrev pub IsReadBack : {X : Type 0} → (X → List ℕ) → (X → Type 0) → X → List ℕ → Type 0
+IsReadBack {X} spelling IsValid x text = (read : Result X SpellFault) → Reads spelling IsValid text read → ReadBack x read

@@ -4,13 +4,16 @@
 //! `+2*a.b'@a -1*1@b`: coefficient, `*`, monomial, `@`, component.
 #![tactic(auto)]
 
+mod coefficients;
 mod factors;
 mod fault;
+pub mod laws;
 mod monomials;
 mod places;
 mod terms;
 mod vectors;
 
+pub use coefficients::read_coefficient;
 pub use fault::SpellFault;
 pub use monomials::{put_mono, read_mono, write_mono};
 pub use places::{put_place, read_place, write_place};

@@ -3,7 +3,7 @@
 ghost use Rattle.std.specs.Prelude.{◌≡◌, ◌++◌, [], codes, if◌then◌else◌, length, OnOk, IfOk};
 ghost use Rattle.vector_text.specs.Spelling.{factors_text, monomial_text};
 ghost use Rattle.vector_text.specs.Over.{MonoIsOver, IsMonoOf, IsProductOf};
-ghost use Rattle.vector_text.specs.Reading.{Reads};
+ghost use Rattle.vector_text.specs.Reading.{Reads, IsReadBack};
 ghost use Rattle.spelling.specs.Spelling.{IsRead};
 
 use crate::SpellFault;
@@ -15,10 +15,15 @@ use std::alloc::{AllocError, Global};
 
 /// The text of a monomial over the presentation's generators: `1`, or its factors in the order of the variables with
 /// points between them, as `a.a'.b'^3`, where `a'` is the variable that stands for the inverse of a.
+#[tactic(auto, using(crate::proofs::ReadingBack::monomial_back))]
 pub fn write_mono(alloc: Global, p: &Presentation, m: &Mono) -> Result<Vec<u8>, AllocError>
     requires { MonoIsOver (length p.now.names) m.now }
-    ensures { IfOk result (λ text. text.items ≡ monomial_text p.now.names m.now) }
+    ensures text { IfOk result (λ text. text.items ≡ monomial_text p.now.names m.now) }
+    ensures read_back { IfOk result (λ text. IsReadBack (monomial_text p.now.names) (IsMonoOf (length p.now.names)) m.now text.items) }
 {
+    p.known();
+    // The proof needs that this is a monomial, and the call says so.
+    let _ = m.degree();
     let mut out = Vec::new(alloc);
     put_mono(&mut out, p, m)?;
     Ok(out)

@@ -4,7 +4,7 @@ ghost use Rattle.std.specs.Prelude.{◌≡◌, ◌++◌, length, OnOk, IfOk};
 ghost use Rattle.vector_text.specs.Spelling.{place_text};
 ghost use Rattle.spelling.specs.Spelling.{IsRead};
 ghost use Rattle.vector_text.specs.Over.{PlaceIsOver, IsPlaceOf};
-ghost use Rattle.vector_text.specs.Reading.{Reads};
+ghost use Rattle.vector_text.specs.Reading.{Reads, IsReadBack};
 
 use crate::SpellFault;
 use crate::monomials::{mono_of, put_mono};
@@ -14,10 +14,15 @@ use spelling::cut;
 use std::alloc::{AllocError, Global};
 
 /// The text of a place over the presentation's generators: the monomial, `@`, and the name of the component.
+#[tactic(auto, using(crate::proofs::ReadingBack::place_back))]
 pub fn write_place(alloc: Global, p: &Presentation, at: &Place) -> Result<Vec<u8>, AllocError>
     requires { PlaceIsOver (length p.now.names) at.now }
-    ensures { IfOk result (λ text. text.items ≡ place_text p.now.names at.now) }
+    ensures text { IfOk result (λ text. text.items ≡ place_text p.now.names at.now) }
+    ensures read_back { IfOk result (λ text. IsReadBack (place_text p.now.names) (IsPlaceOf (length p.now.names)) at.now text.items) }
 {
+    p.known();
+    // The proof needs that this is a monomial, and the call says so.
+    let _ = at.m.degree();
     let mut out = Vec::new(alloc);
     put_place(&mut out, p, at)?;
     Ok(out)

@@ -3,7 +3,7 @@
 ghost use Rattle.std.specs.Prelude.{◌≡◌, ◌++◌, length, OnOk, IfOk};
 ghost use Rattle.vector_text.specs.Spelling.{terms_text, vector_text};
 ghost use Rattle.vector_text.specs.Over.{VectorIsOver, IsVectorOf, IsSumOf};
-ghost use Rattle.vector_text.specs.Reading.{Reads};
+ghost use Rattle.vector_text.specs.Reading.{Reads, IsReadBack};
 
 use crate::SpellFault;
 use crate::terms::{may_follow, put_term, term_of};
@@ -14,10 +14,15 @@ use std::alloc::{AllocError, Global};
 
 /// The text of a vector over the presentation's generators: `0`, or its terms in falling order with one space between
 /// them, as `+2*a.b'@a -1*1@b`.
+#[tactic(auto, using(crate::proofs::ReadingBack::vector_back))]
 pub fn write_vector(alloc: Global, p: &Presentation, v: &ModVec) -> Result<Vec<u8>, AllocError>
     requires { VectorIsOver (length p.now.names) v.now }
-    ensures { IfOk result (λ text. text.items ≡ vector_text p.now.names v.now) }
+    ensures text { IfOk result (λ text. text.items ≡ vector_text p.now.names v.now) }
+    ensures read_back { IfOk result (λ text. IsReadBack (vector_text p.now.names) (IsVectorOf (length p.now.names)) v.now text.items) }
 {
+    p.known();
+    // The proof needs that the terms are a vector's, and the call says so.
+    let _ = v.terms();
     let mut out = Vec::new(alloc);
     put_vector(&mut out, p, v)?;
     Ok(out)
