@@ -18,3 +18,6 @@ pub use fault::SpellFault;
 pub use monomials::{put_mono, read_mono, write_mono};
 pub use places::{put_place, read_place, write_place};
 pub use vectors::{put_vector, read_vector, write_vector};
+
+#[cfg(test)]
+mod tests;
