@@ -1,6 +1,6 @@
 //! The texts of monomials.
 
-ghost use Rattle.std.specs.Prelude.{◌≡◌, ◌++◌, [], codes, if◌then◌else◌, length, OnOk, IfOk};
+ghost use Rattle.std.specs.Prelude.{◌≡◌, ◌++◌, [], codes, if◌then◌else◌, length, OnOk, IfOk, IfErr};
 ghost use Rattle.vector_text.specs.Spelling.{factors_text, monomial_text};
 ghost use Rattle.vector_text.specs.Over.{MonoIsOver, IsMonoOf, IsProductOf};
 ghost use Rattle.vector_text.specs.Reading.{Reads, IsReadBack};
@@ -14,7 +14,8 @@ use spelling::first_part;
 use std::alloc::{AllocError, Global};
 
 /// The text of a monomial over the presentation's generators: `1`, or its factors in the order of the variables with
-/// points between them, as `a.a'.b'^3`, where `a'` is the variable that stands for the inverse of a.
+/// points between them, as `a.a'.b'^3`. `a` is the
+/// generator's variable and `a'` the one that stands for its inverse; an exponent is written where it isn't 1.
 #[tactic(auto, using(crate::proofs::ReadingBack::monomial_back))]
 pub fn write_mono(alloc: Global, p: &Presentation, m: &Mono) -> Result<Vec<u8>, AllocError>
     requires { MonoIsOver (length p.now.names) m.now }
@@ -53,9 +54,11 @@ pub fn put_mono(out: &mut Vec<u8>, p: &Presentation, m: &Mono) -> Result<(), All
     out.extend_from_slice(b"1")
 }
 
-/// The monomial over the presentation's generators that the text spells, or `Spelling` where it is no monomial's.
+/// The monomial over the presentation's generators that the text spells; its degree is at most
+/// [`DEGREE`](laurent_terms::DEGREE). `Spelling` exactly where the text is no such monomial's, and never `NoMemory`.
 pub fn read_mono(p: &Presentation, text: &[u8]) -> Result<Mono, SpellFault>
-    ensures { Reads (monomial_text p.now.names) (IsMonoOf (length p.now.names)) text.now result }
+    ensures reads { Reads (monomial_text p.now.names) (IsMonoOf (length p.now.names)) text.now result }
+    ensures no_memory_taken { IfErr result (λ e. e ≡ SpellFault.Spelling) }
 {
     match mono_of(p, text) {
         Some(m) => Ok(m),

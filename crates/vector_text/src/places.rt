@@ -1,6 +1,6 @@
 //! The texts of places.
 
-ghost use Rattle.std.specs.Prelude.{◌≡◌, ◌++◌, length, OnOk, IfOk};
+ghost use Rattle.std.specs.Prelude.{◌≡◌, ◌++◌, length, OnOk, IfOk, IfErr};
 ghost use Rattle.vector_text.specs.Spelling.{place_text};
 ghost use Rattle.spelling.specs.Spelling.{IsRead};
 ghost use Rattle.vector_text.specs.Over.{PlaceIsOver, IsPlaceOf};
@@ -38,9 +38,11 @@ pub fn put_place(out: &mut Vec<u8>, p: &Presentation, at: &Place) -> Result<(), 
     out.extend_from_slice(p.name(at.c).as_bytes())
 }
 
-/// The place over the presentation's generators that the text spells, or `Spelling` where it is no place's.
+/// The place over the presentation's generators that the text spells. `Spelling` exactly where it is no place's, and never
+/// `NoMemory`.
 pub fn read_place(p: &Presentation, text: &[u8]) -> Result<Place, SpellFault>
-    ensures { Reads (place_text p.now.names) (IsPlaceOf (length p.now.names)) text.now result }
+    ensures reads { Reads (place_text p.now.names) (IsPlaceOf (length p.now.names)) text.now result }
+    ensures no_memory_taken { IfErr result (λ e. e ≡ SpellFault.Spelling) }
 {
     match place_of(p, text) {
         Some(at) => Ok(at),

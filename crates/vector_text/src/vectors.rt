@@ -44,7 +44,8 @@ pub fn put_vector(out: &mut Vec<u8>, p: &Presentation, v: &ModVec) -> Result<(),
     Ok(())
 }
 
-/// The vector over the presentation's generators that the text spells, or `Spelling` where it is no vector's.
+/// The vector over the presentation's generators that the text spells: at most [`TERMS`](module_vec::TERMS) terms in strictly
+/// falling order of their places. `Spelling` exactly where the text is no such vector's. The time is linear in the text.
 pub fn read_vector(alloc: Global, p: &Presentation, text: &[u8]) -> Result<ModVec, SpellFault>
     ensures { Reads (vector_text p.now.names) (IsVectorOf (length p.now.names)) text.now result }
 {
