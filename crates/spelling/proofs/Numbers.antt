@@ -37,7 +37,8 @@ pub wide_is : {E : Type 0} (r : Result ℕ E) (m n : ℕ) (bs : List ℕ) → n 
 wide_is {E} r m n bs small same h is =
     let k : r ≡ Ok n = parse-decimal_wide 128 n bs r small (omega arith) same h in cc
 
-decimal_same : (m n : ℕ) → m < 2 ^ 128 → n < 2 ^ 128 → decimal m ≡ decimal n → m ≡ n
+-- a text is the decimal of one number
+pub decimal_same : (m n : ℕ) → m < 2 ^ 128 → n < 2 ^ 128 → decimal m ≡ decimal n → m ≡ n
 decimal_same m n small little e =
     sym (decimal_is_IsNumeral_wide m (omega arith)).1 ∙ ap (λ ds. digits_value 10 ds) e ∙ (decimal_is_IsNumeral_wide n (omega arith)).1
 

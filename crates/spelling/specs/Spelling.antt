@@ -1,5 +1,5 @@
 -- Spellings: functions from values to lists of bytes, and what a reader of one spelling answers.
-use Rattle.std.specs.Prelude.{◌≡◌, ℕ, ◌<◌, ◌^◌, ◌==◌, if◌then◌else◌, ℤ, pos, negsuc, suc, List, [], ◌∷◌, ◌++◌, Option, Some, None, option_map, decimal}
+use Rattle.std.specs.Prelude.{◌≡◌, ℕ, ◌<◌, ◌^◌, ◌==◌, if◌then◌else◌, ℤ, pos, negsuc, suc, List, [], ◌∷◌, Option, Some, None, option_map, decimal}
 
 -- the first byte c cuts the text in two
 abbrev pub cut : ℕ → List ℕ → Option (List ℕ × List ℕ)
@@ -30,8 +30,10 @@ abbrev pub IsCoefficient : ℤ → Type 0
 IsCoefficient (pos n) = (0 < n) × (n < 2 ^ 127)
 IsCoefficient (negsuc n) = suc n < 2 ^ 127
 
--- the values' spellings with this byte between two of them
-abbrev pub joined : {X : Type 0} → ℕ → (X → List ℕ) → List X → List ℕ
-joined c spelling [] = []
-joined c spelling (x ∷ []) = spelling x
-joined c spelling (x ∷ y ∷ ys) = spelling x ++ c ∷ joined c spelling (y ∷ ys)
+-- what stands before the first byte c, which is the whole text where there is no such byte, and what stands behind it
+abbrev pub parted : List ℕ → Option (List ℕ × List ℕ) → List ℕ × Option (List ℕ)
+parted text None = (text, None)
+parted text (Some p) = (p.0, Some p.1)
+
+abbrev pub first_part : ℕ → List ℕ → List ℕ × Option (List ℕ)
+first_part c text = parted text (cut c text)

@@ -9,7 +9,7 @@ mod separator;
 
 pub use coefficients::{read_coefficient, write_coefficient};
 pub use number::{read_number, write_number};
-pub use separator::cut;
+pub use separator::{after_byte, cut, first_part};
 
 #[cfg(test)]
 mod tests;

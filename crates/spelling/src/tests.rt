@@ -1,6 +1,8 @@
 //! Values with their spellings, and texts that spell none.
 
-use super::{cut, read_coefficient, read_number, write_coefficient, write_number};
+use super::{
+    after_byte, cut, first_part, read_coefficient, read_number, write_coefficient, write_number,
+};
 use std::test::Fail;
 
 #[test]
@@ -64,5 +66,9 @@ fn other_texts_spell_nothing(rt: HostRuntime) -> Result<(), Fail> {
     assert!(rt; cut(b"a@b@c", b'@') == Some((b"a".as_slice(), b"b@c".as_slice())));
     assert!(rt; cut(b"@", b'@') == Some((b"".as_slice(), b"".as_slice())));
     assert!(rt; cut(b"abc", b'@').is_none());
+    assert!(rt; first_part(b"a.b.c", b'.') == (b"a".as_slice(), Some(b"b.c".as_slice())));
+    assert!(rt; first_part(b"abc", b'.') == (b"abc".as_slice(), None));
+    assert!(rt; after_byte(b"^12", b'^') == Some(b"12".as_slice()));
+    assert!(rt; after_byte(b"12^", b'^').is_none());
     Ok(())
 }

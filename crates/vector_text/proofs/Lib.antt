@@ -1,1 +1,10 @@
 pub mod Writing
+pub mod Parts
+pub mod FactorTexts
+pub mod FactorLists
+pub mod Powers
+pub mod MonomialTexts
+pub mod PlaceTexts
+pub mod TermTexts
+pub mod VectorTexts
+pub mod ReadingBack

@@ -31,6 +31,10 @@ product_text (t ∷ ts) = joined (codes ".") (t ∷ ts)
 abbrev pub monomial_text : List (List ℕ) → List ℕ → List ℕ
 monomial_text names s = product_text (map (factor_text names) (factors_from 0 s))
 
+-- the same without the `1`
+abbrev pub factors_text : List (List ℕ) → List ℕ → List ℕ
+factors_text names s = joined (codes ".") (map (factor_text names) (factors_from 0 s))
+
 -- a place: its monomial, `@`, and the name of its component
 abbrev pub place_text : List (List ℕ) → Place → List ℕ
 place_text names p = monomial_text names p.m ++ (codes "@" ++ name_of names p.c)
@@ -43,3 +47,7 @@ term_text names t = coefficient t.k ++ (codes "*" ++ place_text names t.at)
 abbrev pub vector_text : List (List ℕ) → List Term → List ℕ
 vector_text names [] = codes "0"
 vector_text names (t ∷ v) = joined (codes " ") (map (term_text names) (t ∷ v))
+
+-- the same without the `0`
+abbrev pub terms_text : List (List ℕ) → List Term → List ℕ
+terms_text names v = joined (codes " ") (map (term_text names) v)

@@ -4,11 +4,20 @@
 //! `+2*a.b'@a -1*1@b`: coefficient, `*`, monomial, `@`, component.
 #![tactic(auto)]
 
+mod coefficients;
 mod factors;
+mod fault;
+pub mod laws;
 mod monomials;
 mod places;
+mod terms;
 mod vectors;
 
-pub use monomials::{put_mono, write_mono};
-pub use places::{put_place, write_place};
-pub use vectors::{put_vector, write_vector};
+pub use coefficients::read_coefficient;
+pub use fault::SpellFault;
+pub use monomials::{put_mono, read_mono, write_mono};
+pub use places::{put_place, read_place, write_place};
+pub use vectors::{put_vector, read_vector, write_vector};
+
+#[cfg(test)]
+mod tests;

@@ -1,22 +1,28 @@
 //! The texts of vectors.
 
 ghost use Rattle.std.specs.Prelude.{◌≡◌, ◌++◌, length, OnOk, IfOk};
-ghost use Rattle.module_vec.specs.Vectors.{IsTerm};
-ghost use Rattle.vector_text.specs.Spelling.{term_text, vector_text};
-ghost use Rattle.vector_text.specs.Over.{PlaceIsOver, VectorIsOver};
+ghost use Rattle.vector_text.specs.Spelling.{terms_text, vector_text};
+ghost use Rattle.vector_text.specs.Over.{VectorIsOver, IsVectorOf, IsSumOf};
+ghost use Rattle.vector_text.specs.Reading.{Reads, IsReadBack};
 
-use crate::places::put_place;
-use module_vec::{ModVec, Term};
+use crate::SpellFault;
+use crate::terms::{may_follow, put_term, term_of};
+use module_vec::ModVec;
 use presentation::Presentation;
-use spelling::write_coefficient;
+use spelling::first_part;
 use std::alloc::{AllocError, Global};
 
 /// The text of a vector over the presentation's generators: `0`, or its terms in falling order with one space between
 /// them, as `+2*a.b'@a -1*1@b`.
+#[tactic(auto, using(crate::proofs::ReadingBack::vector_back))]
 pub fn write_vector(alloc: Global, p: &Presentation, v: &ModVec) -> Result<Vec<u8>, AllocError>
     requires { VectorIsOver (length p.now.names) v.now }
-    ensures { IfOk result (λ text. text.items ≡ vector_text p.now.names v.now) }
+    ensures text { IfOk result (λ text. text.items ≡ vector_text p.now.names v.now) }
+    ensures read_back { IfOk result (λ text. IsReadBack (vector_text p.now.names) (IsVectorOf (length p.now.names)) v.now text.items) }
 {
+    p.known();
+    // The proof needs that the terms are a vector's, and the call says so.
+    let _ = v.terms();
     let mut out = Vec::new(alloc);
     put_vector(&mut out, p, v)?;
     Ok(out)
@@ -38,13 +44,34 @@ pub fn put_vector(out: &mut Vec<u8>, p: &Presentation, v: &ModVec) -> Result<(),
     Ok(())
 }
 
-#[tactic(auto, using(crate::proofs::Writing::spelled_coefficient))]
-fn put_term(out: &mut Vec<u8>, p: &Presentation, t: &Term) -> Result<(), AllocError>
-    requires over { PlaceIsOver (length p.now.names) t.now.at }
-    requires term { IsTerm t.now }
-    ensures { OnOk result (out.new.items ≡ out.old.items ++ term_text p.now.names t.now) }
+/// The vector over the presentation's generators that the text spells: at most [`TERMS`](module_vec::TERMS) terms in strictly
+/// falling order of their places. `Spelling` exactly where the text is no such vector's. The time is linear in the text.
+pub fn read_vector(alloc: Global, p: &Presentation, text: &[u8]) -> Result<ModVec, SpellFault>
+    ensures { Reads (vector_text p.now.names) (IsVectorOf (length p.now.names)) text.now result }
 {
-    write_coefficient(out, t.k)?;
-    out.extend_from_slice(b"*")?;
-    put_place(out, p, &t.at)
+    if text == b"0".as_slice() {
+        return Ok(ModVec::empty(alloc));
+    }
+    sum_of(alloc, p, text)
+}
+
+// The sum of the terms that the text spells, in falling order.
+fn sum_of(alloc: Global, p: &Presentation, text: &[u8]) -> Result<ModVec, SpellFault>
+    ensures { Reads (terms_text p.now.names) (IsSumOf (length p.now.names)) text.now result }
+{
+    p.known();
+    let mut terms = Vec::new(alloc);
+    let mut left = Some(text);
+    while let Some(rest) = left {
+        let (front, after) = first_part(rest, b' ');
+        let Some(term) = term_of(p, front) else {
+            return Err(SpellFault::Spelling);
+        };
+        if !may_follow(&terms, &term) {
+            return Err(SpellFault::Spelling);
+        }
+        terms.push(term)?;
+        left = after;
+    }
+    Ok(ModVec::of_falling(terms))
 }
