@@ -1,5 +1,5 @@
 -- A reduction on its way: the terms that were passed and the dividend below them are one vector of the chain.
-use Rattle.std.specs.Prelude.{◌≡◌, ◌≤◌, pos, List, ◌++◌, length}
+use Rattle.std.specs.Prelude.{◌≡◌, ◌≤◌, ◌+◌, pos, List, ◌++◌, length}
 use Rattle.module_vec.specs.declared.TheConstants.{TERMS, STEPS}
 use Rattle.module_vec.specs.declared.places.Place.{Place}
 use Rattle.module_vec.specs.declared.places.Term.{Term}

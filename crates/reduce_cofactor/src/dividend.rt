@@ -7,9 +7,8 @@ ghost use Rattle.module_vec.specs.Places.{IsPlace, same_place};
 ghost use Rattle.module_vec.specs.Vectors.{coefficient_at, InRange, IsSparse};
 ghost use Rattle.reduce_cofactor.specs.Dividends.{IsChange, overwritten};
 
-use crate::ReduceFault;
 use module_vec::{Place, Term};
-use std::alloc::Global;
+use std::alloc::{AllocError, Global};
 use std::collections::BTreeMap;
 use std::marker::Model;
 
@@ -35,7 +34,7 @@ impl Model for Dividend {
 
 impl Dividend {
     /// The dividend with these terms.
-    pub fn new(alloc: Global, terms: &[Term]) -> Result<Dividend, ReduceFault>
+    pub fn new(alloc: Global, terms: &[Term]) -> Result<Dividend, AllocError>
         requires { IsSparse terms.now }
         ensures { IfOk result (λ d. d ≡ terms.now) }
     {
@@ -43,6 +42,8 @@ impl Dividend {
             terms: BTreeMap::new(alloc),
         };
         dividend.change(terms)?;
+        // The proof needs that the terms fall, and the call says so.
+        let _ = dividend.len();
         Ok(dividend)
     }
 
@@ -59,10 +60,8 @@ impl Dividend {
         ensures is { MatchOption result (self.old ≡ []) (λ t. self.old ≡ t ∷ self.new) }
         ensures sparse { IsSparse self.old }
     {
-        match self.terms.pop_last() {
-            Some((at, k)) => Some(Term { at, k }),
-            None => None,
-        }
+        let (at, k) = self.terms.pop_last()?;
+        Some(Term { at, k })
     }
 
     /// The coefficient at the place, 0 where no term stands there.
@@ -76,7 +75,7 @@ impl Dividend {
     }
 
     /// Gives each of these places its new coefficient, in turn.
-    pub fn change(&mut self, changes: &[Term]) -> Result<(), ReduceFault>
+    pub fn change(&mut self, changes: &[Term]) -> Result<(), AllocError>
         requires { AllByRecursion IsChange changes.now }
         ensures is { IfOk result (λ _. (x : Place) → coefficient_at self.new x ≡ overwritten changes.now (coefficient_at self.old) x) }
         ensures count { IfOk result (λ _. length self.new ≤ length self.old + length changes.now) }
@@ -88,7 +87,7 @@ impl Dividend {
     }
 
     /// Gives the place its new coefficient; no term stands there where that is 0.
-    fn set(&mut self, at: Place, k: i128) -> Result<(), ReduceFault>
+    fn set(&mut self, at: Place, k: i128) -> Result<(), AllocError>
         requires place { IsPlace at }
         requires range { InRange k }
         ensures is { IfOk result (λ _. (x : Place) → coefficient_at self.new x ≡ (if same_place at x then k else coefficient_at self.old x)) }

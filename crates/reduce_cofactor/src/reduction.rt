@@ -1,6 +1,6 @@
 //! The chain of steps.
 
-ghost use Rattle.std.specs.Prelude.{◌≡◌, ◌≤◌, ◌<◌, ℕ, List, ◌∷◌, Some, length, take, slice_get, IfOk, MatchResult};
+ghost use Rattle.std.specs.Prelude.{◌≡◌, ◌≤◌, List, [], ◌∷◌, Some, length, take, slice_get, IfOk, MatchResult};
 ghost use Rattle.module_vec.specs.declared.places.Term.{Term};
 ghost use Rattle.module_vec.specs.Vectors.{Coefficients, coefficient_at, InRange, HasRoom};
 ghost use Rattle.module_vec.specs.Reducers.{IsEntry};
