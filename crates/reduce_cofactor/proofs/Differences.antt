@@ -69,7 +69,7 @@ becomes v old new none h g e = same_vector new v g h (λ x. e x ∙ ap (λ w. ov
 
 -- ---- a difference
 
-multiple_below : (q : ℤ) (t : List ℕ) (p : Place) (g : List Term) → length t ≡ VARIABLES → length p.m ≡ VARIABLES → AllByRecursion IsTerm g → Below p g → AllBelow IsBelow (moved t p) (multiple q t g)
+pub multiple_below : (q : ℤ) (t : List ℕ) (p : Place) (g : List Term) → length t ≡ VARIABLES → length p.m ≡ VARIABLES → AllByRecursion IsTerm g → Below p g → AllBelow IsBelow (moved t p) (multiple q t g)
 multiple_below q t p [] e f h b = tt
 multiple_below q t p (u ∷ g) e f h b = (moved_below t u.at p (h.0.place.variables ∙ sym e) (f ∙ sym e) b.0, multiple_below q t p g e f h.1 b.1)
 
@@ -87,7 +87,7 @@ module _ (f : Coefficients) (q : ℤ) (t : List ℕ) where
   pub one_more : (g made made' : List Term) (i : ℕ) (u : Term) (p : Place) (k : ℤ) → i < length g → u ≡ get_or g i u → made ≡ map changed (take i g) → made' ≡ made ++ record { at = p; k = k } ∷ [] → p ≡ moved t u.at → k ≡ f p -ℤ q *ℤ u.k → made' ≡ map changed (take (i + 1) g)
   one_more g made made' i u p k h e is push place left =
       let own : record { at = p; k = k } ≡ changed u = λ j. record { at = place j; k = (left ∙ ap (λ x. f x -ℤ q *ℤ u.k) place) j } in
-      push ∙ (λ j. is j ++ own j ∷ []) ∙ sym (map-append (take i g) (u ∷ []) changed) ∙ ap (map changed) (sym (take_more g i u h ∙ ap (λ x. take i g ++ x ∷ []) (sym e)))
+      push ∙ (λ j. is j ++ own j ∷ []) ∙ sym (map-append changed (take i g) (u ∷ [])) ∙ ap (map changed) (sym (take_more g i u h ∙ ap (λ x. take i g ++ x ∷ []) (sym e)))
 
   pub reach_more : (g : List Term) (i : ℕ) (u : Term) → i < length g → u ≡ get_or g i u → AllByRecursion IsInReach (take i g) → IsInReach u → AllByRecursion IsInReach (take (i + 1) g)
   reach_more g i u h e all own = subst (AllByRecursion IsInReach) (sym (take_more g i u h ∙ ap (λ x. take i g ++ x ∷ []) (sym e))) (all_join IsInReach (take i g) (u ∷ []) all (own, tt))

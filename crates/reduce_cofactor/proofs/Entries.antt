@@ -10,11 +10,12 @@ use Rattle.std.specs.Ordering.{is_eq, match_ordering, ordering_reverse}
 use Rattle.std.specs.declared.cmp.Ordering.{Ordering}
 use Rattle.std.specs.declared.cmp.Ordering.TheVariants.{Less, Equal, Greater}
 use borrow.Author.Differences.{ints}
+use Rattle.formal_sums.proofs.Falling.{AllBelow_transitive}
 use Rattle.module_vec.specs.declared.places.Place.{Place}
 use Rattle.module_vec.specs.declared.places.Term.{Term}
 use Rattle.module_vec.specs.Places.{place_cmp, IsBelow, same_place}
-use Rattle.module_vec.specs.Vectors.{coefficient_at, IsTerm, IsSparse}
-use Rattle.module_vec.proofs.Order.{place_total, place_exact, test}
+use Rattle.module_vec.specs.Vectors.{sum_of, coefficient_at, IsTerm, IsSparse}
+use Rattle.module_vec.proofs.Order.{place_total, place_exact, test, order}
 use Rattle.module_vec.proofs.FallingTerms.{all_front, all_back, all_join, Above, Below, Falls, above_join, below_back, at_join, at_below}
 use Rattle.reduce_cofactor.specs.Dividends.{falling_terms}
 
@@ -43,6 +44,15 @@ falls_front (s ∷ a) b f = (below_front s.at a b f.0, falls_front a b f.1)
 pub above_next : (a : List Term) (x : Term) (b : List Term) → Falls (a ++ x ∷ b) → Above x.at a
 above_next [] x b f = tt
 above_next (s ∷ a) x b f = ((below_back s.at a (x ∷ b) f.0).0, above_next a x b f.1)
+
+below_join : (p : Place) (a b : List Term) → Below p a → Below p b → Below p (a ++ b)
+below_join p [] b h g = g
+below_join p (s ∷ a) b h g = (h.0, below_join p a b h.1 g)
+
+-- falling terms above a place, and falling terms below it
+pub falls_join : (p : Place) (a b : List Term) → Falls a → Falls b → Above p a → Below p b → Falls (a ++ b)
+falls_join p [] b f g above below = g
+falls_join p (s ∷ a) b f g above below = (below_join s.at a b f.0 (AllBelow_transitive test order p s.at above.0 (sum_of b) below), falls_join p a b f.1 g above.1 below)
 
 -- ---- the keys of a map ascend
 

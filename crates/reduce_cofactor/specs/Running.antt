@@ -1,5 +1,5 @@
 -- A reduction on its way: the terms that were passed and the dividend below them are one vector of the chain.
-use Rattle.std.specs.Prelude.{◌≡◌, ◌≤◌, ◌+◌, pos, List, ◌++◌, length}
+use Rattle.std.specs.Prelude.{◌≡◌, ◌≢◌, ◌≤◌, ◌+◌, ◌⊎◌, ℤ, pos, List, [], ◌∷◌, ◌++◌, length}
 use Rattle.module_vec.specs.declared.TheConstants.{TERMS, STEPS}
 use Rattle.module_vec.specs.declared.places.Place.{Place}
 use Rattle.module_vec.specs.declared.places.Term.{Term}
@@ -17,3 +17,7 @@ pub record Running (b : List (List Term)) (v : Coefficients) (steps : List Step)
   pub settled : (x : Place) → coefficient_at dividend x ≡ pos 0 → Rests b (coefficient_at (rest ++ dividend)) x
   pub most : length steps ≤ STEPS
   pub are : AreSteps b steps
+
+-- the coefficient k at p is final, and stands behind the others if it isn't 0
+abbrev pub IsKept : List Term → Place → ℤ → List Term → Type 0
+IsKept old p k new = ((k ≡ pos 0) × (new ≡ old)) ⊎ ((k ≢ pos 0) × (new ≡ old ++ record { at = p; k = k } ∷ []))

@@ -1,19 +1,20 @@
 //! The chain of steps.
 
-ghost use Rattle.std.specs.Prelude.{◌≡◌, ◌≤◌, List, [], ◌∷◌, Some, length, take, slice_get, IfOk, MatchResult};
+ghost use Rattle.std.specs.Prelude.{◌≡◌, ◌≤◌, ◌<◌, ◌+◌, List, [], ◌∷◌, Some, length, take, slice_get, IfOk, MatchResult};
+ghost use Rattle.module_vec.specs.declared.TheConstants.{TERMS, STEPS};
 ghost use Rattle.module_vec.specs.declared.places.Term.{Term};
 ghost use Rattle.module_vec.specs.Vectors.{Coefficients, coefficient_at, InRange, HasRoom};
 ghost use Rattle.module_vec.specs.Reducers.{IsEntry};
 ghost use Rattle.reduce_cofactor.specs.Answers.{IsRest, Fails};
 ghost use Rattle.reduce_cofactor.specs.Steps.{IsStepAt};
-ghost use Rattle.reduce_cofactor.specs.Running.{Running};
+ghost use Rattle.reduce_cofactor.specs.Running.{Running, IsKept};
 
 use crate::ReduceFault;
 use crate::changes::{changes, reduced};
 use crate::dividend::Dividend;
 use crate::due::due;
-use module_vec::{ModVec, STEPS, Step, Stop, TERMS, Term, VecList};
-use std::alloc::Global;
+use module_vec::{ModVec, Place, STEPS, Step, Stop, TERMS, Term, VecList};
+use std::alloc::{AllocError, Global};
 
 /// The rest of the vector by the entries below `front`, and the steps that lead to it, in order: the vector is the sum of
 /// the steps and the rest.
@@ -75,6 +76,8 @@ impl Reduction {
         entry: &ModVec,
         top: Term,
     ) -> Result<(), ReduceFault>
+        requires made { length self.old.steps.items ≤ STEPS }
+        requires short { length self.old.rest.items + length self.old.dividend < TERMS }
         requires entry { IsEntry entry.now }
         requires range { InRange step.q }
         requires room { HasRoom step.t entry.now }
@@ -96,9 +99,7 @@ impl Reduction {
         };
         let changes = changes(alloc, &self.dividend, step.q, &step.t, &terms[1..], number)?;
         self.dividend.change(changes.as_slice())?;
-        if k != 0 {
-            self.rest.push(Term { at: top.at, k })?;
-        }
+        keep(&mut self.rest, top.at, k)?;
         let count = self.rest.len() + self.dividend.len();
         if count > TERMS as usize {
             return Err(ReduceFault::Stop(Stop::Long {
@@ -109,4 +110,15 @@ impl Reduction {
         self.steps.push(step)?;
         Ok(())
     }
+}
+
+/// Puts the final coefficient at `at` behind the terms, unless it is 0.
+fn keep(rest: &mut Vec<Term>, at: Place, k: i128) -> Result<(), AllocError>
+    ensures { IfOk result (λ _. IsKept rest.old.items at k rest.new.items) }
+{
+    if k == 0 {
+        return Ok(());
+    }
+    rest.push(Term { at, k })?;
+    Ok(())
 }

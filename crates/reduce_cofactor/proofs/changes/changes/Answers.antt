@@ -6,6 +6,7 @@ use Rattle.std.specs.List.{AllByRecursion}
 use Rattle.module_vec.specs.declared.places.Place.{Place}
 use Rattle.module_vec.specs.declared.places.Term.{Term}
 use Rattle.module_vec.specs.Vectors.{coefficient_at, InRange}
+use Rattle.module_vec.specs.Places.{moved}
 use Rattle.module_vec.specs.Merging.{Subtracts}
 use Rattle.module_vec.proofs.FallingTerms.{drop_read}
 use Rattle.module_vec.proofs.Merging.{in_range}
@@ -44,7 +45,7 @@ loop-term-preserved c =
     let reduced = simp to_z-of_z at c.in-Some.ensures in
     let push = simp to_z-of_z at c.in_ok-push.ensures.items in
     let place : Place = record { m = c.product.result; c = c.term-item.result.at.c } in
-    let moves = λ j. record { m = c.product.ensures.is j; c = c.term-item.result.at.c } in
+    let moves : place ≡ moved c.args.t.now c.term-item.result.at = λ j. record { m = c.product.ensures.is j; c = c.term-item.result.at.c } in
     let value : c.in-Some.k ≡ coefficient_at c.args.dividend.now place -ℤ c.args.q *ℤ c.term-item.result.k = reduced.0 ∙ ap (λ y. y -ℤ c.args.q *ℤ c.term-item.result.k) c.coefficient.ensures in
     let own : IsInReach (coefficient_at c.args.dividend.now) c.args.q c.args.t.now c.term-item.result = record {
       product = reduced.2;
