@@ -1,20 +1,20 @@
 -- New coefficients in turn, and those of a difference.
-use Rattle.std.proofs.Common.{◌≡◌, ◌≢◌, ℕ, ◌+◌, ◌<◌, ◌≤◌, ℤ, pos, ◌+ℤ◌, ◌-ℤ◌, ◌*ℤ◌, Bool, true, false, cond, List, [], ◌∷◌, ◌++◌, map, length, take, get_or, refl, sym, ap, ◌∙◌, subst, arith, ◌⊎◌, inl, inr}
-use Rattle.std.specs.Prelude.{Option, Some, None}
+use Rattle.std.proofs.Common.{◌≡◌, ℕ, ◌+◌, ◌<◌, ◌≤◌, ℤ, pos, ◌+ℤ◌, ◌-ℤ◌, ◌*ℤ◌, Bool, true, false, cond, List, [], ◌∷◌, ◌++◌, map, length, take, get_or, refl, sym, ap, ◌∙◌, subst, arith, ◌⊎◌, inl, inr}
+use Rattle.std.specs.Prelude.{None}
 use Rattle.std.specs.List.{AllByRecursion}
 use Rattle.std.proofs.lemmas.List.{take_more, map-append}
 use borrow.Author.Differences.{ints}
-use Rattle.formal_sums.specs.FormalSum.{AllBelow, scale, rename, coefficient}
+use Rattle.formal_sums.specs.FormalSum.{AllBelow}
 use Rattle.formal_sums.proofs.Falling.{coefficient-above, AllBelow_transitive}
 use Rattle.formal_sums.proofs.Keys.{eq-apart}
 use Rattle.laurent_terms.specs.declared.TheConstants.{VARIABLES, DEGREE}
-use Rattle.laurent_terms.specs.Monomials.{degree, product, IsMonomial}
+use Rattle.laurent_terms.specs.Monomials.{degree, product}
 use Rattle.laurent_terms.proofs.Combining.{sum-product, length-combined}
 use Rattle.module_vec.specs.declared.places.Place.{Place}
 use Rattle.module_vec.specs.declared.places.Term.{Term}
-use Rattle.module_vec.specs.Places.{IsBelow, same_place, moved, IsPlace}
-use Rattle.module_vec.specs.Vectors.{Coefficients, sum_of, coefficient_at, multiple, multiple_at, difference_at, InRange, IsWide, IsTerm, IsSparse}
-use Rattle.module_vec.specs.Results.{DifferenceIsWide, Nowhere, IsGreatest}
+use Rattle.module_vec.specs.Places.{IsBelow, same_place, moved}
+use Rattle.module_vec.specs.Vectors.{Coefficients, coefficient_at, multiple, multiple_at, InRange, IsWide, IsTerm, IsSparse}
+use Rattle.module_vec.specs.Results.{DifferenceIsWide, IsGreatest}
 use Rattle.module_vec.specs.Merging.{Subtracts}
 use Rattle.module_vec.proofs.Order.{test, order, moved_below}
 use Rattle.module_vec.proofs.FallingTerms.{Below, Falls, all_front, all_back, all_join}
@@ -106,9 +106,9 @@ module _ (f : Coefficients) (q : ℤ) (t : List ℕ) (long : length t ≡ VARIAB
   agree : (h : Coefficients) (u : Term) (g : List Term) → IsTerm u → AllByRecursion IsTerm g → Below u.at g → AllByRecursion (λ w. h (moved t w.at) ≡ f (moved t w.at)) g → AllByRecursion (λ w. with_one (changed f q t u) h (moved t w.at) ≡ f (moved t w.at)) g
   agree h u [] own terms b e = tt
   agree h u (w ∷ g) own terms b e = (
-      rw (below_apart (moved t u.at) (moved t w.at) (moved_below t w.at u.at (terms.0.place.variables ∙ sym long) (own.place.variables ∙ sym long) b.0)) e.0,
-      agree h u g own terms.1 b.1 e.1,
-    )
+    rw (below_apart (moved t u.at) (moved t w.at) (moved_below t w.at u.at (terms.0.place.variables ∙ sym long) (own.place.variables ∙ sym long) b.0)) e.0,
+    agree h u g own terms.1 b.1 e.1,
+  )
 
   takes : (g : List Term) (h : Coefficients) → AllByRecursion IsTerm g → Falls g → AllByRecursion (λ w. h (moved t w.at) ≡ f (moved t w.at)) g → (x : Place) → overwritten (map (changed f q t) g) h x ≡ h x -ℤ multiple_at q t g x
   takes [] h terms falls e x = omega (arith, ints)

@@ -1,6 +1,6 @@
 -- One step of the code is one step of the chain.
-use Rattle.std.proofs.Common.{◌≡◌, ◌≢◌, ℕ, ◌+◌, ◌<◌, ◌≤◌, ℤ, pos, ◌+ℤ◌, ◌-ℤ◌, ◌*ℤ◌, Bool, true, false, cond, List, [], ◌∷◌, ◌++◌, length, length-append, append_assoc, append-nil, refl, sym, ap, ◌∙◌, subst, arith, ◌⊎◌, inl, inr}
-use Rattle.std.specs.Prelude.{neg_ℤ, ◌<ℤ◌, Option, Some, None}
+use Rattle.std.proofs.Common.{◌≡◌, ◌+◌, ◌<◌, ◌≤◌, ℤ, pos, ◌+ℤ◌, ◌-ℤ◌, ◌*ℤ◌, Bool, true, false, cond, List, [], ◌∷◌, ◌++◌, length, length-append, append_assoc, append-nil, refl, sym, ap, ◌∙◌, subst, arith, ◌⊎◌, inl, inr}
+use Rattle.std.specs.Prelude.{neg_ℤ, ◌<ℤ◌, Some, None}
 use Rattle.std.specs.Int.{int_div_euclid}
 use Rattle.std.specs.List.{AllByRecursion}
 use Rattle.std.proofs.lemmas.Option.{get_or_from_slice_get}
@@ -11,28 +11,31 @@ use Rattle.formal_sums.proofs.Falling.{coefficient-above, AllBelow_transitive, A
 use Rattle.formal_sums.proofs.Floors.{floor_left}
 use Rattle.formal_sums.proofs.Keys.{eq-below, eq-above}
 use Rattle.laurent_terms.specs.declared.TheConstants.{VARIABLES}
-use Rattle.laurent_terms.specs.Monomials.{product, quotient}
+use Rattle.laurent_terms.specs.Monomials.{product}
 use Rattle.laurent_terms.proofs.Combining.{length-combined}
 use Rattle.laurent_terms.proofs.Division.{product-quotient, product_comm}
 use Rattle.module_vec.specs.declared.TheConstants.{TERMS, STEPS}
 use Rattle.module_vec.specs.declared.places.Place.{Place}
 use Rattle.module_vec.specs.declared.places.Term.{Term}
 use Rattle.module_vec.specs.declared.steps.Step.{Step}
-use Rattle.module_vec.specs.declared.faults.Stop.TheVariants.{Wide, Long, Deep}
+use Rattle.module_vec.specs.declared.faults.Stop.TheVariants.{Wide, Long, Deep, Steep}
 use Rattle.module_vec.specs.Places.{IsBelow, same_place, moved}
-use Rattle.module_vec.specs.Vectors.{Coefficients, sum_of, coefficient_at, multiple, multiple_at, difference_at, InRange, IsWide, IsTerm, IsSparse, IsVector}
+use Rattle.module_vec.specs.Vectors.{Coefficients, sum_of, coefficient_at, multiple, multiple_at, IsWide, IsTerm, IsSparse, IsVector}
 use Rattle.module_vec.specs.Results.{DifferenceIsWide, Nowhere, IsGreatest, HasTerms}
 use Rattle.module_vec.specs.Merging.{Subtracts}
 use Rattle.module_vec.specs.Reducers.{IsEntry, AreEntries}
-use Rattle.module_vec.specs.Modules.{AreSteps, vector_at, steps_at, sum_of_steps}
-use Rattle.module_vec.specs.Chains.{IsDue, Rests, IsNext, IsEnd, Goes, Runs, StepIsWide, ChainStops, taken_at, after}
+use Rattle.module_vec.specs.Modules.{vector_at, steps_at, sum_of_steps}
+use Rattle.module_vec.specs.Chains.{Rests, IsNext, Goes, Runs, StepIsWide, ChainStops, taken_at, after}
 use Rattle.module_vec.proofs.Order.{test, order}
-use Rattle.module_vec.proofs.FallingTerms.{Above, Below, Falls, all_front, all_back, all_join, all_insert, all_remove, falls_back, falls_insert, falls_remove, below_from_first, at_join, at_above, at_below}
+use Rattle.module_vec.proofs.FallingTerms.{Above, Below, Falls, all_front, all_back, all_join, all_insert, falls_back, falls_insert, below_from_first, at_join, at_above, at_below}
 use Rattle.module_vec.proofs.Merging.{in_range, in_range_not_wide}
 use Rattle.module_vec.proofs.Scans.{read_within}
 use Rattle.reduce_cofactor.specs.Steps.{IsStepAt, RestsWith}
 use Rattle.reduce_cofactor.specs.Running.{Running, IsKept}
-use Rattle.reduce_cofactor.specs.Answers.{IsRest}
+use Rattle.reduce_cofactor.specs.Answers.{IsRest, Fails}
+use Rattle.reduce_cofactor.specs.Dividends.{FailsAt}
+use Rattle.reduce_cofactor.specs.declared.faults.ReduceFault.{ReduceFault}
+use Rattle.reduce_cofactor.specs.declared.faults.ReduceFault.TheVariants as faults
 use Rattle.reduce_cofactor.proofs.Entries.{above_next, falls_front, falls_join}
 use Rattle.reduce_cofactor.proofs.Differences.{multiple_below}
 use Rattle.reduce_cofactor.proofs.Resting.{entry_at, rests_at, rests_zero, rests_left, lead_positive}
@@ -254,6 +257,13 @@ module _ (b : List (List Term)) (v : Coefficients) (ss : List Step) (rest : List
 
   pub stops_others : length ss < STEPS → (k : ℤ) → Subtracts t.k s.q due.lead.k (Some k) → (p : Place) → IsGreatest IsWideBelow p → ChainStops b v (Wide p (length ss + 1))
   stops_others few k e p wide = record { steps = ss; last = before; step = s; runs = r.runs; next = next; stops = (few, (refl, wide_others k e p wide)) }
+
+  pub stops_changes : length ss < STEPS → (k : ℤ) → Subtracts t.k s.q due.lead.k (Some k) → (fault : ReduceFault) → FailsAt (length ss + 1) IsWideBelow fault → Fails b v fault
+  stops_changes few k e (faults.Stop (Wide p n)) h = subst (λ m. ChainStops b v (Wide p m)) (sym h.0) (stops_others few k e p h.1)
+  stops_changes few k e (faults.Stop (Long terms n)) h = absurd h
+  stops_changes few k e (faults.Stop Deep) h = absurd h
+  stops_changes few k e (faults.Stop (Steep d)) h = absurd h
+  stops_changes few k e faults.NoMemory h = tt
 
   -- ---- the vector after the step, where k is left at t
 

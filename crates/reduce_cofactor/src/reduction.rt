@@ -1,9 +1,9 @@
 //! The chain of steps.
 
-ghost use Rattle.std.specs.Prelude.{◌≡◌, ◌≤◌, ◌<◌, ◌+◌, List, [], ◌∷◌, Some, length, take, slice_get, IfOk, MatchResult};
+ghost use Rattle.std.specs.Prelude.{◌≡◌, ◌≤◌, ◌<◌, ◌+◌, List, [], ◌∷◌, ◌++◌, Some, length, take, slice_get, IfOk, MatchResult};
 ghost use Rattle.module_vec.specs.declared.TheConstants.{TERMS, STEPS};
 ghost use Rattle.module_vec.specs.declared.places.Term.{Term};
-ghost use Rattle.module_vec.specs.Vectors.{Coefficients, coefficient_at, InRange, HasRoom};
+ghost use Rattle.module_vec.specs.Vectors.{Coefficients, coefficient_at, InRange, HasRoom, IsVector};
 ghost use Rattle.module_vec.specs.Reducers.{IsEntry};
 ghost use Rattle.reduce_cofactor.specs.Answers.{IsRest, Fails};
 ghost use Rattle.reduce_cofactor.specs.Steps.{IsStepAt};
@@ -57,8 +57,9 @@ struct Reduction {
 
 impl Reduction {
     /// The vector before its first step.
-    fn new(alloc: Global, v: &ModVec) -> Result<Reduction, ReduceFault>
-        ensures { IfOk result (λ r. (r.rest.items ≡ []) × (r.dividend ≡ v.now) × (r.steps.items ≡ [])) }
+    fn new(alloc: Global, v: &ModVec) -> Result<Reduction, AllocError>
+        ensures vector { IsVector v.now }
+        ensures is { IfOk result (λ r. (r.rest.items ≡ []) × (r.dividend ≡ v.now) × (r.steps.items ≡ [])) }
     {
         Ok(Reduction {
             rest: Vec::new(alloc),
@@ -81,9 +82,10 @@ impl Reduction {
         requires entry { IsEntry entry.now }
         requires range { InRange step.q }
         requires room { HasRoom step.t entry.now }
-        ensures { (b : List (List Term)) (v : Coefficients) → IsStepAt b top step → slice_get b step.by ≡ Some entry.now →
+        ensures is { (b : List (List Term)) (v : Coefficients) → IsStepAt b top step → slice_get b step.by ≡ Some entry.now →
             Running b v self.old.steps.items self.old.rest.items (top ∷ self.old.dividend) →
             MatchResult result (λ _. Running b v self.new.steps.items self.new.rest.items self.new.dividend) (Fails b v) }
+        ensures step { IfOk result (λ _. self.new.steps.items ≡ self.old.steps.items ++ step ∷ []) }
     {
         let made = self.steps.len() as u32;
         if made == STEPS {
@@ -91,7 +93,8 @@ impl Reduction {
         }
         let number = made + 1;
         let terms = entry.terms();
-        let Some(k) = reduced(top.k, step.q, terms[0].k) else {
+        let lead = &terms[0];
+        let Some(k) = reduced(top.k, step.q, lead.k) else {
             return Err(ReduceFault::Stop(Stop::Wide {
                 at: top.at,
                 step: number,

@@ -1,10 +1,9 @@
-use Rattle.std.proofs.Common.{rules, arith, ◌≡◌, ◌∙◌, sym, ap, subst, refl, List, ◌∷◌, ◌++◌, ◌+◌, take, drop, length, map, ℤ, ◌-ℤ◌, ◌*ℤ◌, FitsSigned, Some, None}
+use Rattle.std.proofs.Common.{rules, ◌≡◌, ◌∙◌, sym, ap, subst, refl, ◌∷◌, ◌++◌, ◌+◌, take, drop, length, map, ◌-ℤ◌, ◌*ℤ◌, FitsSigned, None}
 use mir.Syntax.{w128}
 use Rattle.std.proofs.lemmas.Int.{to_z-of_z}
 use Rattle.std.proofs.lemmas.List.{take-append-drop, take_all, length-map}
 use Rattle.std.specs.List.{AllByRecursion}
 use Rattle.module_vec.specs.declared.places.Place.{Place}
-use Rattle.module_vec.specs.declared.places.Term.{Term}
 use Rattle.module_vec.specs.Vectors.{coefficient_at, InRange}
 use Rattle.module_vec.specs.Places.{moved}
 use Rattle.module_vec.specs.Merging.{Subtracts}
@@ -26,8 +25,7 @@ returns-in_default c =
     let reach = simp to_z-of_z at c.loop-term.invariant.reach in
     let wide = simp to_z-of_z at c.in_default.ensures in
     let place : Place = record { m = c.product.result; c = c.term-item.result.at.c } in
-    let split : c.args.g.now ≡ take c.loop-term.term-index c.args.g.now ++ c.term-item.result ∷ drop (c.loop-term.term-index + 1) c.args.g.now = sym (take-append-drop c.loop-term.term-index c.args.g.now) ∙ ap (λ w. take c.loop-term.term-index c.args.g.now ++ w) (drop_read c.args.g.now c.loop-term.term-index c.term-item.result c.loop-term-test.true c.term-item.is) in
-    (
+    let split : c.args.g.now ≡ take c.loop-term.term-index c.args.g.now ++ c.term-item.result ∷ drop (c.loop-term.term-index + 1) c.args.g.now = sym (take-append-drop c.loop-term.term-index c.args.g.now) ∙ ap (λ w. take c.loop-term.term-index c.args.g.now ++ w) (drop_read c.args.g.now c.loop-term.term-index c.term-item.result c.loop-term-test.true c.term-item.is) in (
       refl,
       is_wide (coefficient_at c.args.dividend.now) c.args.q c.args.t.now c.degree.ensures.monomial.variables c.args.g.now (take c.loop-term.term-index c.args.g.now) c.term-item.result (drop (c.loop-term.term-index + 1) c.args.g.now) place split c.requires.g
           (in_range c.args.dividend.now c.len.ensures.sparse.terms c.len.ensures.sparse.falling) reach (λ j. record { m = c.product.ensures.is j; c = c.term-item.result.at.c })
@@ -62,8 +60,7 @@ returns c =
     let is = simp to_z-of_z at c.loop-term.invariant.is in
     let reach = simp to_z-of_z at c.loop-term.invariant.reach in
     let whole : take c.loop-term.term-index c.args.g.now ≡ c.args.g.now = take_all c.loop-term.term-index c.args.g.now c.loop-term-test.false in
-    let made : c.loop-term.made.items ≡ map (changed (coefficient_at c.args.dividend.now) c.args.q c.args.t.now) c.args.g.now = is ∙ ap (map (changed (coefficient_at c.args.dividend.now) c.args.q c.args.t.now)) whole in
-    (
+    let made : c.loop-term.made.items ≡ map (changed (coefficient_at c.args.dividend.now) c.args.q c.args.t.now) c.args.g.now = is ∙ ap (map (changed (coefficient_at c.args.dividend.now) c.args.q c.args.t.now)) whole in (
       all_are_changes (coefficient_at c.args.dividend.now) c.args.q c.args.t.now c.degree.ensures.monomial.variables c.args.g.now c.loop-term.made.items c.requires.g
           (in_range c.args.dividend.now c.len.ensures.sparse.terms c.len.ensures.sparse.falling) c.degree.ensures.monomial.most c.requires.room (subst (AllByRecursion (IsInReach (coefficient_at c.args.dividend.now) c.args.q c.args.t.now)) whole reach) made,
       ap length made ∙ length-map c.args.g.now (changed (coefficient_at c.args.dividend.now) c.args.q c.args.t.now),

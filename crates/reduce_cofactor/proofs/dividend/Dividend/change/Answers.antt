@@ -1,4 +1,4 @@
-use Rattle.std.proofs.Common.{rules, arith, ◌≡◌, ◌∙◌, sym, ap, drop, List, ◌∷◌, ◌+◌, ℤ, FitsSigned}
+use Rattle.std.proofs.Common.{rules, arith, ◌≡◌, ◌∙◌, sym, ap, drop, List, ◌∷◌, ◌+◌, FitsSigned}
 use mir.Syntax.{w128}
 use Rattle.std.proofs.lemmas.Int.{to_z-of_z}
 use Rattle.module_vec.specs.declared.places.Term.{Term}
@@ -16,6 +16,6 @@ loop-change-preserved c =
     let split : drop c.loop-change.change-index c.args.changes.now ≡ c.change-item.result ∷ rest = drop_read c.args.changes.now c.loop-change.change-index c.change-item.result c.loop-change-test.true c.change-item.is in
     record {
       is = λ x. same_overwritten rest (coefficient_at c.set.new.self) (with_one c.change-item.result (coefficient_at c.loop-change.self)) set x
-      ∙ ap (λ w. overwritten w (coefficient_at c.loop-change.self) x) (sym split) ∙ c.loop-change.invariant.is x;
+          ∙ ap (λ w. overwritten w (coefficient_at c.loop-change.self) x) (sym split) ∙ c.loop-change.invariant.is x;
       count = omega (arith, c.in_ok-set.ensures.count, c.loop-change.invariant.count);
     }

@@ -1,4 +1,4 @@
-use Rattle.std.proofs.Common.{◌≡◌, ◌∙◌, sym, ap, length}
+use Rattle.std.proofs.Common.{◌∙◌, sym, ap, length}
 use Rattle.reduce_cofactor.proofs.Entries.{count}
 use Rattle.reduce_cofactor.proofs.dividend.Dividend.len.Goals as goal
 

@@ -1,10 +1,8 @@
-use Rattle.std.proofs.Common.{rules, arith, ◌≡◌, ◌≢◌, ◌∙◌, sym, ap, subst, pos, ℤ, FitsSigned, Some, None, List, cond, ◌≤◌, ◌+◌, length, is_some, Bool, true, false, refl}
+use Rattle.std.proofs.Common.{rules, arith, ◌≡◌, ◌≢◌, ◌∙◌, sym, ap, subst, pos, FitsSigned, Some, None, cond, length, is_some, refl}
 use mir.Syntax.{w128}
 use borrow.Author.Differences.{ints}
 use Rattle.std.specs.List.{AllByRecursion}
 use Rattle.std.proofs.lemmas.Int.{to_z-of_z}
-use Rattle.module_vec.specs.declared.places.Place.{Place}
-use Rattle.module_vec.specs.declared.places.Term.{Term}
 use Rattle.module_vec.specs.Places.{same_place}
 use Rattle.module_vec.specs.Vectors.{coefficient_at, IsTerm}
 use Rattle.reduce_cofactor.specs.Dividends.{falling_terms}
