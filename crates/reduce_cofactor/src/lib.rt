@@ -18,3 +18,6 @@ pub use due::reducer;
 pub use faults::ReduceFault;
 pub use module_vec::{Step, VecList};
 pub use reduction::reduce;
+
+#[cfg(test)]
+mod tests;
