@@ -1,0 +1,4 @@
+pub mod Entries
+pub mod Differences
+pub mod Resting
+pub mod Stepping

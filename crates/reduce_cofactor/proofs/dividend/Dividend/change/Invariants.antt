@@ -1,0 +1,11 @@
+use Rattle.std.proofs.Common.{◌≡◌, ◌≤◌, ◌+◌, length, drop}
+use Rattle.module_vec.specs.declared.places.Place.{Place}
+use Rattle.module_vec.specs.Vectors.{coefficient_at}
+use Rattle.reduce_cofactor.specs.Dividends.{overwritten}
+use Rattle.reduce_cofactor.proofs.dividend.Dividend.change.Given as goal
+
+abbrev pub invariant-loop-change : goal.invariant-loop-change
+invariant-loop-change l = record {
+  is : (x : Place) → overwritten (drop l.change-index l.changes) (coefficient_at l.self) x ≡ overwritten l.changes (coefficient_at l.fn.self) x;
+  count : length l.self ≤ length l.fn.self + l.change-index;
+}

@@ -1,0 +1,4 @@
+pub mod Answers
+pub mod Dividends
+pub mod Steps
+pub mod Running

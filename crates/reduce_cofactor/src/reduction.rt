@@ -1,0 +1,127 @@
+//! The chain of steps.
+
+ghost use Rattle.std.specs.Prelude.{◌≡◌, ◌≤◌, ◌<◌, ◌+◌, List, [], ◌∷◌, ◌++◌, Some, length, take, slice_get, IfOk, MatchResult};
+ghost use Rattle.module_vec.specs.declared.TheConstants.{TERMS, STEPS};
+ghost use Rattle.module_vec.specs.declared.places.Term.{Term};
+ghost use Rattle.module_vec.specs.Vectors.{Coefficients, coefficient_at, InRange, HasRoom, IsVector};
+ghost use Rattle.module_vec.specs.Reducers.{IsEntry};
+ghost use Rattle.reduce_cofactor.specs.Answers.{IsRest, Fails};
+ghost use Rattle.reduce_cofactor.specs.Steps.{IsStepAt};
+ghost use Rattle.reduce_cofactor.specs.Running.{Running, IsKept};
+
+use crate::ReduceFault;
+use crate::changes::{changes, reduced};
+use crate::dividend::Dividend;
+use crate::due::due;
+use module_vec::{ModVec, Place, STEPS, Step, Stop, TERMS, Term, VecList};
+use std::alloc::{AllocError, Global};
+
+/// The rest of the vector by the entries below `front`, and the steps that lead to it, in order: the vector is the sum of
+/// the steps and the rest.
+///
+/// The limits are met in this order: `Deep` where one step more than [`STEPS`](module_vec::STEPS) is due, of which nothing
+/// is computed; `Wide` at the greatest place where a product or a difference of a step leaves the range; `Long` where a
+/// step's result has more than [`TERMS`](module_vec::TERMS) terms.
+pub fn reduce<L: VecList>(
+    alloc: Global,
+    list: &L,
+    front: u32,
+    v: &ModVec,
+) -> Result<(ModVec, Vec<Step>), ReduceFault>
+    requires { front ≤ length (L.vectors list.now) }
+    ensures { let b = take front (L.vectors list.now) in
+        let f = coefficient_at v.now in
+        MatchResult result (λ r. IsRest b f r.0 r.1.items) (Fails b f) }
+{
+    // The proof needs that the list has entries, and the call says so.
+    let _ = list.count();
+    let mut reduction = Reduction::new(alloc, v)?;
+    while let Some(top) = reduction.dividend.pop() {
+        match due(list, front, &top) {
+            Some(step) => reduction.make(alloc, step, list.vector(step.by), top)?,
+            None => reduction.rest.push(top)?,
+        }
+    }
+    Ok((ModVec::of_falling(reduction.rest), reduction.steps))
+}
+
+/// A vector on its way to its rest. Each place that was passed is final.
+#[derive(Drop)]
+struct Reduction {
+    /// The terms that were passed, in falling order.
+    rest: Vec<Term>,
+    /// The terms below them.
+    dividend: Dividend,
+    steps: Vec<Step>,
+}
+
+impl Reduction {
+    /// The vector before its first step.
+    fn new(alloc: Global, v: &ModVec) -> Result<Reduction, AllocError>
+        ensures vector { IsVector v.now }
+        ensures is { IfOk result (λ r. (r.rest.items ≡ []) × (r.dividend ≡ v.now) × (r.steps.items ≡ [])) }
+    {
+        Ok(Reduction {
+            rest: Vec::new(alloc),
+            dividend: Dividend::new(alloc, v.terms())?,
+            steps: Vec::new(alloc),
+        })
+    }
+
+    /// Makes the step, which is due at the term `top` above the dividend. All that it computes is known to be in range
+    /// before any of it is written.
+    fn make(
+        &mut self,
+        alloc: Global,
+        step: Step,
+        entry: &ModVec,
+        top: Term,
+    ) -> Result<(), ReduceFault>
+        requires made { length self.old.steps.items ≤ STEPS }
+        requires short { length self.old.rest.items + length self.old.dividend < TERMS }
+        requires entry { IsEntry entry.now }
+        requires range { InRange step.q }
+        requires room { HasRoom step.t entry.now }
+        ensures is { (b : List (List Term)) (v : Coefficients) → IsStepAt b top step → slice_get b step.by ≡ Some entry.now →
+            Running b v self.old.steps.items self.old.rest.items (top ∷ self.old.dividend) →
+            MatchResult result (λ _. Running b v self.new.steps.items self.new.rest.items self.new.dividend) (Fails b v) }
+        ensures step { IfOk result (λ _. self.new.steps.items ≡ self.old.steps.items ++ step ∷ []) }
+    {
+        let made = self.steps.len() as u32;
+        if made == STEPS {
+            return Err(ReduceFault::Stop(Stop::Deep));
+        }
+        let number = made + 1;
+        let terms = entry.terms();
+        let lead = &terms[0];
+        let Some(k) = reduced(top.k, step.q, lead.k) else {
+            return Err(ReduceFault::Stop(Stop::Wide {
+                at: top.at,
+                step: number,
+            }));
+        };
+        let changes = changes(alloc, &self.dividend, step.q, &step.t, &terms[1..], number)?;
+        self.dividend.change(changes.as_slice())?;
+        keep(&mut self.rest, top.at, k)?;
+        let count = self.rest.len() + self.dividend.len();
+        if count > TERMS as usize {
+            return Err(ReduceFault::Stop(Stop::Long {
+                terms: count as u32,
+                step: number,
+            }));
+        }
+        self.steps.push(step)?;
+        Ok(())
+    }
+}
+
+/// Puts the final coefficient at `at` behind the terms, unless it is 0.
+fn keep(rest: &mut Vec<Term>, at: Place, k: i128) -> Result<(), AllocError>
+    ensures { IfOk result (λ _. IsKept rest.old.items at k rest.new.items) }
+{
+    if k == 0 {
+        return Ok(());
+    }
+    rest.push(Term { at, k })?;
+    Ok(())
+}
