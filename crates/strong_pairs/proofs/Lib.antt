@@ -1,0 +1,4 @@
+pub mod Quotients
+pub mod LeadTerms
+pub mod Adding
+pub mod CoverTests
