@@ -1,1 +1,42 @@
+//! The laws of strong lists, as contracts of functions that do nothing: when a list is strong, and what a strong list
+//! decides. They hold for the module that any list of vectors generates.
 
+ghost use Rattle.std.specs.Prelude.{◌≡◌, ℕ, ◌<◌, ◌↔◌, [], List, length};
+ghost use Rattle.module_vec.specs.declared.places.Place.{Place};
+ghost use Rattle.module_vec.specs.declared.places.Term.{Term};
+ghost use Rattle.module_vec.specs.declared.steps.Step.{Step};
+ghost use Rattle.module_vec.specs.Chains.{Chain, IsEnd};
+ghost use Rattle.module_vec.specs.Modules.{vector_at, steps_at, AreSteps, InModule, IsStrong, IsReduced};
+ghost use Rattle.module_vec.specs.Reducers.{AreEntries};
+ghost use Rattle.module_vec.specs.Vectors.{Coefficients, coefficient_at, difference_at, IsSparse};
+
+/// Sums of multiples of members of the module are members.
+pub fn sums_of_members_are_members()
+    ensures { (gens b : List (List Term)) → ((i : ℕ) → i < length b → InModule gens (coefficient_at (vector_at b i))) →
+        (steps : List Step) → AreSteps b steps → InModule gens (steps_at b steps) }
+{}
+
+/// What a chain takes away is the sum of its steps.
+pub fn chains_take_away_their_steps()
+    ensures { (b : List (List Term)) → AreEntries b → (steps : List Step) (f g : Coefficients) → Chain b f steps g →
+        AreSteps b steps × ((x : Place) → difference_at f g x ≡ steps_at b steps x) }
+{}
+
+/// Over a strong list a chain that has an end ends in the reduced vector.
+pub fn chains_reduce()
+    ensures { (gens b : List (List Term)) → AreEntries b → IsStrong gens b →
+        (f g : Coefficients) (steps : List Step) → Chain b f steps g → IsEnd b g → IsReduced gens f g }
+{}
+
+/// Over a strong list the end of a chain is empty exactly where the chain began with a member of the module.
+pub fn chains_decide_membership()
+    ensures { (gens b : List (List Term)) → AreEntries b → IsStrong gens b →
+        (f : Coefficients) (rest : List Term) (steps : List Step) → IsSparse rest →
+        Chain b f steps (coefficient_at rest) → IsEnd b (coefficient_at rest) → (rest ≡ []) ↔ InModule gens f }
+{}
+
+/// A vector has at most one reduced form.
+pub fn reduced_vectors_are_determined()
+    ensures { (gens : List (List Term)) (f g h : Coefficients) → IsReduced gens f g → IsReduced gens f h →
+        (x : Place) → g x ≡ h x }
+{}

@@ -1,6 +1,6 @@
 //! S- and G-vectors.
 
-ghost use Rattle.std.specs.Prelude.{◌+ℤ◌, IfOk};
+ghost use Rattle.std.specs.Prelude.{◌+ℤ◌, ◌↔◌, IsTrue, IfOk};
 ghost use Rattle.module_vec.specs.Chains.{taken_at};
 ghost use Rattle.module_vec.specs.Results.{Makes};
 ghost use Rattle.module_vec.specs.Vectors.{coefficient_at};
@@ -52,6 +52,13 @@ pub fn pair_vector<L: VecList>(
     let (first, second) = pair_steps(list, kind, i, j)?;
     let multiple = plus(alloc, list, &ModVec::empty(alloc), &first)?;
     Ok(plus(alloc, list, &multiple, &second)?)
+}
+
+/// Whether i and j, i below j, are numbers of entries whose leads have one component.
+pub fn is_pair<L: VecList>(list: &L, i: u32, j: u32) -> bool
+    ensures { IsTrue result ↔ IsPair (L.vectors list.now) i j }
+{
+    i < j && j < list.count() && lead(list, i).at.c == lead(list, j).at.c
 }
 
 /// The two multiples whose sum is the pair's vector, that of entry i first. The only error is `Steep`.
