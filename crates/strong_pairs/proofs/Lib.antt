@@ -6,3 +6,6 @@ pub mod Members
 pub mod Entered
 pub mod Reducing
 pub mod Exactness
+pub mod Shifted
+pub mod Coverage
+pub mod Exchanges

@@ -7,6 +7,7 @@ use Rattle.module_vec.specs.declared.places.Term.{Term}
 use Rattle.module_vec.specs.declared.steps.Step.{Step}
 use Rattle.module_vec.specs.Modules.{steps_at}
 use Rattle.module_vec.specs.Places.{IsBelow, moved}
+use Rattle.module_vec.specs.Reducers.{Reduces}
 use Rattle.module_vec.specs.Vectors.{Coefficients}
 use Rattle.strong_pairs.specs.declared.kinds.PairKind.{PairKind}
 use Rattle.strong_pairs.specs.declared.kinds.PairKind.TheVariants.{S, G}
@@ -48,3 +49,14 @@ AreClosed b kind = (i j : ℕ) → IsPair b i j → IsClosed b kind i j
 
 abbrev pub AllClosed : List (List Term) → Type 0
 AllClosed b = (kind : PairKind) → AreClosed b kind
+
+-- ---- what closed G tasks give
+
+-- the lead of entry number i divides p
+abbrev pub Reaches : List (List Term) → Place → ℕ → Type 0
+Reaches b p i = (i < length b) × Reduces (lead_at b i) p
+
+-- the lead of entry number k divides p, and its coefficient divides the lead coefficients of all the numbered entries
+pub record DividesAll (b : List (List Term)) (p : Place) (numbers : List ℕ) (k : ℕ) : Type 0 where
+  pub reaches : Reaches b p k
+  pub divides : AllByRecursion (λ i. Divides (lead_at b k).k (lead_at b i).k) numbers

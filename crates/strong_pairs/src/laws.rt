@@ -1,7 +1,8 @@
 //! The laws of strong lists, as contracts of functions that do nothing: when a list is strong, and what a strong list
 //! decides. They hold for the module that any list of vectors generates.
 
-ghost use Rattle.std.specs.Prelude.{◌≡◌, ℕ, ◌<◌, ◌↔◌, [], List, length};
+ghost use Rattle.std.specs.List.{AllByRecursion};
+ghost use Rattle.std.specs.Prelude.{◌≡◌, ℕ, ◌<◌, ◌↔◌, [], ◌∷◌, List, length};
 ghost use Rattle.module_vec.specs.declared.places.Place.{Place};
 ghost use Rattle.module_vec.specs.declared.places.Term.{Term};
 ghost use Rattle.module_vec.specs.declared.steps.Step.{Step};
@@ -9,6 +10,8 @@ ghost use Rattle.module_vec.specs.Chains.{Chain, IsEnd};
 ghost use Rattle.module_vec.specs.Modules.{vector_at, steps_at, AreSteps, InModule, IsStrong, IsReduced};
 ghost use Rattle.module_vec.specs.Reducers.{AreEntries};
 ghost use Rattle.module_vec.specs.Vectors.{Coefficients, coefficient_at, difference_at, IsSparse};
+ghost use Rattle.strong_pairs.specs.declared.kinds.PairKind.TheVariants.{S, G};
+ghost use Rattle.strong_pairs.specs.Tasks.{AreClosed, Reaches, DividesAll};
 
 /// Sums of multiples of members of the module are members.
 pub fn sums_of_members_are_members()
@@ -39,4 +42,11 @@ pub fn chains_decide_membership()
 pub fn reduced_vectors_are_determined()
     ensures { (gens : List (List Term)) (f g h : Coefficients) → IsReduced gens f g → IsReduced gens f h →
         (x : Place) → g x ≡ h x }
+{}
+
+/// Coverage of greatest common divisors: where the G tasks are closed, of the entries whose leads divide a place, and of
+/// which some are given, one has a lead coefficient that divides those of all the given ones.
+pub fn divisors_are_covered()
+    ensures { (b : List (List Term)) → AreEntries b → AreClosed b G → (p : Place) (i : ℕ) (numbers : List ℕ) →
+        AllByRecursion (Reaches b p) (i ∷ numbers) → (k : ℕ) × DividesAll b p (i ∷ numbers) k }
 {}
