@@ -38,7 +38,7 @@ pub product-cancel : (a c m : List ℕ) → length a ≡ length m → length c �
 product-cancel a c m la lc e =
     sym (quotient-product m a (sym la)) ∙ ap (λ z. quotient z m) (product_comm m a ∙ e ∙ product_comm c m) ∙ quotient-product m c (sym lc)
 
-quotient-back : (s t : List ℕ) → length s ≡ length t → divides s t ≡ true → product (quotient t s) s ≡ t
+pub quotient-back : (s t : List ℕ) → length s ≡ length t → divides s t ≡ true → product (quotient t s) s ≡ t
 quotient-back s t e d = product_comm (quotient t s) s ∙ product-quotient s t e d
 
 -- a multiple's place is divided

@@ -9,3 +9,5 @@ pub mod Exactness
 pub mod Shifted
 pub mod Coverage
 pub mod Exchanges
+pub mod Descending
+pub mod Criterion

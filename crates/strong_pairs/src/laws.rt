@@ -11,7 +11,8 @@ ghost use Rattle.module_vec.specs.Modules.{vector_at, steps_at, AreSteps, InModu
 ghost use Rattle.module_vec.specs.Reducers.{AreEntries};
 ghost use Rattle.module_vec.specs.Vectors.{Coefficients, coefficient_at, difference_at, IsSparse};
 ghost use Rattle.strong_pairs.specs.declared.kinds.PairKind.TheVariants.{S, G};
-ghost use Rattle.strong_pairs.specs.Tasks.{AreClosed, Reaches, DividesAll};
+ghost use Rattle.strong_pairs.specs.Generating.{IsGenerating};
+ghost use Rattle.strong_pairs.specs.Tasks.{AreClosed, AllClosed, Reaches, DividesAll};
 
 /// Sums of multiples of members of the module are members.
 pub fn sums_of_members_are_members()
@@ -42,6 +43,12 @@ pub fn chains_decide_membership()
 pub fn reduced_vectors_are_determined()
     ensures { (gens : List (List Term)) (f g h : Coefficients) → IsReduced gens f g → IsReduced gens f h →
         (x : Place) → g x ≡ h x }
+{}
+
+/// The strong criterion (Möller 1988; Lichtblau 2012): a list of entries that generates the module, and all of whose tasks
+/// are truly closed, is strong.
+pub fn closed_lists_are_strong()
+    ensures { (gens b : List (List Term)) → IsGenerating gens b → AllClosed b → IsStrong gens b }
 {}
 
 /// Coverage of greatest common divisors: where the G tasks are closed, of the entries whose leads divide a place, and of
