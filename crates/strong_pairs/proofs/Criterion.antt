@@ -27,6 +27,7 @@ use Rattle.strong_pairs.specs.Tasks.{step_place, AreStepsAt, AreStepsBelow, AreC
 use Rattle.strong_pairs.proofs.Coverage.{coverage}
 use Rattle.strong_pairs.proofs.Descending.{Lower, place_acc}
 use Rattle.strong_pairs.proofs.Entered.{behind, is_entry, as_entry, lead_length, lead_positive, length-quotient}
+use Rattle.strong_pairs.proofs.Exactness.{zero_or_not}
 use Rattle.strong_pairs.proofs.Exchanges.{Meets, Exchanged, exchange, divides-multiple, quotient-back}
 use Rattle.strong_pairs.proofs.Members.{scaled, steps_at-cons, steps_at-append, steps_at-scaled, module_same}
 use Rattle.strong_pairs.proofs.Shifted.{InAll, shifted, taken_is, shifted_lead, shifted_above, place_length, zero_over, at_append, at_scaled, at_weaker}
@@ -125,11 +126,6 @@ module _ (b : List (List Term)) (entries : AreEntries b) where
       by (inl e) = e
       by (inr (inl l)) = absurd (lq.nonzero (lp.above q l))
       by (inr (inr l)) = absurd (lp.nonzero (lq.above p l))
-
-  zero_or_not : (z : ℤ) → (z ≡ pos 0) ⊎ (z ≢ pos 0)
-  zero_or_not (pos zero) = inl refl
-  zero_or_not (pos (suc n)) = inr (λ e. absurd cc)
-  zero_or_not (negsuc n) = inr (λ e. absurd cc)
 
   module _ (closed : AllClosed b) where
     -- by the steps below the place

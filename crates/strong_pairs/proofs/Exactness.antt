@@ -47,7 +47,7 @@ chain_sum b entries (s ∷ ss) f g h =
 
 -- ---- the end
 
-zero_or_not : (z : ℤ) → (z ≡ pos 0) ⊎ (z ≢ pos 0)
+pub zero_or_not : (z : ℤ) → (z ≡ pos 0) ⊎ (z ≢ pos 0)
 zero_or_not (pos zero) = inl refl
 zero_or_not (pos (suc n)) = inr (λ e. absurd cc)
 zero_or_not (negsuc n) = inr (λ e. absurd cc)
@@ -132,7 +132,7 @@ module _ (gens b : List (List Term)) (entries : AreEntries b) (strong : IsStrong
 -- ---- at most one reduced vector
 
 -- P holds of the key of a term, or the coefficient is 0
-pick : (P : Place → Type 0) (v : FormalSum Place) → AllByRecursion (λ t. P t.1) v → (x : Place) → (coefficient same_place v x ≡ pos 0) ⊎ P x
+pub pick : (P : Place → Type 0) (v : FormalSum Place) → AllByRecursion (λ t. P t.1) v → (x : Place) → (coefficient same_place v x ≡ pos 0) ⊎ P x
 pick P [] all x = inl refl
 pick P (t ∷ v) all x = by (same_place t.1 x) refl (pick P v all.1 x)
   where

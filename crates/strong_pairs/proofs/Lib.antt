@@ -11,3 +11,4 @@ pub mod Coverage
 pub mod Exchanges
 pub mod Descending
 pub mod Criterion
+pub mod Chaining

@@ -1,6 +1,6 @@
 -- Tasks: a pair with a kind. A task is closed where the list already has what the pair's vector could add to it.
 use Rattle.std.specs.List.{AllByRecursion}
-use Rattle.std.specs.Prelude.{◌≡◌, ℕ, ◌<◌, ◌⊎◌, List, length}
+use Rattle.std.specs.Prelude.{◌≡◌, ◌≢◌, ℕ, ◌<◌, ◌⊎◌, pos, List, length}
 use Rattle.laurent_terms.specs.declared.TheConstants.{VARIABLES}
 use Rattle.module_vec.specs.declared.places.Place.{Place}
 use Rattle.module_vec.specs.declared.places.Term.{Term}
@@ -49,6 +49,10 @@ AreClosed b kind = (i j : ℕ) → IsPair b i j → IsClosed b kind i j
 
 abbrev pub AllClosed : List (List Term) → Type 0
 AllClosed b = (kind : PairKind) → AreClosed b kind
+
+-- f is nonzero only at places in all variables of which P holds
+abbrev pub StandsAt : (Place → Type 0) → Coefficients → Type 0
+StandsAt P f = (x : Place) → f x ≢ pos 0 → (length x.m ≡ VARIABLES) × P x
 
 -- ---- what closed G tasks give
 

@@ -2,17 +2,21 @@
 //! decides. They hold for the module that any list of vectors generates.
 
 ghost use Rattle.std.specs.List.{AllByRecursion};
-ghost use Rattle.std.specs.Prelude.{◌≡◌, ℕ, ◌<◌, ◌↔◌, [], ◌∷◌, List, length};
+ghost use Rattle.std.specs.Prelude.{◌≡◌, ℕ, ◌<◌, ◌↔◌, pos, [], ◌∷◌, List, length};
 ghost use Rattle.module_vec.specs.declared.places.Place.{Place};
 ghost use Rattle.module_vec.specs.declared.places.Term.{Term};
 ghost use Rattle.module_vec.specs.declared.steps.Step.{Step};
 ghost use Rattle.module_vec.specs.Chains.{Chain, IsEnd};
 ghost use Rattle.module_vec.specs.Modules.{vector_at, steps_at, AreSteps, InModule, IsStrong, IsReduced};
+ghost use Rattle.module_vec.specs.Places.{IsBelow};
 ghost use Rattle.module_vec.specs.Reducers.{AreEntries};
 ghost use Rattle.module_vec.specs.Vectors.{Coefficients, coefficient_at, difference_at, IsSparse};
+ghost use Rattle.strong_pairs.specs.declared.kinds.PairKind.{PairKind};
 ghost use Rattle.strong_pairs.specs.declared.kinds.PairKind.TheVariants.{S, G};
+ghost use Rattle.strong_pairs.specs.Pairs.{IsPair};
+ghost use Rattle.strong_pairs.specs.Results.{IsPairVector};
 ghost use Rattle.strong_pairs.specs.Generating.{IsGenerating};
-ghost use Rattle.strong_pairs.specs.Tasks.{AreClosed, AllClosed, Reaches, DividesAll};
+ghost use Rattle.strong_pairs.specs.Tasks.{StandsAt, AreStepsBelow, IsClosed, AreClosed, AllClosed, Reaches, DividesAll};
 
 /// Sums of multiples of members of the module are members.
 pub fn sums_of_members_are_members()
@@ -49,6 +53,19 @@ pub fn reduced_vectors_are_determined()
 /// are truly closed, is strong.
 pub fn closed_lists_are_strong()
     ensures { (gens b : List (List Term)) → IsGenerating gens b → AllClosed b → IsStrong gens b }
+{}
+
+/// The chain of what stands below a place takes away multiples whose lead places lie below it.
+pub fn chains_stay_below()
+    ensures { (b : List (List Term)) → AreEntries b → (p : Place) (steps : List Step) (f g : Coefficients) →
+        StandsAt (λ x. IsBelow x p) f → Chain b f steps g → AreStepsBelow b p steps }
+{}
+
+/// A task is truly closed where the chain of its pair's vector ends at zero.
+pub fn chains_to_zero_close_tasks()
+    ensures { (b : List (List Term)) → AreEntries b → (i j : ℕ) → IsPair b i j → (kind : PairKind) (v : List Term) →
+        IsPairVector kind b i j v → (steps : List Step) (g : Coefficients) → Chain b (coefficient_at v) steps g →
+        ((x : Place) → g x ≡ pos 0) → IsClosed b kind i j }
 {}
 
 /// Coverage of greatest common divisors: where the G tasks are closed, of the entries whose leads divide a place, and of
