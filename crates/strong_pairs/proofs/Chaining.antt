@@ -28,7 +28,7 @@ use Rattle.strong_pairs.specs.declared.kinds.PairKind.TheVariants.{S, G}
 use Rattle.strong_pairs.specs.Covering.{Divides}
 use Rattle.strong_pairs.specs.Pairs.{lead_at, IsPair, pair_place, AreFactors, ArePairSteps, both_at}
 use Rattle.strong_pairs.specs.Results.{IsPairVector}
-use Rattle.strong_pairs.specs.Tasks.{step_place, StandsAt, AreStepsAt, AreStepsBelow, IsClosed}
+use Rattle.strong_pairs.specs.Tasks.{step_place, IsUpTo, StandsAt, AreStepsAt, AreStepsBelow, IsClosed}
 use Rattle.strong_pairs.proofs.Coverage.{divides_on}
 use Rattle.strong_pairs.proofs.Entered.{lead_length, lead_positive, entry_number, entry_lead, length-quotient, is_entry, as_entry, behind}
 use Rattle.strong_pairs.proofs.Exactness.{step_length, chain_sum, pick, zero_or_not}
@@ -47,7 +47,7 @@ module _ (b : List (List Term)) (entries : AreEntries b) where
       ap (λ (e : Term). moved s.t e.at) own
       ∙ λ i. record { m = (ap (λ t. product t n.lead.at.m) n.monomial ∙ quotient-back n.lead.at.m n.place.m (m-length ∙ sym long) n.due.reducer.reduces.1) i; c = n.due.reducer.reduces.0 i }
 
-  due_nonzero : (f : Coefficients) (s : Step) (n : IsNext b f s) → f n.place ≢ pos 0
+  pub due_nonzero : (f : Coefficients) (s : Step) (n : IsNext b f s) → f n.place ≢ pos 0
   due_nonzero f s n e =
       let positive : pos 0 <ℤ n.lead.k = (lead_of_entry_positive b entries s.by n.lead n.others n.due.reducer.entry).1 in
       n.due.moves (ap (λ z. int_div_euclid z n.lead.k) e ∙ zero_floor (pos 0) n.lead.k (omega (arith, ints)) positive)
@@ -74,12 +74,12 @@ module _ (b : List (List Term)) (entries : AreEntries b) where
 
   -- ---- what holds of all places of the vector and goes down, holds of all steps' lead places
   module _ (P : Place → Type 0) (down : (x y : Place) → IsBelow y x → P x → P y) where
-    step_stands : (f : Coefficients) → StandsAt P f → (s : Step) (n : IsNext b f s) → (length s.t ≡ VARIABLES) × (s.by < length b) × P (step_place b s)
+    pub step_stands : (f : Coefficients) → StandsAt P f → (s : Step) (n : IsNext b f s) → (length s.t ≡ VARIABLES) × (s.by < length b) × P (step_place b s)
     step_stands f stands s n =
         let there : InAll n.place × P n.place = stands n.place (due_nonzero f s n) in
         (step_length b entries f s n, entry_number b s.by (n.lead ∷ n.others) n.due.reducer.entry, subst P (sym (due_place f s n there.0)) there.1)
 
-    after_stands : (f : Coefficients) → StandsAt P f → (s : Step) → (length s.t ≡ VARIABLES) × (s.by < length b) × P (step_place b s) → StandsAt P (after b f s)
+    pub after_stands : (f : Coefficients) → StandsAt P f → (s : Step) → (length s.t ≡ VARIABLES) × (s.by < length b) × P (step_place b s) → StandsAt P (after b f s)
     after_stands f stands s h x nz = by (zero_or_not (f x))
       where
         by_multiple : InAll x × ((x ≡ step_place b s) ⊎ IsBelow x (step_place b s)) → InAll x × P x
@@ -102,6 +102,13 @@ module _ (b : List (List Term)) (entries : AreEntries b) where
   -- THE CHAIN OF WHAT STANDS BELOW A PLACE
   pub chain_below : (p : Place) (ss : List Step) (f g : Coefficients) → StandsAt (λ x. IsBelow x p) f → Chain b f ss g → AreStepsBelow b p ss
   chain_below p ss f g stands h = chain_stands (λ x. IsBelow x p) (λ x y l k. order.transitive y x p l k) ss f g h stands
+
+  pub chain_up_to : (p : Place) (ss : List Step) (f g : Coefficients) → StandsAt (λ x. IsUpTo x p) f → Chain b f ss g → AreStepsAt (λ x. IsUpTo x p) b ss
+  chain_up_to p ss f g stands h = chain_stands (λ x. IsUpTo x p) lower ss f g h stands
+    where
+      lower : (x y : Place) → IsBelow y x → IsUpTo x p → IsUpTo y p
+      lower x y l (inl e) = inr (subst (IsBelow y) e l)
+      lower x y l (inr k) = inr (order.transitive y x p l k)
 
   -- ---- the vector of a pair
   module _ (kind : PairKind) (i j : ℕ) (pair : IsPair b i j) (first second : Step) (are : ArePairSteps kind b i j first second) where
@@ -216,10 +223,22 @@ module _ (b : List (List Term)) (entries : AreEntries b) (i j : ℕ) (pair : IsP
       whole : (x : Place) → both_at b is.first is.second x ≡ steps_at b ss x
       whole x = sym (same x) ∙ nothing (coefficient_at v x) (g x) (none x) ∙ (chain_sum b entries ss (coefficient_at v) g chain).1 x
 
+  pub s_stands : (v : List Term) → IsPairVector S b i j v → StandsAt (λ x. IsBelow x (pair_place b i j)) (coefficient_at v)
+  s_stands v is x nz = s_below is.first is.second is.steps x (λ e. nz (is.made.1.is x ∙ e))
+
+  pub g_stands : (v : List Term) → IsPairVector G b i j v → StandsAt (λ x. IsUpTo x (pair_place b i j)) (coefficient_at v)
+  g_stands v is x nz = both_stand b entries G i j pair is.first is.second is.steps x (λ e. nz (is.made.1.is x ∙ e))
+
+  pub g_divisor : (v : List Term) → IsPairVector G b i j v → IsGcd (unsigned_abs (lead_at b i).k) (unsigned_abs (lead_at b j).k) (unsigned_abs (coefficient_at v (pair_place b i j)))
+  g_divisor v is = by is.steps.factors
+    where
+      by : AreFactors G (lead_at b i).k (lead_at b j).k is.first.q is.second.q → IsGcd (unsigned_abs (lead_at b i).k) (unsigned_abs (lead_at b j).k) (unsigned_abs (coefficient_at v (pair_place b i j)))
+      by (d, bezout) = subst (λ z. IsGcd (unsigned_abs (lead_at b i).k) (unsigned_abs (lead_at b j).k) (unsigned_abs z)) (sym bezout.sum ∙ sym (both_there b entries G i j pair is.first is.second is.steps) ∙ sym (is.made.1.is (pair_place b i j))) bezout.divisor
+
   -- ---- G: what the chain takes from the pair's place are multiples of one lead coefficient
   module _ (r : ℕ) (e : Term) (h : List Term) (reducer : IsReducer b (pair_place b i j) r e h) where
     abbrev AtMost : Place → Type 0
-    AtMost x = (x ≡ pair_place b i j) ⊎ IsBelow x (pair_place b i j)
+    AtMost x = IsUpTo x (pair_place b i j)
 
     lower : (x y : Place) → IsBelow y x → AtMost x → AtMost y
     lower x y l (inl q) = inr (subst (IsBelow y) q l)

@@ -12,3 +12,5 @@ pub mod Exchanges
 pub mod Descending
 pub mod Criterion
 pub mod Chaining
+pub mod Determination
+pub mod FallingSteps

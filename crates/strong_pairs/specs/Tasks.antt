@@ -1,6 +1,7 @@
 -- Tasks: a pair with a kind. A task is closed where the list already has what the pair's vector could add to it.
 use Rattle.std.specs.List.{AllByRecursion}
-use Rattle.std.specs.Prelude.{◌≡◌, ◌≢◌, ℕ, ◌<◌, ◌⊎◌, pos, List, length}
+use Rattle.std.specs.Prelude.{◌≡◌, ◌≢◌, ℕ, ◌<◌, ◌⊎◌, pos, List, map, length}
+use Rattle.formal_sums.specs.FormalSum.{FormalSum}
 use Rattle.laurent_terms.specs.declared.TheConstants.{VARIABLES}
 use Rattle.module_vec.specs.declared.places.Place.{Place}
 use Rattle.module_vec.specs.declared.places.Term.{Term}
@@ -17,6 +18,14 @@ use Rattle.strong_pairs.specs.Pairs.{lead_at, IsPair, pair_place, ArePairSteps, 
 -- the place to which the step carries the lead of its vector
 abbrev pub step_place : List (List Term) → Step → Place
 step_place b s = moved s.t (lead_at b s.by).at
+
+-- the lead places of the steps, each with its step's factor
+abbrev pub step_places : List (List Term) → List Step → FormalSum Place
+step_places b ss = map (λ s. (s.q, step_place b s)) ss
+
+-- x is p or lies below it
+abbrev pub IsUpTo : Place → Place → Type 0
+IsUpTo x p = (x ≡ p) ⊎ IsBelow x p
 
 -- each step has a monomial in all variables and names a vector of the list, and P holds of its lead place
 abbrev pub AreStepsAt : (Place → Type 0) → List (List Term) → List Step → Type 0

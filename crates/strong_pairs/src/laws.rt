@@ -1,8 +1,10 @@
 //! The laws of strong lists, as contracts of functions that do nothing: when a list is strong, and what a strong list
 //! decides. They hold for the module that any list of vectors generates.
 
+ghost use Rattle.std.specs.Int.{IsGcd};
 ghost use Rattle.std.specs.List.{AllByRecursion};
-ghost use Rattle.std.specs.Prelude.{◌≡◌, ℕ, ◌<◌, ◌↔◌, pos, [], ◌∷◌, List, length};
+ghost use Rattle.std.specs.Prelude.{◌≡◌, ℕ, ◌<◌, ◌↔◌, pos, unsigned_abs, [], ◌∷◌, List, length};
+ghost use Rattle.formal_sums.specs.FormalSum.{Falling};
 ghost use Rattle.module_vec.specs.declared.places.Place.{Place};
 ghost use Rattle.module_vec.specs.declared.places.Term.{Term};
 ghost use Rattle.module_vec.specs.declared.steps.Step.{Step};
@@ -13,10 +15,10 @@ ghost use Rattle.module_vec.specs.Reducers.{AreEntries};
 ghost use Rattle.module_vec.specs.Vectors.{Coefficients, coefficient_at, difference_at, IsSparse};
 ghost use Rattle.strong_pairs.specs.declared.kinds.PairKind.{PairKind};
 ghost use Rattle.strong_pairs.specs.declared.kinds.PairKind.TheVariants.{S, G};
-ghost use Rattle.strong_pairs.specs.Pairs.{IsPair};
+ghost use Rattle.strong_pairs.specs.Pairs.{lead_at, IsPair, pair_place, ArePairSteps};
 ghost use Rattle.strong_pairs.specs.Results.{IsPairVector};
-ghost use Rattle.strong_pairs.specs.Generating.{IsGenerating};
-ghost use Rattle.strong_pairs.specs.Tasks.{StandsAt, AreStepsBelow, IsClosed, AreClosed, AllClosed, Reaches, DividesAll};
+ghost use Rattle.strong_pairs.specs.Generating.{BeginsWith, Holds, IsGenerating};
+ghost use Rattle.strong_pairs.specs.Tasks.{step_places, IsUpTo, StandsAt, AreStepsAt, AreStepsBelow, IsClosed, IsClosedFromStart, AreClosed, AllClosed, Reaches, DividesAll};
 
 /// Sums of multiples of members of the module are members.
 pub fn sums_of_members_are_members()
@@ -55,10 +57,40 @@ pub fn closed_lists_are_strong()
     ensures { (gens b : List (List Term)) → IsGenerating gens b → AllClosed b → IsStrong gens b }
 {}
 
-/// The chain of what stands below a place takes away multiples whose lead places lie below it.
+/// The chain of what stands below a place, or up to it, takes away multiples whose lead places lie there too; and these
+/// places fall strictly from step to step.
 pub fn chains_stay_below()
-    ensures { (b : List (List Term)) → AreEntries b → (p : Place) (steps : List Step) (f g : Coefficients) →
+    ensures below { (b : List (List Term)) → AreEntries b → (p : Place) (steps : List Step) (f g : Coefficients) →
         StandsAt (λ x. IsBelow x p) f → Chain b f steps g → AreStepsBelow b p steps }
+    ensures up_to { (b : List (List Term)) → AreEntries b → (p : Place) (steps : List Step) (f g : Coefficients) →
+        StandsAt (λ x. IsUpTo x p) f → Chain b f steps g → AreStepsAt (λ x. IsUpTo x p) b steps }
+    ensures falling { (b : List (List Term)) → AreEntries b → (steps : List Step) (f g : Coefficients) →
+        StandsAt (λ x. Unit {0}) f → Chain b f steps g → Falling IsBelow (step_places b steps) }
+{}
+
+/// A pair has one S-vector and one G-vector, since their steps are determined.
+pub fn pair_steps_are_determined()
+    ensures { (b : List (List Term)) → AreEntries b → (kind : PairKind) (i j : ℕ) → IsPair b i j →
+        (first second third fourth : Step) → ArePairSteps kind b i j first second → ArePairSteps kind b i j third fourth →
+        (first ≡ third) × (second ≡ fourth) }
+{}
+
+/// An S-vector stands below the pair's place. A G-vector stands up to it, and has the greatest common divisor of the lead
+/// coefficients there.
+pub fn pair_vectors_stand()
+    ensures s { (b : List (List Term)) → AreEntries b → (i j : ℕ) → IsPair b i j → (v : List Term) →
+        IsPairVector S b i j v → StandsAt (λ x. IsBelow x (pair_place b i j)) (coefficient_at v) }
+    ensures g { (b : List (List Term)) → AreEntries b → (i j : ℕ) → IsPair b i j → (v : List Term) →
+        IsPairVector G b i j v → StandsAt (λ x. IsUpTo x (pair_place b i j)) (coefficient_at v) }
+    ensures divisor { (b : List (List Term)) → AreEntries b → (i j : ℕ) → IsPair b i j → (v : List Term) →
+        IsPairVector G b i j v →
+        IsGcd (unsigned_abs (lead_at b i).k) (unsigned_abs (lead_at b j).k) (unsigned_abs (coefficient_at v (pair_place b i j))) }
+{}
+
+/// A task that is closed from the start is truly closed.
+pub fn starts_close_tasks()
+    ensures { (b : List (List Term)) → AreEntries b → (kind : PairKind) (i j : ℕ) → IsPair b i j →
+        IsClosedFromStart b kind i j → IsClosed b kind i j }
 {}
 
 /// A task is truly closed where the chain of its pair's vector ends at zero.
@@ -73,4 +105,9 @@ pub fn chains_to_zero_close_tasks()
 pub fn divisors_are_covered()
     ensures { (b : List (List Term)) → AreEntries b → AreClosed b G → (p : Place) (i : ℕ) (numbers : List ℕ) →
         AllByRecursion (Reaches b p) (i ∷ numbers) → (k : ℕ) × DividesAll b p (i ∷ numbers) k }
+{}
+
+/// A list that begins with the generators holds them.
+pub fn beginnings_are_held()
+    ensures { (gens b : List (List Term)) → BeginsWith gens b → Holds gens b }
 {}
