@@ -1,5 +1,5 @@
 -- A sum of two multiples as the program makes it: each is added as its negative is taken away.
-use Rattle.std.proofs.Common.{◌≡◌, ℕ, zero, suc, ◌+◌, ◌<◌, ◌≤◌, ℤ, pos, negsuc, neg_ℤ, ◌+ℤ◌, ◌*ℤ◌, ◌-ℤ◌, List, [], ◌∷◌, length, ◌⊎◌, inl, inr, refl, sym, ap, subst, ◌∙◌, arith}
+use Rattle.std.proofs.Common.{◌≡◌, ℕ, zero, suc, ◌+◌, ◌<◌, ◌≤◌, ℤ, pos, negsuc, neg_ℤ, ◌+ℤ◌, ◌-ℤ◌, List, [], length, inl, inr, refl, sym, ap, subst, ◌∙◌, arith}
 use borrow.Author.Differences.{ints}
 use Rattle.std.specs.Prelude.{unsigned_abs, Some, Result, Ok, Err}
 use Rattle.formal_sums.proofs.Coefficients.{coefficient-scale}
@@ -17,14 +17,14 @@ use Rattle.module_vec.specs.declared.faults.VecFault.TheVariants as of_vector
 use Rattle.module_vec.specs.Chains.{taken_at}
 use Rattle.module_vec.specs.Modules.{vector_at}
 use Rattle.module_vec.specs.Places.{same_place, moved}
-use Rattle.module_vec.specs.Results.{SumIsWide, DifferenceIsWide, StopsBy, IsMade, Makes}
-use Rattle.module_vec.specs.Vectors.{Coefficients, sum_of, coefficient_at, multiple_at, difference_at, InRange, IsWide, HasRoom}
+use Rattle.module_vec.specs.Results.{SumIsWide, DifferenceIsWide, StopsBy, Makes}
+use Rattle.module_vec.specs.Vectors.{Coefficients, sum_of, coefficient_at, multiple_at, difference_at, InRange, IsWide}
 use Rattle.strong_pairs.specs.declared.kinds.PairKind.{PairKind}
 use Rattle.std.specs.Result.{IsErr, IsErrAnd}
 use Rattle.strong_pairs.specs.declared.faults.PairFault.{PairFault}
 use Rattle.strong_pairs.specs.declared.faults.PairFault.TheVariants as faults
-use Rattle.strong_pairs.specs.Pairs.{lead_of, lead_at, IsPair, pair_place, AreFactors, ArePairSteps, both_at}
-use Rattle.strong_pairs.specs.Results.{pair_degree, FindsSteps, IsInReach, AdditionIsWide, FirstIsMade, BothStop, StopsPair, IsPairVector, MakesPair, pair_fault}
+use Rattle.strong_pairs.specs.Pairs.{lead_at, pair_place, AreFactors, both_at}
+use Rattle.strong_pairs.specs.Results.{FindsSteps, IsInReach, AdditionIsWide, BothStop, IsPairVector, MakesPair, pair_fault}
 use Rattle.strong_pairs.proofs.LeadTerms.{room_of}
 
 -- ---- the same numbers leave the range

@@ -1,25 +1,24 @@
 -- The chain of a pair's vector: where its steps stand, and that an empty end closes the task.
-use Rattle.std.proofs.Common.{◌≡◌, ◌≢◌, ℕ, zero, suc, ◌*◌, ◌/◌, ◌<◌, max, Bool, true, false, ℤ, pos, negsuc, neg_ℤ, ◌+ℤ◌, ◌-ℤ◌, ◌*ℤ◌, List, [], ◌∷◌, ◌++◌, length, ◌⊎◌, inl, inr, refl, sym, ap, subst, ◌∙◌, arith}
+use Rattle.std.proofs.Common.{◌≡◌, ◌≢◌, ℕ, ◌*◌, ◌/◌, ◌<◌, max, true, ℤ, pos, negsuc, neg_ℤ, ◌+ℤ◌, ◌-ℤ◌, ◌*ℤ◌, List, [], ◌∷◌, length, ◌⊎◌, inl, inr, refl, sym, ap, subst, ◌∙◌, arith}
 use borrow.Author.Differences.{ints}
 use Rattle.std.specs.Int.{IsGcd, int_div_euclid, ◌∣◌}
 use Rattle.std.specs.List.{AllByRecursion}
-use Rattle.std.specs.Prelude.{unsigned_abs, ◌<ℤ◌, ◌≤ℤ◌}
+use Rattle.std.specs.Prelude.{unsigned_abs, ◌<ℤ◌}
 use Rattle.std.proofs.Math.IntN.{*ℤ_comm}
 use Rattle.std.proofs.Math.Nat.{div-mul_cancel}
-use Rattle.formal_sums.specs.FormalSum.{FormalSum, coefficient, rename}
+use Rattle.formal_sums.specs.FormalSum.{coefficient, rename}
 use Rattle.formal_sums.proofs.Floors.{zero_floor}
-use Rattle.formal_sums.proofs.Integers.{*ℤ-eq-zero, +ℤ-*ℤ, *ℤ-+ℤ, *ℤ_assoc, neg_ℤ-*ℤ}
+use Rattle.formal_sums.proofs.Integers.{*ℤ-eq-zero, +ℤ-*ℤ, *ℤ_assoc, neg_ℤ-*ℤ}
 use Rattle.laurent_terms.specs.declared.TheConstants.{VARIABLES}
-use Rattle.laurent_terms.specs.Factors.{IsBezout}
-use Rattle.laurent_terms.specs.Monomials.{product, quotient, common_multiple, divides}
+use Rattle.laurent_terms.specs.Monomials.{product, divides}
 use Rattle.laurent_terms.proofs.Combining.{length-combined}
 use Rattle.module_vec.specs.declared.places.Place.{Place}
 use Rattle.module_vec.specs.declared.places.Term.{Term}
 use Rattle.module_vec.specs.declared.steps.Step.{Step}
-use Rattle.module_vec.specs.Chains.{IsNext, IsDue, Chain, taken_at, after}
-use Rattle.module_vec.specs.Modules.{vector_at, steps_at, AreSteps}
+use Rattle.module_vec.specs.Chains.{IsNext, Chain, taken_at, after}
+use Rattle.module_vec.specs.Modules.{vector_at, steps_at}
 use Rattle.module_vec.specs.Places.{IsBelow, same_place, moved}
-use Rattle.module_vec.specs.Reducers.{Entry, Reduces, IsReducer, AreEntries}
+use Rattle.module_vec.specs.Reducers.{Reduces, IsReducer, AreEntries}
 use Rattle.module_vec.specs.Vectors.{Coefficients, sum_of, coefficient_at, IsTerm}
 use Rattle.module_vec.proofs.Determined.{same_reducer}
 use Rattle.module_vec.proofs.Order.{order}

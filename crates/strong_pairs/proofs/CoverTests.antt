@@ -1,5 +1,5 @@
 -- The tests that an entry covers a pair.
-use Rattle.std.proofs.Common.{◌≡◌, ℕ, zero, suc, ◌+◌, ◌*◌, ◌/◌, ◌%◌, ◌<◌, ◌≤◌, max, Bool, true, false, ℤ, pos, negsuc, ◌+ℤ◌, ◌*ℤ◌, List, [], ◌∷◌, length, slice_index, IsTrue, nat_eq, to_z, of_z, FitsSigned, ◌↔◌, refl, sym, ap, ◌∙◌, subst, arith}
+use Rattle.std.proofs.Common.{◌≡◌, ℕ, zero, suc, ◌*◌, ◌/◌, ◌%◌, ◌<◌, ◌≤◌, max, Bool, ℤ, pos, negsuc, ◌*ℤ◌, List, [], ◌∷◌, length, slice_index, IsTrue, nat_eq, to_z, of_z, FitsSigned, ◌↔◌, refl, sym, ap, ◌∙◌, subst, arith}
 use borrow.Author.Differences.{ints}
 use lib.Signed.{rem_z}
 use mir.Syntax.{w128}

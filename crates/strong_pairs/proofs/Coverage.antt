@@ -1,5 +1,5 @@
 -- Where the G tasks are closed, the leads that divide a place have one among them, up to an entry, that divides all.
-use Rattle.std.proofs.Common.{◌≡◌, ℕ, zero, suc, ◌<◌, true, ℤ, pos, ◌*ℤ◌, List, [], ◌∷◌, length, ◌⊎◌, inl, inr, refl, sym, ap, subst, ◌∙◌, arith}
+use Rattle.std.proofs.Common.{◌≡◌, ℕ, ◌<◌, true, ℤ, pos, ◌*ℤ◌, List, [], ◌∷◌, length, ◌⊎◌, inl, inr, sym, ap, subst, ◌∙◌, arith}
 use borrow.Author.Differences.{ints}
 use Rattle.std.specs.List.{AllByRecursion}
 use Rattle.formal_sums.proofs.Integers.{*ℤ_assoc}
@@ -8,9 +8,9 @@ use Rattle.laurent_terms.proofs.Division.{divides_trans, divides-common_multiple
 use Rattle.module_vec.specs.declared.places.Place.{Place}
 use Rattle.module_vec.specs.declared.places.Term.{Term}
 use Rattle.module_vec.specs.Reducers.{Reduces, AreEntries}
-use Rattle.strong_pairs.specs.declared.kinds.PairKind.TheVariants.{S, G}
+use Rattle.strong_pairs.specs.declared.kinds.PairKind.TheVariants.{G}
 use Rattle.strong_pairs.specs.Covering.{Divides, CoversLeads, Covers}
-use Rattle.strong_pairs.specs.Pairs.{lead_at, IsPair, meeting_place}
+use Rattle.strong_pairs.specs.Pairs.{lead_at}
 use Rattle.strong_pairs.specs.Tasks.{AreClosed, Reaches, DividesAll}
 use Rattle.strong_pairs.proofs.Entered.{lead_length}
 

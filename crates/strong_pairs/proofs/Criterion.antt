@@ -1,5 +1,5 @@
 -- THE STRONG CRITERION: where all tasks are closed, the lead of each sum of multiples is divided by that of an entry.
-use Rattle.std.proofs.Common.{◌≡◌, ◌≢◌, ℕ, zero, suc, ◌<◌, Bool, true, false, cond, ℤ, pos, negsuc, ◌+ℤ◌, ◌*ℤ◌, List, [], ◌∷◌, ◌++◌, length, ◌⊎◌, inl, inr, refl, sym, ap, subst, ◌∙◌, arith}
+use Rattle.std.proofs.Common.{◌≡◌, ◌≢◌, ℕ, ◌<◌, Bool, true, false, cond, ℤ, pos, negsuc, ◌+ℤ◌, ◌*ℤ◌, List, [], ◌∷◌, ◌++◌, length, ◌⊎◌, inl, inr, refl, sym, ap, subst, ◌∙◌, arith}
 use borrow.Author.Differences.{ints}
 use mathlib.Core.WellFounded.{Acc}
 use Rattle.std.specs.List.{AllByRecursion}
@@ -8,7 +8,7 @@ use Rattle.formal_sums.specs.FormalSum.{coefficient, scale, rename}
 use Rattle.formal_sums.proofs.Coefficients.{coefficient-scale, scale-scale, rename-scale}
 use Rattle.formal_sums.proofs.Integers.{*ℤ-eq-zero, *ℤ-+ℤ, +ℤ-*ℤ, *ℤ_assoc}
 use Rattle.laurent_terms.specs.declared.TheConstants.{VARIABLES}
-use Rattle.laurent_terms.specs.Monomials.{one, divides, quotient, product}
+use Rattle.laurent_terms.specs.Monomials.{one, quotient}
 use Rattle.laurent_terms.proofs.Division.{product-one}
 use Rattle.module_vec.specs.declared.places.Place.{Place}
 use Rattle.module_vec.specs.declared.places.Term.{Term}
@@ -28,8 +28,8 @@ use Rattle.strong_pairs.proofs.Coverage.{coverage}
 use Rattle.strong_pairs.proofs.Descending.{Lower, place_acc}
 use Rattle.strong_pairs.proofs.Entered.{behind, is_entry, as_entry, lead_length, lead_positive, length-quotient}
 use Rattle.strong_pairs.proofs.Exactness.{zero_or_not}
-use Rattle.strong_pairs.proofs.Exchanges.{Meets, Exchanged, exchange, divides-multiple, quotient-back}
-use Rattle.strong_pairs.proofs.Members.{scaled, steps_at-cons, steps_at-append, steps_at-scaled, module_same}
+use Rattle.strong_pairs.proofs.Exchanges.{Exchanged, exchange, divides-multiple, quotient-back}
+use Rattle.strong_pairs.proofs.Members.{scaled, steps_at-cons, steps_at-append, steps_at-scaled}
 use Rattle.strong_pairs.proofs.Shifted.{InAll, shifted, taken_is, shifted_lead, shifted_above, place_length, zero_over, at_append, at_scaled, at_weaker}
 
 abbrev AtMost : Place → Place → Type 0
@@ -103,8 +103,12 @@ module _ (b : List (List Term)) (entries : AreEntries b) where
         by false e a others = below_one (others a)
           where
             below_one : Gathered p k u ss → Gathered p k u (s ∷ ss)
-            below_one (f, rest, below, is) = (f, s ∷ rest, ((h.0.0, h.0.1, below_top s p e h.0.2), below),
-                λ x. steps_at-cons b s ss x ∙ ap (λ z. taken_at b s x +ℤ z) (is x) ∙ past (taken_at b s x) (f *ℤ shifted u (vector_at b k) x) (steps_at b rest x) ∙ ap (λ z. f *ℤ shifted u (vector_at b k) x +ℤ z) (sym (steps_at-cons b s rest x)))
+            below_one (f, rest, below, is) = (
+              f,
+              s ∷ rest,
+              ((h.0.0, h.0.1, below_top s p e h.0.2), below),
+              λ x. steps_at-cons b s ss x ∙ ap (λ z. taken_at b s x +ℤ z) (is x) ∙ past (taken_at b s x) (f *ℤ shifted u (vector_at b k) x) (steps_at b rest x) ∙ ap (λ z. f *ℤ shifted u (vector_at b k) x +ℤ z) (sym (steps_at-cons b s rest x)),
+            )
         by true e a others = exchanged (others a.1) (exchange b entries closed s.by k s.t u p a.0.0 (record { i_in = h.0.1; j_in = k_in; t-length = h.0.0; u-length = long; first = test.sound (step_place b s) p e; second = at_p }) a.0.1)
           where
             exchanged : Gathered p k u ss → Exchanged b entries closed s.by k s.t u p a.0.0 → Gathered p k u (s ∷ ss)

@@ -1,9 +1,9 @@
 -- No chain of places falls for ever.
-use Rattle.std.proofs.Common.{◌≡◌, ℕ, ◌<◌, Bool, true, false, ◌==◌, nat_lt, List, length, ◌⊎◌, inl, inr, refl, sym, ap, subst, ◌∙◌, arith}
+use Rattle.std.proofs.Common.{◌≡◌, ℕ, ◌<◌, Bool, true, false, ◌==◌, nat_lt, List, ◌⊎◌, inl, inr, refl, sym, subst, arith}
 use Rattle.std.specs.declared.cmp.Ordering.{Ordering}
 use Rattle.std.specs.declared.cmp.Ordering.TheVariants.{Less, Equal, Greater}
 use Rattle.std.specs.Ordering.{nat_cmp, ordering_then}
-use mathlib.Core.WellFounded.{Acc, WellFounded}
+use mathlib.Core.WellFounded.{Acc}
 use lib.WfN.{lt-wf_rel}
 use Rattle.laurent_terms.specs.declared.TheConstants.{VARIABLES}
 use Rattle.laurent_terms.specs.Monomials.{mono_cmp}
@@ -11,7 +11,7 @@ use Rattle.laurent_terms.specs.Orders.{Below}
 use Rattle.laurent_terms.proofs.Descent.{below_well_founded}
 use Rattle.laurent_terms.proofs.Ranks.{mono_cmp_exact}
 use Rattle.module_vec.specs.declared.places.Place.{Place}
-use Rattle.module_vec.specs.Places.{IsBelow, place_cmp}
+use Rattle.module_vec.specs.Places.{IsBelow}
 use Rattle.strong_pairs.proofs.Shifted.{InAll}
 
 -- p stands below q, both in all variables

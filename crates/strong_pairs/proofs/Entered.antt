@@ -1,6 +1,6 @@
 -- What is known of the entries of a list.
-use Rattle.std.proofs.Common.{◌≡◌, ℕ, zero, suc, ◌<◌, Bool, true, false, ◌&&◌, nat_le, List, [], ◌∷◌, length, refl, sym, ap, subst, ◌∙◌, arith, pos, ℤ, slice_index_or}
-use Rattle.std.specs.Prelude.{◌<ℤ◌, Some, None, Option, slice_get}
+use Rattle.std.proofs.Common.{◌≡◌, ℕ, zero, suc, ◌<◌, Bool, true, false, ◌&&◌, nat_le, List, [], ◌∷◌, length, refl, sym, ap, subst, ◌∙◌, arith, pos}
+use Rattle.std.specs.Prelude.{◌<ℤ◌, Some, slice_get}
 use Rattle.laurent_terms.specs.declared.TheConstants.{VARIABLES}
 use Rattle.laurent_terms.specs.Monomials.{divides, quotient}
 use Rattle.module_vec.specs.declared.places.Term.{Term}

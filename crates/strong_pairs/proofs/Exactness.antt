@@ -1,28 +1,25 @@
 -- A chain over a strong list ends in the one reduced vector.
-use Rattle.std.proofs.Common.{◌≡◌, ◌≢◌, ℕ, zero, suc, ◌+◌, ◌<◌, ◌≤◌, Bool, true, false, ◌⊎◌, inl, inr, ℤ, pos, negsuc, neg_ℤ, ◌+ℤ◌, ◌-ℤ◌, ◌*ℤ◌, List, [], ◌∷◌, ◌++◌, length, take, ◌↔◌, refl, sym, ap, subst, ◌∙◌, arith}
+use Rattle.std.proofs.Common.{◌≡◌, ◌≢◌, ℕ, zero, suc, Bool, true, false, ◌⊎◌, inl, inr, ℤ, pos, negsuc, ◌+ℤ◌, ◌-ℤ◌, ◌*ℤ◌, List, [], ◌∷◌, length, ◌↔◌, refl, sym, ap, subst, ◌∙◌, arith}
 use borrow.Author.Differences.{ints}
 use Rattle.std.specs.Int.{int_div_euclid}
 use Rattle.std.specs.List.{AllByRecursion}
-use Rattle.std.specs.Prelude.{◌<ℤ◌, ◌≤ℤ◌, Option, Some, None, slice_get}
-use Rattle.std.proofs.lemmas.List.{take_all}
+use Rattle.std.specs.Prelude.{◌<ℤ◌, ◌≤ℤ◌}
 use Rattle.std.proofs.lemmas.Int.{by_lt_z}
 use Rattle.formal_sums.proofs.Floors.{floor_zero}
 use Rattle.formal_sums.proofs.Falling.{coefficient-first, coefficient-above_first}
 use Rattle.formal_sums.specs.FormalSum.{FormalSum, coefficient}
 use Rattle.laurent_terms.specs.declared.TheConstants.{VARIABLES}
-use Rattle.laurent_terms.specs.Monomials.{divides, quotient}
 use Rattle.module_vec.specs.declared.places.Place.{Place}
 use Rattle.module_vec.specs.declared.places.Term.{Term}
 use Rattle.module_vec.specs.declared.steps.Step.{Step}
-use Rattle.module_vec.specs.Chains.{IsNext, IsDue, Chain, IsEnd, Rests, taken_at, after}
-use Rattle.module_vec.specs.Modules.{vector_at, sum_of_steps, steps_at, AreSteps, InModule, IsLead, IsDivided, IsStrong, IsReduced}
+use Rattle.module_vec.specs.Chains.{IsNext, Chain, IsEnd, taken_at, after}
+use Rattle.module_vec.specs.Modules.{sum_of_steps, steps_at, AreSteps, InModule, IsLead, IsDivided, IsStrong, IsReduced}
 use Rattle.module_vec.specs.Places.{IsBelow, same_place}
-use Rattle.module_vec.specs.Reducers.{Entry, Reduces, IsReducer, GoesBefore, AreEntries}
+use Rattle.module_vec.specs.Reducers.{Entry, Reduces, IsReducer, AreEntries}
 use Rattle.module_vec.specs.Vectors.{Coefficients, sum_of, coefficient_at, difference_at, IsSparse}
 use Rattle.module_vec.proofs.Order.{test, order}
-use Rattle.module_vec.proofs.FallingTerms.{at_above}
-use Rattle.module_vec.proofs.Scans.{reducer_least, take_read}
-use Rattle.strong_pairs.proofs.Entered.{entry_at, read_at, entry_number, entry_vector, length-quotient}
+use Rattle.module_vec.proofs.Scans.{reducer_least}
+use Rattle.strong_pairs.proofs.Entered.{entry_number, length-quotient}
 use Rattle.strong_pairs.proofs.Members.{steps_at-cons, module_same, module_difference, sum_in}
 use Rattle.strong_pairs.proofs.Reducing.{reducer_there, lead_of_entry_positive}
 

@@ -1,9 +1,8 @@
 -- A closed S task carries a multiple of one entry over to the other: what is left are multiples with lower lead places.
-use Rattle.std.proofs.Common.{◌≡◌, ◌≢◌, ℕ, zero, suc, ◌+◌, ◌*◌, ◌<◌, max, true, ℤ, pos, negsuc, neg_ℤ, ◌+ℤ◌, ◌-ℤ◌, ◌*ℤ◌, List, [], ◌∷◌, ◌++◌, length, ◌⊎◌, inl, inr, refl, sym, ap, subst, ◌∙◌, arith}
+use Rattle.std.proofs.Common.{◌≡◌, ℕ, ◌+◌, ◌<◌, max, true, ℤ, pos, negsuc, neg_ℤ, ◌+ℤ◌, ◌*ℤ◌, List, [], ◌++◌, length, ◌⊎◌, inl, inr, refl, sym, ap, subst, ◌∙◌, arith}
 use borrow.Author.Differences.{ints}
 use Rattle.std.specs.Int.{IsGcd, ◌∣◌}
 use Rattle.std.specs.Prelude.{unsigned_abs, ◌<ℤ◌}
-use Rattle.std.proofs.Math.IntN.{*ℤ_comm}
 use Rattle.std.proofs.Math.Nat.{dvd-mul_left}
 use Rattle.std.proofs.lemmas.Int.{unsigned_abs-mul}
 use Rattle.std.proofs.lemmas.Nat.Gcd.{dvd_refl, same_from_IsGcd, IsGcd-swap}
@@ -17,20 +16,19 @@ use Rattle.laurent_terms.proofs.Division.{divides-product, quotient-product, pro
 use Rattle.module_vec.specs.declared.places.Place.{Place}
 use Rattle.module_vec.specs.declared.places.Term.{Term}
 use Rattle.module_vec.specs.declared.steps.Step.{Step}
-use Rattle.module_vec.specs.Chains.{taken_at}
-use Rattle.module_vec.specs.Modules.{vector_at, sum_of_steps, steps_at}
+use Rattle.module_vec.specs.Modules.{vector_at, steps_at}
 use Rattle.module_vec.specs.Places.{IsBelow, same_place, moved}
-use Rattle.module_vec.specs.Reducers.{Reduces, AreEntries}
-use Rattle.module_vec.specs.Vectors.{Coefficients, sum_of, multiple}
-use Rattle.strong_pairs.specs.declared.kinds.PairKind.TheVariants.{S, G}
+use Rattle.module_vec.specs.Reducers.{AreEntries}
+use Rattle.module_vec.specs.Vectors.{sum_of, multiple}
+use Rattle.strong_pairs.specs.declared.kinds.PairKind.TheVariants.{S}
 use Rattle.strong_pairs.specs.Covering.{Divides}
-use Rattle.strong_pairs.specs.Pairs.{lead_at, IsPair, pair_place, AreFactors, ArePairSteps, both_at}
-use Rattle.strong_pairs.specs.Tasks.{AreStepsBelow, IsSumBelow, IsClosed, AreClosed}
+use Rattle.strong_pairs.specs.Pairs.{lead_at, pair_place, AreFactors}
+use Rattle.strong_pairs.specs.Tasks.{AreStepsBelow, IsClosed, AreClosed}
 use Rattle.strong_pairs.proofs.Coverage.{order_of}
 use Rattle.strong_pairs.proofs.Entered.{lead_length, lead_positive, length-quotient}
 use Rattle.strong_pairs.proofs.LeadTerms.{divides_common}
 use Rattle.strong_pairs.proofs.Members.{carried, scaled, moved-moved, carried_same, steps_at-scaled}
-use Rattle.strong_pairs.proofs.Shifted.{InAll, shifted, at_scaled, below_carried}
+use Rattle.strong_pairs.proofs.Shifted.{shifted, at_scaled, below_carried}
 
 -- ---- monomials
 
@@ -165,7 +163,7 @@ module _ (b : List (List Term)) (entries : AreEntries b) (closed : AreClosed b S
           let back : product (quotient w m) m ≡ w = quotient-back m w (long ∙ sym w-length) d in
           let q-length : length (quotient w m) ≡ VARIABLES = length-quotient m w d ∙ long in
           product-cancel s (product v (quotient w m)) m (s-length ∙ sym long) (length-combined (λ a c. a + c) v (quotient w m) (v-length ∙ sym q-length) ∙ v-length ∙ sym long)
-              (is ∙ sym v-is ∙ ap (product v) (sym back) ∙ sym (product_assoc v (quotient w m) m))
+          (is ∙ sym v-is ∙ ap (product v) (sym back) ∙ sym (product_assoc v (quotient w m) m))
 
       both_divide : (divides mi w ≡ true) × (divides mj w ≡ true)
       both_divide = divides_common mi mj (mi-length ∙ sym mj-length)
@@ -227,9 +225,11 @@ module _ (b : List (List Term)) (entries : AreEntries b) (closed : AreClosed b S
           (c.steps, c.below, λ x. down c.q c.r f (shifted t (vector_at b i) x) (shifted u (vector_at b k) x) (steps_at b c.steps x) are.0 are.1 (c.is x))
       by (inr (inr l)) =
           let c : PairCarried k i u t p = pair_carried k i u t p l (swapped i k t u p meet) in
-          let are : (c.q ≡ f) × (c.r ≡ negsuc 0) = up_factors (lead_at b k).k (lead_at b i).k f c.q c.r (lead_positive b entries k meet.j_in) e c.factors in
-          (scaled (negsuc 0) c.steps, at_scaled b entries (λ x. IsBelow x p) (negsuc 0) c.steps c.below,
-          λ x. up c.q c.r f (shifted t (vector_at b i) x) (shifted u (vector_at b k) x) (steps_at b c.steps x) (steps_at b (scaled (negsuc 0) c.steps) x) are.0 are.1 (c.is x) (steps_at-scaled b (negsuc 0) c.steps x))
+          let are : (c.q ≡ f) × (c.r ≡ negsuc 0) = up_factors (lead_at b k).k (lead_at b i).k f c.q c.r (lead_positive b entries k meet.j_in) e c.factors in (
+            scaled (negsuc 0) c.steps,
+            at_scaled b entries (λ x. IsBelow x p) (negsuc 0) c.steps c.below,
+            λ x. up c.q c.r f (shifted t (vector_at b i) x) (shifted u (vector_at b k) x) (steps_at b c.steps x) (steps_at b (scaled (negsuc 0) c.steps) x) are.0 are.1 (c.is x) (steps_at-scaled b (negsuc 0) c.steps x),
+          )
       by (inr (inl s)) =
           let long : length (lead_at b i).at.m ≡ VARIABLES = lead_length b entries i meet.i_in in
           let tu : t ≡ u = product-cancel t u (lead_at b i).at.m (meet.t-length ∙ sym long) (meet.u-length ∙ sym long) ((λ n. (meet.first n).m) ∙ sym (λ n. (meet.second n).m) ∙ ap (λ z. product u (lead_at b z).at.m) (sym s)) in

@@ -1,8 +1,7 @@
 -- The lead places of a chain's steps fall.
-use Rattle.std.proofs.Common.{◌≡◌, ◌≢◌, ℕ, ◌<◌, ℤ, pos, neg_ℤ, ◌+ℤ◌, ◌-ℤ◌, ◌*ℤ◌, List, [], ◌∷◌, length, ◌⊎◌, inl, inr, refl, sym, ap, subst, ◌∙◌, arith}
+use Rattle.std.proofs.Common.{◌≡◌, ◌<◌, ℤ, pos, neg_ℤ, ◌+ℤ◌, ◌-ℤ◌, ◌*ℤ◌, List, [], ◌∷◌, length, ◌⊎◌, inl, inr, sym, ap, subst, ◌∙◌, arith}
 use borrow.Author.Differences.{ints}
 use Rattle.std.specs.Int.{int_div_euclid}
-use Rattle.std.specs.Prelude.{◌<ℤ◌}
 use Rattle.formal_sums.specs.FormalSum.{Falling, AllBelow}
 use Rattle.formal_sums.proofs.Falling.{AllBelow_transitive}
 use Rattle.formal_sums.proofs.Floors.{floor_left}
@@ -13,7 +12,7 @@ use Rattle.module_vec.specs.declared.steps.Step.{Step}
 use Rattle.module_vec.specs.Chains.{IsNext, IsDue, Rests, Chain, taken_at, after}
 use Rattle.module_vec.specs.Modules.{vector_at}
 use Rattle.module_vec.specs.Places.{IsBelow}
-use Rattle.module_vec.specs.Reducers.{IsReducer, AreEntries}
+use Rattle.module_vec.specs.Reducers.{AreEntries}
 use Rattle.module_vec.specs.Vectors.{Coefficients}
 use Rattle.module_vec.proofs.Determined.{same_reducer}
 use Rattle.module_vec.proofs.Order.{test, order}

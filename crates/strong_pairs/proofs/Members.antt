@@ -1,7 +1,6 @@
 -- Sums of steps: appended, scaled, and carried by a monomial; and the module that they make.
-use Rattle.std.proofs.Common.{◌≡◌, ◌≢◌, ℕ, ◌+◌, ◌<◌, ℤ, pos, negsuc, neg_ℤ, ◌+ℤ◌, ◌-ℤ◌, ◌*ℤ◌, List, [], ◌∷◌, ◌++◌, map, length, append_assoc, refl, sym, ap, subst, ◌∙◌, arith}
+use Rattle.std.proofs.Common.{◌≡◌, ℕ, ◌+◌, ◌<◌, ℤ, negsuc, ◌+ℤ◌, ◌-ℤ◌, ◌*ℤ◌, List, [], ◌∷◌, ◌++◌, length, append_assoc, refl, sym, ap, ◌∙◌, arith}
 use borrow.Author.Differences.{ints}
-use Rattle.std.specs.List.{AllByRecursion}
 use Rattle.formal_sums.specs.FormalSum.{FormalSum, coefficient, scale, rename}
 use Rattle.formal_sums.proofs.Coefficients.{coefficient-append, coefficient-scale, scale-append, rename-append, scale-scale, rename-scale, rename-rename}
 use Rattle.formal_sums.proofs.Evaluation.{Same-rename}
@@ -15,7 +14,7 @@ use Rattle.module_vec.specs.declared.steps.Step.{Step}
 use Rattle.module_vec.specs.Chains.{taken_at}
 use Rattle.module_vec.specs.Modules.{vector_at, sum_of_steps, steps_at, AreSteps, InModule}
 use Rattle.module_vec.specs.Places.{same_place, moved}
-use Rattle.module_vec.specs.Vectors.{Coefficients, sum_of, coefficient_at, multiple, multiple_at, difference_at}
+use Rattle.module_vec.specs.Vectors.{Coefficients, sum_of, coefficient_at, multiple}
 use Rattle.module_vec.proofs.Order.{test}
 
 -- the steps, each q·t times as much

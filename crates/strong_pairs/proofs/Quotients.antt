@@ -1,16 +1,16 @@
 -- The factors of a pair as the program computes them.
-use Rattle.std.proofs.Common.{◌≡◌, ℕ, zero, suc, ◌+◌, ◌*◌, ◌/◌, ◌^◌, ◌<◌, ◌≤◌, refl, sym, ap, subst, ◌∙◌, arith, ℤ, pos, negsuc, neg_ℤ, ◌+ℤ◌, ◌*ℤ◌, ◌-ℤ◌, to_z, of_z}
+use Rattle.std.proofs.Common.{◌≡◌, ℕ, zero, suc, ◌*◌, ◌/◌, ◌<◌, ◌≤◌, refl, sym, ap, subst, ◌∙◌, arith, ℤ, pos, negsuc, neg_ℤ, ◌*ℤ◌, ◌-ℤ◌, to_z, of_z}
 use borrow.Author.Differences.{ints}
 use lib.Signed.{quot_z}
 use Rattle.std.specs.Prelude.{unsigned_abs, ◌<ℤ◌, ◌≤ℤ◌, FitsSigned}
-use Rattle.std.specs.Int.{IsGcd, ◌∣◌}
+use Rattle.std.specs.Int.{◌∣◌}
 use mir.Syntax.{w128}
 use Rattle.std.proofs.Math.Nat.{div-mul_cancel}
 use Rattle.std.proofs.lemmas.Int.{to_z-of_z, fits_signed_from_abs}
 use Rattle.formal_sums.proofs.Integers.{neg_ℤ-*ℤ}
 use Rattle.laurent_terms.specs.Factors.{IsBezout}
 use Rattle.module_vec.specs.Vectors.{InRange}
-use Rattle.strong_pairs.specs.declared.kinds.PairKind.TheVariants.{S, G}
+use Rattle.strong_pairs.specs.declared.kinds.PairKind.TheVariants.{S}
 use Rattle.strong_pairs.specs.Pairs.{AreFactors}
 
 abbrev pub word : ℤ → ℤ

@@ -1,8 +1,8 @@
 -- Where an entry reduces a place, the place has a reducer.
-use Rattle.std.proofs.Common.{◌≡◌, ◌≢◌, ℕ, zero, suc, ◌+◌, ◌<◌, ◌≤◌, Bool, true, false, nat_eq, ◌⊎◌, inl, inr, ℤ, pos, List, [], ◌∷◌, ◌++◌, length, take, refl, sym, ap, subst, ◌∙◌, arith}
+use Rattle.std.proofs.Common.{◌≡◌, ℕ, zero, suc, ◌+◌, ◌<◌, ◌≤◌, Bool, true, false, nat_eq, ◌⊎◌, inl, inr, ℤ, pos, List, [], ◌∷◌, ◌++◌, length, take, refl, sym, ap, subst, ◌∙◌, arith}
 use borrow.Author.Differences.{ints}
-use Rattle.std.specs.Prelude.{◌<ℤ◌, ◌≤ℤ◌, Option, Some, None, slice_get}
-use Rattle.std.proofs.lemmas.List.{take_all, length-take-le}
+use Rattle.std.specs.Prelude.{◌<ℤ◌, ◌≤ℤ◌, Some, slice_get}
+use Rattle.std.proofs.lemmas.List.{take_all}
 use Rattle.std.proofs.lemmas.Int.{by_lt_z}
 use Rattle.laurent_terms.specs.declared.TheConstants.{VARIABLES}
 use Rattle.laurent_terms.specs.Monomials.{divides}
@@ -11,8 +11,8 @@ use Rattle.module_vec.specs.declared.places.Term.{Term}
 use Rattle.module_vec.specs.Reducers.{Entry, Reduces, IsReducer, GoesBefore, AreEntries}
 use Rattle.module_vec.specs.Modules.{vector_at}
 use Rattle.module_vec.proofs.Scans.{read_push, read_push_old, read_push_new, read_within, take_read, reducer_least}
-use Rattle.strong_pairs.specs.Pairs.{lead_of, lead_at}
-use Rattle.strong_pairs.proofs.Entered.{first_same, entry_at, read_at, is_entry, vector_is, lead_positive, entry_number, entry_vector, entry_lead, lead_length, behind}
+use Rattle.strong_pairs.specs.Pairs.{lead_at}
+use Rattle.strong_pairs.proofs.Entered.{first_same, read_at, vector_is, lead_positive, entry_number, entry_lead, lead_length, behind}
 
 pub lead_of_entry_positive : (b : List (List Term)) → AreEntries b → (i : ℕ) (e : Term) (g : List Term) → Entry b i e g → (length e.at.m ≡ VARIABLES) × (pos 0 <ℤ e.k)
 lead_of_entry_positive b entries i e g entry =

@@ -1,12 +1,11 @@
 -- Multiples of entries: where their leads stand, and what steps with bounded lead places add up to.
-use Rattle.std.proofs.Common.{◌≡◌, ◌≢◌, ℕ, ◌+◌, ◌<◌, ℤ, pos, negsuc, ◌+ℤ◌, ◌-ℤ◌, ◌*ℤ◌, List, [], ◌∷◌, ◌++◌, length, ◌⊎◌, inl, inr, refl, sym, ap, subst, ◌∙◌, arith}
+use Rattle.std.proofs.Common.{◌≡◌, ℕ, ◌<◌, ℤ, pos, ◌*ℤ◌, List, [], ◌∷◌, ◌++◌, length, refl, sym, ap, subst, ◌∙◌, arith}
 use borrow.Author.Differences.{ints}
 use Rattle.std.specs.List.{AllByRecursion}
-use Rattle.formal_sums.specs.FormalSum.{FormalSum, coefficient, scale, rename, AllBelow}
+use Rattle.formal_sums.specs.FormalSum.{coefficient, rename, AllBelow}
 use Rattle.formal_sums.proofs.Coefficients.{coefficient-scale}
 use Rattle.formal_sums.proofs.Falling.{coefficient-first, coefficient-above_first, AllBelow-rename}
 use Rattle.laurent_terms.specs.declared.TheConstants.{VARIABLES}
-use Rattle.laurent_terms.specs.Monomials.{product}
 use Rattle.module_vec.specs.declared.places.Place.{Place}
 use Rattle.module_vec.specs.declared.places.Term.{Term}
 use Rattle.module_vec.specs.declared.steps.Step.{Step}

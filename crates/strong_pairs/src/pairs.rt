@@ -93,12 +93,7 @@ pub fn pair_steps<L: VecList>(
 }
 
 /// The sum of a vector and a step's multiple.
-fn plus<L: VecList>(
-    alloc: Global,
-    list: &L,
-    v: &ModVec,
-    step: &Step,
-) -> Result<ModVec, VecFault>
+fn plus<L: VecList>(alloc: Global, list: &L, v: &ModVec, step: &Step) -> Result<ModVec, VecFault>
     requires { IsInReach (L.vectors list.now) step.now }
     ensures { let f = coefficient_at v.now in
         let g = taken_at (L.vectors list.now) step.now in

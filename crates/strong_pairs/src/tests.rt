@@ -118,10 +118,7 @@ fn leads_are_taken_away_or_joined(rt: HostRuntime) -> Result<(), Fail> {
 #[test]
 fn pairs_have_one_component_and_rising_numbers(rt: HostRuntime) -> Result<(), Fail> {
     let alloc = rt.alloc();
-    let list = entries(
-        alloc,
-        &[&[(1, 1, 0, 0)], &[(1, 0, 1, 1)], &[(1, 0, 2, 0)]],
-    )?;
+    let list = entries(alloc, &[&[(1, 1, 0, 0)], &[(1, 0, 1, 1)], &[(1, 0, 2, 0)]])?;
     assert!(rt; is_pair(&list, 0, 2));
     for (i, j) in [(0, 1), (1, 2), (2, 0), (0, 0), (0, 3)] {
         assert!(rt; !is_pair(&list, i, j));

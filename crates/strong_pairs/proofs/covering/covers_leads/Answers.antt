@@ -1,7 +1,7 @@
-use Rattle.std.proofs.Common.{rules, ◌≡◌, ℕ, arith, sym, ◌∙◌, true, false, nat_eq, IsTrue, FitsSigned}
+use Rattle.std.proofs.Common.{rules, ◌≡◌, arith, sym, ◌∙◌, true, nat_eq, FitsSigned}
 use Rattle.std.proofs.lemmas.Int.{to_z-of_z}
 use mir.Syntax.{w128}
-use Rattle.strong_pairs.specs.Covering.{Divides, CoversLeads}
+use Rattle.strong_pairs.specs.Covering.{Divides}
 use Rattle.module_vec.specs.Reducers.{Reduces}
 use Rattle.strong_pairs.specs.Pairs.{meeting_place}
 use Rattle.strong_pairs.proofs.covering.covers_leads.Goals.{then-by-first, else-by-first, then-divides_multiple, else-divides_multiple}

@@ -1,4 +1,4 @@
-use Rattle.std.proofs.Common.{rules, ◌≡◌, true, ap, ◌∙◌, sym}
+use Rattle.std.proofs.Common.{ap, ◌∙◌, sym}
 use Rattle.laurent_terms.specs.Monomials.{divides}
 use Rattle.strong_pairs.proofs.LeadTerms.{divides_common}
 use Rattle.strong_pairs.proofs.pairs.pair_steps.Goals as goal

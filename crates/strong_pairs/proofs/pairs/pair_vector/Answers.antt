@@ -1,4 +1,4 @@
-use Rattle.std.proofs.Common.{◌≡◌, sym, subst}
+use Rattle.std.proofs.Common.{sym, subst}
 use Rattle.std.specs.Prelude.{Ok, Err}
 use Rattle.module_vec.specs.Chains.{taken_at}
 use Rattle.strong_pairs.specs.Results.{MakesPair, pair_fault}
