@@ -10,7 +10,7 @@ use Rattle.formal_sums.specs.FormalSum.{coefficient, rename}
 use Rattle.formal_sums.proofs.Floors.{zero_floor}
 use Rattle.formal_sums.proofs.Integers.{*ℤ-eq-zero, +ℤ-*ℤ, *ℤ_assoc, neg_ℤ-*ℤ}
 use Rattle.laurent_terms.specs.declared.TheConstants.{VARIABLES}
-use Rattle.laurent_terms.specs.Monomials.{product, divides}
+use Rattle.laurent_terms.specs.Monomials.{product, quotient, divides}
 use Rattle.laurent_terms.proofs.Combining.{length-combined}
 use Rattle.module_vec.specs.declared.places.Place.{Place}
 use Rattle.module_vec.specs.declared.places.Term.{Term}
@@ -36,6 +36,16 @@ use Rattle.strong_pairs.proofs.LeadTerms.{divides_common}
 use Rattle.strong_pairs.proofs.Members.{length-product}
 use Rattle.strong_pairs.proofs.Reducing.{reducer_there, lead_of_entry_positive}
 use Rattle.strong_pairs.proofs.Shifted.{InAll, shifted, taken_is, shifted_lead, shifted_above}
+
+-- the two steps carry both leads to the pair's place, with any factors
+pub record AreMeeting (b : List (List Term)) (i j : ℕ) (first second : Step) : Type 0 where
+  pub first_monomial : first.t ≡ quotient (pair_place b i j).m (lead_at b i).at.m
+  pub second_monomial : second.t ≡ quotient (pair_place b i j).m (lead_at b j).at.m
+  pub first_number : first.by ≡ i
+  pub second_number : second.by ≡ j
+
+pub meeting : (kind : PairKind) (b : List (List Term)) (i j : ℕ) (first second : Step) → ArePairSteps kind b i j first second → AreMeeting b i j first second
+meeting kind b i j first second are = record { first_monomial = are.first_monomial; second_monomial = are.second_monomial; first_number = are.first_number; second_number = are.second_number }
 
 module _ (b : List (List Term)) (entries : AreEntries b) where
   -- a step's lead place is the place at which it is due, where that is one in all variables
@@ -110,11 +120,11 @@ module _ (b : List (List Term)) (entries : AreEntries b) where
       lower x y l (inr k) = inr (order.transitive y x p l k)
 
   -- ---- the vector of a pair
-  module _ (kind : PairKind) (i j : ℕ) (pair : IsPair b i j) (first second : Step) (are : ArePairSteps kind b i j first second) where
+  module _ (i j : ℕ) (pair : IsPair b i j) (first second : Step) (are : AreMeeting b i j first second) where
     abbrev p : Place
     p = pair_place b i j
 
-    i_in : i < length b
+    pub i_in : i < length b
     i_in = let o : i < j = pair.order in let w : j < length b = pair.within in omega (arith, o, w)
 
     i-length : length (lead_at b i).at.m ≡ VARIABLES
@@ -132,24 +142,24 @@ module _ (b : List (List Term)) (entries : AreEntries b) where
     pub first_reduces : Reduces (lead_at b i) p
     first_reduces = (refl, both_divide.0)
 
-    first-length : length first.t ≡ VARIABLES
+    pub first-length : length first.t ≡ VARIABLES
     first-length = ap length are.first_monomial ∙ length-quotient (lead_at b i).at.m p.m both_divide.0 ∙ i-length
 
-    second-length : length second.t ≡ VARIABLES
+    pub second-length : length second.t ≡ VARIABLES
     second-length = ap length are.second_monomial ∙ length-quotient (lead_at b j).at.m p.m both_divide.1 ∙ j-length
 
-    first_in : first.by < length b
+    pub first_in : first.by < length b
     first_in = subst (λ n. n < length b) (sym are.first_number) i_in
 
-    second_in : second.by < length b
+    pub second_in : second.by < length b
     second_in = subst (λ n. n < length b) (sym are.second_number) pair.within
 
-    first_place : step_place b first ≡ p
+    pub first_place : step_place b first ≡ p
     first_place =
         ap (λ n. moved first.t (lead_at b n).at) are.first_number
         ∙ λ n. record { m = (ap (λ t. product t (lead_at b i).at.m) are.first_monomial ∙ quotient-back (lead_at b i).at.m p.m (i-length ∙ sym p-length) both_divide.0) n; c = (lead_at b i).at.c }
 
-    second_place : step_place b second ≡ p
+    pub second_place : step_place b second ≡ p
     second_place =
         ap (λ n. moved second.t (lead_at b n).at) are.second_number
         ∙ λ n. record { m = (ap (λ t. product t (lead_at b j).at.m) are.second_monomial ∙ quotient-back (lead_at b j).at.m p.m (j-length ∙ sym p-length) both_divide.1) n; c = sym pair.component n }
@@ -201,11 +211,11 @@ s_cancels k l u v h (d, g, first, second) = by (*ℤ-eq-zero (u *ℤ k +ℤ v *�
 module _ (b : List (List Term)) (entries : AreEntries b) (i j : ℕ) (pair : IsPair b i j) where
   -- the S-vector stands below the pair's place
   pub s_below : (first second : Step) → ArePairSteps S b i j first second → StandsAt (λ x. IsBelow x (pair_place b i j)) (both_at b first second)
-  s_below first second are x nz = by (both_stand b entries S i j pair first second are x nz)
+  s_below first second are x nz = by (both_stand b entries i j pair first second (meeting S b i j first second are) x nz)
     where
       by : InAll x × ((x ≡ pair_place b i j) ⊎ IsBelow x (pair_place b i j)) → InAll x × IsBelow x (pair_place b i j)
       by (long, inr l) = (long, l)
-      by (long, inl e) = absurd (nz (ap (both_at b first second) e ∙ both_there b entries S i j pair first second are ∙ s_cancels (lead_at b i).k (lead_at b j).k first.q second.q (lead_positive b entries j pair.within) are.factors))
+      by (long, inl e) = absurd (nz (ap (both_at b first second) e ∙ both_there b entries i j pair first second (meeting S b i j first second are) ∙ s_cancels (lead_at b i).k (lead_at b j).k first.q second.q (lead_positive b entries j pair.within) are.factors))
 
   s_closed : (v : List Term) → IsPairVector S b i j v → (ss : List Step) (g : Coefficients) → Chain b (coefficient_at v) ss g → ((x : Place) → g x ≡ pos 0) → IsClosed b S i j
   s_closed v is ss g chain none = (is.first, is.second, is.steps, record { steps = ss; below = chain_below b entries (pair_place b i j) ss (coefficient_at v) g stands chain; is = whole })
@@ -226,13 +236,13 @@ module _ (b : List (List Term)) (entries : AreEntries b) (i j : ℕ) (pair : IsP
   s_stands v is x nz = s_below is.first is.second is.steps x (λ e. nz (is.made.1.is x ∙ e))
 
   pub g_stands : (v : List Term) → IsPairVector G b i j v → StandsAt (λ x. IsUpTo x (pair_place b i j)) (coefficient_at v)
-  g_stands v is x nz = both_stand b entries G i j pair is.first is.second is.steps x (λ e. nz (is.made.1.is x ∙ e))
+  g_stands v is x nz = both_stand b entries i j pair is.first is.second (meeting G b i j is.first is.second is.steps) x (λ e. nz (is.made.1.is x ∙ e))
 
   pub g_divisor : (v : List Term) → IsPairVector G b i j v → IsGcd (unsigned_abs (lead_at b i).k) (unsigned_abs (lead_at b j).k) (unsigned_abs (coefficient_at v (pair_place b i j)))
   g_divisor v is = by is.steps.factors
     where
       by : AreFactors G (lead_at b i).k (lead_at b j).k is.first.q is.second.q → IsGcd (unsigned_abs (lead_at b i).k) (unsigned_abs (lead_at b j).k) (unsigned_abs (coefficient_at v (pair_place b i j)))
-      by (d, bezout) = subst (λ z. IsGcd (unsigned_abs (lead_at b i).k) (unsigned_abs (lead_at b j).k) (unsigned_abs z)) (sym bezout.sum ∙ sym (both_there b entries G i j pair is.first is.second is.steps) ∙ sym (is.made.1.is (pair_place b i j))) bezout.divisor
+      by (d, bezout) = subst (λ z. IsGcd (unsigned_abs (lead_at b i).k) (unsigned_abs (lead_at b j).k) (unsigned_abs z)) (sym bezout.sum ∙ sym (both_there b entries i j pair is.first is.second (meeting G b i j is.first is.second is.steps)) ∙ sym (is.made.1.is (pair_place b i j))) bezout.divisor
 
   -- ---- G: what the chain takes from the pair's place are multiples of one lead coefficient
   module _ (r : ℕ) (e : Term) (h : List Term) (reducer : IsReducer b (pair_place b i j) r e h) where
@@ -282,13 +292,13 @@ module _ (b : List (List Term)) (entries : AreEntries b) (i j : ℕ) (pair : IsP
             sum a t c m n p q = omega (arith, ints, p, q)
 
   -- a positive divisor by absolute values
-  divides_abs : (k l : ℤ) → pos 0 <ℤ k → pos 0 <ℤ l → unsigned_abs k ∣ unsigned_abs l → Divides k l
+  pub divides_abs : (k l : ℤ) → pos 0 <ℤ k → pos 0 <ℤ l → unsigned_abs k ∣ unsigned_abs l → Divides k l
   divides_abs (pos k) (pos l) hk hl d = (pos (l / k), let whole : (l / k) * k ≡ l = div-mul_cancel k d in omega (arith, ints, whole))
   divides_abs (negsuc k) l hk hl d = absurd (omega (arith, ints, hk))
   divides_abs (pos k) (negsuc l) hk hl d = absurd (omega (arith, ints, hl))
 
   g_closed : (v : List Term) → IsPairVector G b i j v → (ss : List Step) (g : Coefficients) → Chain b (coefficient_at v) ss g → ((x : Place) → g x ≡ pos 0) → IsClosed b G i j
-  g_closed v is ss g chain none = by (reducer_there b entries (pair_place b i j) i (lead_at b i) (behind (vector_at b i)) (as_entry b entries i i_in) (first_reduces b entries G i j pair is.first is.second is.steps))
+  g_closed v is ss g chain none = by (reducer_there b entries (pair_place b i j) i (lead_at b i) (behind (vector_at b i)) (as_entry b entries i i_in) (first_reduces b entries i j pair is.first is.second (meeting G b i j is.first is.second is.steps)))
     where
       i_in : i < length b
       i_in = let o : i < j = pair.order in let w : j < length b = pair.within in omega (arith, o, w)
@@ -300,7 +310,7 @@ module _ (b : List (List Term)) (entries : AreEntries b) (i j : ℕ) (pair : IsP
       by (r, e, h, reducer) = found is.steps.factors
         where
           all : Divides e.k (coefficient_at v (pair_place b i j) -ℤ g (pair_place b i j))
-          all = chain_divides r e h reducer ss (coefficient_at v) g chain (λ x nz. both_stand b entries G i j pair is.first is.second is.steps x (λ z. nz (same x ∙ z)))
+          all = chain_divides r e h reducer ss (coefficient_at v) g chain (λ x nz. both_stand b entries i j pair is.first is.second (meeting G b i j is.first is.second is.steps) x (λ z. nz (same x ∙ z)))
 
           nothing : (a c : ℤ) → c ≡ pos 0 → a ≡ a -ℤ c
           nothing a c q = omega (arith, ints, q)
@@ -313,7 +323,7 @@ module _ (b : List (List Term)) (entries : AreEntries b) (i j : ℕ) (pair : IsP
 
           found : AreFactors G (lead_at b i).k (lead_at b j).k is.first.q is.second.q → IsClosed b G i j
           found (d, bezout) =
-              let there : d ≡ coefficient_at v (pair_place b i j) -ℤ g (pair_place b i j) = sym bezout.sum ∙ sym (both_there b entries G i j pair is.first is.second is.steps) ∙ sym (same (pair_place b i j)) ∙ nothing (coefficient_at v (pair_place b i j)) (g (pair_place b i j)) (none (pair_place b i j)) in
+              let there : d ≡ coefficient_at v (pair_place b i j) -ℤ g (pair_place b i j) = sym bezout.sum ∙ sym (both_there b entries i j pair is.first is.second (meeting G b i j is.first is.second is.steps)) ∙ sym (same (pair_place b i j)) ∙ nothing (coefficient_at v (pair_place b i j)) (g (pair_place b i j)) (none (pair_place b i j)) in
               let of_d : Divides (lead_at b r).k d = (all.0, there ∙ all.1 ∙ ap (λ (u : Term). all.0 *ℤ u.k) (sym lead)) in (
                 r,
                 (

@@ -14,3 +14,4 @@ pub mod Criterion
 pub mod Chaining
 pub mod Determination
 pub mod FallingSteps
+pub mod Converse

@@ -100,6 +100,11 @@ pub fn chains_to_zero_close_tasks()
         ((x : Place) → g x ≡ pos 0) → IsClosed b kind i j }
 {}
 
+/// The converse: the tasks of a strong list are truly closed.
+pub fn strong_lists_are_closed()
+    ensures { (gens b : List (List Term)) → AreEntries b → IsStrong gens b → AllClosed b }
+{}
+
 /// Coverage of greatest common divisors: where the G tasks are closed, of the entries whose leads divide a place, and of
 /// which some are given, one has a lead coefficient that divides those of all the given ones.
 pub fn divisors_are_covered()
