@@ -1,0 +1,17 @@
+pub mod Quotients
+pub mod LeadTerms
+pub mod Adding
+pub mod CoverTests
+pub mod Members
+pub mod Entered
+pub mod Reducing
+pub mod Exactness
+pub mod Shifted
+pub mod Coverage
+pub mod Exchanges
+pub mod Descending
+pub mod Criterion
+pub mod Chaining
+pub mod Determination
+pub mod FallingSteps
+pub mod Converse
