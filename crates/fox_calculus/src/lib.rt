@@ -14,6 +14,10 @@ mod small;
 
 pub use derivatives::fox;
 pub use listing::generators;
+pub use vector_text::{
+    SpellFault, read_coefficient, read_mono, read_place, read_vector, write_mono, write_place,
+    write_vector,
+};
 
 #[cfg(test)]
 mod tests;
