@@ -8,3 +8,4 @@ pub mod PlaceTexts
 pub mod TermTexts
 pub mod VectorTexts
 pub mod ReadingBack
+pub mod Over

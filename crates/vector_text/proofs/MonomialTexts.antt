@@ -77,12 +77,12 @@ pub record Going (names : List (List ℕ)) (text made : List ℕ) (next : ℕ) (
   pub bound : next ≤ 2 * length names
   pub rising : (s : List ℕ) (f : Factor) (fs : List Factor) → f.variable < next → factors_from 0 s ≡ factors_from 0 made ++ f ∷ fs → ⊥
 
-zero_in : (n k : ℕ) → get_or {A = ℕ} (replicate n 0) k 0 ≡ 0
+pub zero_in : (n k : ℕ) → get_or {A = ℕ} (replicate n 0) k 0 ≡ 0
 zero_in zero k = refl
 zero_in (suc n) zero = refl
 zero_in (suc n) (suc k) = zero_in n k
 
-zero_at : (k : ℕ) → get_or one k 0 ≡ 0
+pub zero_at : (k : ℕ) → get_or one k 0 ≡ 0
 zero_at k = zero_in VARIABLES k
 
 pub begins : (names : List (List ℕ)) (text : List ℕ) → IsMonomial one → Going names text one 0 (Some text)
