@@ -12,7 +12,7 @@ use Rattle.module_vec.specs.Places.{same_place}
 use Rattle.module_vec.specs.Vectors.{Coefficients, sum_of, coefficient_at, IsTerm, IsSparse}
 use Rattle.module_vec.specs.Results.{Has}
 use Rattle.module_vec.proofs.Order.{test, order}
-use Rattle.module_vec.proofs.Lists.{Falls, at_above}
+use Rattle.module_vec.proofs.FallingTerms.{Falls, at_above}
 use Rattle.vector_text.specs.Over.{MonoIsOver, PlaceIsOver, VectorIsOver}
 use Rattle.vector_text.proofs.MonomialTexts.{zero_in, zero_at}
 

@@ -8,7 +8,7 @@ use Rattle.module_vec.specs.declared.places.Term.{Term}
 use Rattle.module_vec.specs.Places.{IsBelow}
 use Rattle.module_vec.specs.Vectors.{IsTerm, IsVector}
 use Rattle.module_vec.proofs.Order.{order}
-use Rattle.module_vec.proofs.Lists.{Above, Falls, falls_insert, all_join}
+use Rattle.module_vec.proofs.FallingTerms.{Above, Falls, falls_insert, all_join}
 use Rattle.vector_text.specs.Spelling.{place_text, term_text, vector_text, terms_text}
 use Rattle.vector_text.specs.Over.{PlaceIsOver, VectorIsOver, IsVectorOf, IsTermOf, IsSumOf, MayFollow}
 use Rattle.vector_text.proofs.Parts.{Leaves, goes_on, unread, read_next, listed_same}
