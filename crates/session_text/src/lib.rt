@@ -1,13 +1,22 @@
 //! The texts of sessions and schedules: the questions that are asked of a presentation, and the order of events.
 #![tactic(auto)]
 
+mod asked;
 mod fault;
+mod images;
+mod letters;
+mod line;
 mod question;
+mod reading;
+mod session;
+#[cfg(test)]
+mod tests;
 mod words;
 mod writing;
 
 pub use fault::SessionFault;
 pub use question::{Event, Question};
+pub use session::read_session;
 pub use words::Words;
 pub use writing::write_question;
 

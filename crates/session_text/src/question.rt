@@ -15,10 +15,7 @@ pub enum Question {
     Normal(Word),
     /// Whether the map of the source's generators to the images, one for each, extends to a homomorphism: whether each
     /// relator's image is trivial. The source has no modulus.
-    Hom {
-        source: Presentation,
-        images: Words,
-    },
+    Hom { source: Presentation, images: Words },
 }
 
 /// One turn of a worker or of a session, each numbered from 1.

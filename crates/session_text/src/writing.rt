@@ -57,11 +57,7 @@ fn append_word(
     out.extend_from_slice(&word)
 }
 
-fn append_presentation(
-    alloc: Global,
-    out: &mut Vec<u8>,
-    p: &Presentation,
-) -> Result<(), AllocError>
+fn append_presentation(alloc: Global, out: &mut Vec<u8>, p: &Presentation) -> Result<(), AllocError>
     ensures { OnOk result (out.new.items ≡ out.old.items ++ written_presentation p.now) }
 {
     let presentation = write_presentation(alloc, p)?;

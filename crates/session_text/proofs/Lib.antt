@@ -1,0 +1,6 @@
+pub mod LetterSums
+pub mod ImageTurns
+pub mod SessionLines
+pub mod Positions
+pub mod ImageFits
+pub mod LineTurns
