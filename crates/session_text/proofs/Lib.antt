@@ -4,3 +4,5 @@ pub mod SessionLines
 pub mod Positions
 pub mod ImageFits
 pub mod LineTurns
+pub mod QuestionLemmas
+pub mod EventTurns

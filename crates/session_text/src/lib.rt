@@ -4,10 +4,12 @@
 mod asked;
 mod fault;
 mod images;
+pub mod laws;
 mod letters;
 mod line;
 mod question;
 mod reading;
+mod schedule;
 mod session;
 #[cfg(test)]
 mod tests;
@@ -16,6 +18,7 @@ mod writing;
 
 pub use fault::SessionFault;
 pub use question::{Event, Question};
+pub use schedule::read_schedule;
 pub use session::read_session;
 pub use words::Words;
 pub use writing::write_question;

@@ -1,5 +1,8 @@
 //! Sessions and their questions as they are written, and the first fault of texts that are none.
 
+ghost use Rattle.std.specs.Prelude.{All};
+ghost use Rattle.session_text.specs.Questions.{IsWrittenQuestion, HasImages};
+
 use crate::fault::SessionFault;
 use crate::question::Question;
 use crate::session::read_session;
@@ -15,7 +18,10 @@ fn free(rt: &impl Abort, alloc: Global) -> Presentation {
 }
 
 // The questions as they are written, each with a semicolon behind it.
-fn shown(alloc: Global, p: &Presentation, questions: &[Question]) -> Result<Vec<u8>, AllocError> {
+#[tactic(auto, using(crate::proofs::QuestionLemmas::written_is_over))]
+fn shown(alloc: Global, p: &Presentation, questions: &[Question]) -> Result<Vec<u8>, AllocError>
+    requires { All (λ q. IsWrittenQuestion p.now q × HasImages q) questions.now }
+{
     let mut out = Vec::new(alloc);
     for question in questions {
         out.extend_from_slice(&write_question(alloc, p, question)?)?;
