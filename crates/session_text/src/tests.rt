@@ -4,14 +4,15 @@ ghost use Rattle.std.specs.Prelude.{All};
 ghost use Rattle.session_text.specs.Questions.{IsWrittenQuestion, HasImages};
 
 use crate::fault::SessionFault;
-use crate::question::Question;
+use crate::question::{Event, Question};
+use crate::schedule::read_schedule;
 use crate::session::read_session;
 use crate::writing::write_question;
 use presentation::{Presentation, read_presentation};
 use std::alloc::{AllocError, Global};
 use std::process::Abort;
 use std::rt::HostRuntime;
-use word_text::TextKind;
+use word_text::{ReadFault, TextKind};
 
 fn free(rt: &impl Abort, alloc: Global) -> Presentation {
     read_presentation(alloc, b"<a, b | >").expect(rt, "a presentation")
@@ -183,29 +184,99 @@ fn many_questions(rt: HostRuntime) {
     }
 }
 
+// A homomorphism from a source with 64 relators of 16,384 letters, whose image is empty.
+fn large_source(rt: &impl Abort, alloc: Global) -> String {
+    let mut line = String::new(alloc);
+    line.push_str("hom <s | s^16384").expect(rt, "memory");
+    for _i in 1..64 {
+        line.push_str(", s^16384").expect(rt, "memory");
+    }
+    line.push_str("> -> 1").expect(rt, "memory");
+    line
+}
+
 #[test]
 fn many_letters(rt: HostRuntime) {
     let alloc = rt.alloc();
     let p = free(&rt, alloc);
-    let mut text = lines(&rt, alloc, "equal a^16384 = b^-16384", 128);
+    let mut text = lines(&rt, alloc, large_source(&rt, alloc).as_str(), 3);
+    let words = lines(&rt, alloc, "equal a^16384 = b^-16384", 32);
+    text.extend_from_slice(&words).expect(&rt, "memory");
     let full = read_session(alloc, &p, &text).expect(&rt, "a session");
-    assert_eq!(rt; full.len(), 128);
-    for more in [
-        " trivial a",
-        " hom <s | s> -> 1",
-        " hom <s | > -> b",
-        " hom <s | s^16384> -> a^3",
-    ] {
-        let before = text.len();
-        text.extend_from_slice(more.as_bytes())
-            .expect(&rt, "memory");
-        match read_session(alloc, &p, &text) {
-            Err(SessionFault::Text(f)) => {
-                assert_eq!(rt; (f.line, f.column), (129, 2), "{more}");
-                assert!(rt; f.kind == TextKind::TooManyLetters, "{more}");
-            }
-            _ => panic!(rt; "no fault: {more}"),
+    assert_eq!(rt; full.len(), 35);
+    text.extend_from_slice(b" hom <s | > -> a").expect(&rt, "memory");
+    match read_session(alloc, &p, &text) {
+        Err(SessionFault::Text(f)) => {
+            assert_eq!(rt; (f.line, f.column), (36, 2));
+            assert!(rt; f.kind == TextKind::TooManyLetters);
         }
-        text.truncate(before);
+        _ => panic!(rt; "no fault"),
+    }
+}
+
+// The events, each as it is written with a space behind it.
+fn listed(alloc: Global, events: &[Event]) -> Result<String, AllocError> {
+    let mut out = String::new(alloc);
+    for event in events {
+        let text = match event {
+            Event::Worker(n) => format!(in alloc; "w{} ", n)?,
+            Event::Session(n) => format!(in alloc; "s{} ", n)?,
+        };
+        out.push_str(text.as_str())?;
+    }
+    Ok(out)
+}
+
+#[test]
+fn schedules(rt: HostRuntime) {
+    let alloc = rt.alloc();
+    for (text, sessions, want) in [
+        ("", 1, ""),
+        (" \n\t\r\n", 1, ""),
+        ("s1 w1 s1 w1 s1", 1, "s1 w1 s1 w1 s1 "),
+        ("w16\nw9\r\n\tw10 ", 1, "w16 w9 w10 "),
+        ("s16 s2 w16", 16, "s16 s2 w16 "),
+    ] {
+        let events = read_schedule(alloc, text.as_bytes(), sessions).expect(&rt, "a schedule");
+        let got = listed(alloc, &events).expect(&rt, "memory");
+        assert_eq!(rt; got.as_str(), want, "{text}");
+    }
+}
+
+/// Schedules of three sessions, and where their first fault stands.
+const SCHEDULE_FAULTS: [(&str, u32, u32, TextKind); 20] = [
+    ("s4", 1, 1, TextKind::NoSession),
+    ("w1 s3\n s16 x", 2, 2, TextKind::NoSession),
+    ("s17", 1, 1, TextKind::Expected),
+    ("w17", 1, 1, TextKind::Expected),
+    ("w20", 1, 1, TextKind::Expected),
+    ("w0", 1, 1, TextKind::Expected),
+    ("w01", 1, 1, TextKind::Expected),
+    ("s001", 1, 1, TextKind::Expected),
+    ("w", 1, 1, TextKind::Expected),
+    ("w1 s", 1, 4, TextKind::Expected),
+    ("w 1", 1, 1, TextKind::Expected),
+    ("w1s1", 1, 1, TextKind::Expected),
+    ("w1a", 1, 1, TextKind::Expected),
+    ("W1", 1, 1, TextKind::Expected),
+    ("x1", 1, 1, TextKind::Expected),
+    ("1", 1, 1, TextKind::Expected),
+    ("w1, w2", 1, 3, TextKind::Expected),
+    ("w1\n\n_w1", 3, 1, TextKind::Expected),
+    ("w1 ;", 1, 4, TextKind::BadByte),
+    ("w111", 1, 1, TextKind::Expected),
+];
+
+#[test]
+fn schedule_faults(rt: HostRuntime) {
+    let alloc = rt.alloc();
+    for (text, line, column, kind) in SCHEDULE_FAULTS {
+        match read_schedule(alloc, text.as_bytes(), 3) {
+            Err(ReadFault::Text(f)) => {
+                assert_eq!(rt; (f.line, f.column), (line, column), "{text}");
+                assert!(rt; f.kind == kind, "{text}");
+            }
+            _ => panic!(rt; "no fault: {text}"),
+        }
     }
 }
