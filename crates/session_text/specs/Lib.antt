@@ -1,0 +1,4 @@
+pub mod Questions
+pub mod Writing
+pub mod Reading
+pub mod Schedule

@@ -1,0 +1,40 @@
+//! Images that are too long.
+
+ghost use Rattle.std.specs.Prelude.{◌≡◌, ◌<◌, length, position, nat_lt, IfSome};
+ghost use Rattle.std.specs.List.{AllByRecursion};
+ghost use Rattle.free_words.specs.declared.TheConstants.{COMPOSED};
+ghost use Rattle.free_words.specs.Words.{IsOver, word_image};
+ghost use Rattle.session_text.specs.Questions.{IsFormed};
+ghost use Rattle.session_text.specs.Reading.{first_long};
+
+use crate::question::Question;
+use free_words::{COMPOSED, Word};
+
+// Where the first word stands whose image is past the limit on composed words.
+fn first_passing(words: &[Word], images: &[Word]) -> Option<usize>
+    requires { AllByRecursion (IsOver (length images.now)) words.now }
+    ensures place { result ≡ position (λ r. nat_lt COMPOSED (length (word_image images.now r))) words.now }
+    ensures inside { IfSome result (λ j. j < length words.now) }
+{
+    for (j, word) in words.iter().enumerate() {
+        if word.substituted_len(images) > COMPOSED as u64 {
+            return Some(j);
+        }
+    }
+    None
+}
+
+/// Where the first relator of a source stands whose image is past the limit on composed words.
+pub fn first_long(q: &Question) -> Option<usize>
+    requires { IsFormed q.now }
+    ensures place { result ≡ first_long q.now }
+    ensures inside { IfSome result (λ j. j < 64) }
+{
+    match q {
+        Question::Hom { source, images } => {
+            source.known();
+            first_passing(source.relators(), images.words())
+        }
+        _ => None,
+    }
+}

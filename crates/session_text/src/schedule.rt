@@ -1,0 +1,80 @@
+//! Schedules as texts: the order in which workers and sessions take their turns.
+
+ghost use Rattle.std.specs.Prelude.{◌≡◌, ◌<◌, ◌≤◌, length, All, IfOk, IfSome};
+ghost use Rattle.word_text.specs.Scan.{Gives, Tells};
+ghost use Rattle.session_text.specs.Schedule.{IsEvent, small_number, event_of, event_at, schedule_text, ReadsSchedule};
+
+use crate::question::Event;
+use std::alloc::Global;
+use word_text::{Fault, ReadError, ReadFault, TextKind, due, placed, skip_blanks, split_name};
+
+// The number from 1 to 16 that is spelled without a leading zero.
+fn small_number(digits: &[u8]) -> Option<u32>
+    ensures number { result ≡ small_number digits.now }
+    ensures range { IfSome result (λ n. (1 ≤ n) × (n ≤ 16)) }
+{
+    match digits {
+        [d] if matches!(*d, b'1'..=b'9') => Some((*d - b'0') as u32),
+        [b'1', d] if matches!(*d, b'0'..=b'6') => Some((*d - b'0') as u32 + 10),
+        _ => None,
+    }
+}
+
+// The event of a name, which is `w` or `s` and a number.
+fn event_of(name: &[u8]) -> Option<Event>
+    ensures event { result ≡ event_of name.now }
+    ensures some { IfSome result (λ e. 0 < length name.now) }
+    ensures range { IfSome result (λ e. IsEvent 16 e) }
+{
+    match name {
+        [b'w', number @ ..] => Some(Event::Worker(small_number(number)?)),
+        [b's', number @ ..] => Some(Event::Session(small_number(number)?)),
+        _ => None,
+    }
+}
+
+// The event that stands here, and what follows it.
+fn event_at(sessions: u32, text: &[u8]) -> Result<(Event, &[u8]), Fault>
+    ensures exact { Tells (λ x. (x.0, x.1.now)) result (event_at sessions text.now) }
+    ensures range { IfOk result (λ x. IsEvent sessions x.0) }
+    ensures shorter { IfOk result (λ x. length x.1.now < length text.now) }
+{
+    let (name, rest) = split_name(text);
+    match event_of(name) {
+        None => Err(due(text)),
+        Some(Event::Session(n)) if n > sessions => Err(Fault {
+            kind: TextKind::NoSession,
+            left: text.len(),
+        }),
+        Some(event) => Ok((event, rest)),
+    }
+}
+
+// The events that are the whole text.
+fn events(alloc: Global, sessions: u32, text: &[u8]) -> Result<Vec<Event>, ReadError>
+    ensures exact { Gives (λ v. v.items) result (schedule_text sessions text.now) }
+    ensures range { IfOk result (λ v. All (IsEvent sessions) v.items) }
+{
+    let mut events = Vec::new(alloc);
+    let mut rest = skip_blanks(text);
+    while !rest.is_empty() {
+        let (event, after) = event_at(sessions, rest)?;
+        events.push(event)?;
+        rest = skip_blanks(after);
+    }
+    Ok(events)
+}
+
+/// The events that the text spells: `w3` is a turn of worker 3, `s1` one of session 1, with blanks between them. Their
+/// numbers are from 1 to 16. A session past the number of sessions is NoSession.
+pub fn read_schedule(alloc: Global, text: &[u8], sessions: u32) -> Result<Vec<Event>, ReadFault>
+    // Which events, or which fault, and where.
+    ensures exact { ReadsSchedule text.now (schedule_text sessions text.now) result }
+    ensures range { IfOk result (λ v. All (IsEvent sessions) v.items) }
+{
+    match events(alloc, sessions, text) {
+        Ok(events) => Ok(events),
+        Err(ReadError::NoMemory) => Err(ReadFault::NoMemory),
+        Err(ReadError::Text(fault)) => Err(ReadFault::Text(placed(text, fault))),
+    }
+}
