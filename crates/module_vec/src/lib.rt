@@ -21,6 +21,7 @@ mod sums;
 mod vectors;
 
 pub use entries::Entries;
+pub use falling::coefficient;
 pub use faults::{Stop, VecFault};
 pub use lists::VecList;
 pub use places::{Place, Term};

@@ -20,7 +20,7 @@ use Rattle.module_vec.proofs.Order.{test, order, moved_below}
 use Rattle.module_vec.proofs.FallingTerms.{Below, Falls, all_front, all_back, all_join}
 use Rattle.module_vec.proofs.Determined.{same_vector}
 use Rattle.reduce_cofactor.specs.Dividends.{IsChange, overwritten, AreChanges}
-use Rattle.reduce_cofactor.proofs.Entries.{above_next, falls_front}
+use Rattle.reduce_cofactor.proofs.Joins.{above_next, falls_front}
 
 -- f with one new coefficient
 abbrev pub with_one : Term → Coefficients → Coefficients

@@ -1,4 +1,5 @@
-pub mod Entries
+pub mod Joins
+pub mod Overlays
 pub mod Differences
 pub mod Resting
 pub mod Stepping

@@ -36,7 +36,7 @@ use Rattle.reduce_cofactor.specs.Answers.{IsRest, Fails}
 use Rattle.reduce_cofactor.specs.Dividends.{FailsAt}
 use Rattle.reduce_cofactor.specs.declared.faults.ReduceFault.{ReduceFault}
 use Rattle.reduce_cofactor.specs.declared.faults.ReduceFault.TheVariants as faults
-use Rattle.reduce_cofactor.proofs.Entries.{above_next, falls_front, falls_join}
+use Rattle.reduce_cofactor.proofs.Joins.{above_next, falls_front, falls_join}
 use Rattle.reduce_cofactor.proofs.Differences.{multiple_below}
 use Rattle.reduce_cofactor.proofs.Resting.{entry_at, rests_at, rests_zero, rests_left, lead_positive}
 

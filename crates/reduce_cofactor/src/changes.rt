@@ -19,7 +19,7 @@ use std::alloc::Global;
 /// the step, and nothing is written.
 pub fn changes(
     alloc: Global,
-    dividend: &Dividend,
+    dividend: &Dividend<'_>,
     q: i128,
     t: &Mono,
     g: &[Term],
@@ -27,7 +27,7 @@ pub fn changes(
 ) -> Result<Vec<Term>, ReduceFault>
     requires g { IsSparse g.now }
     requires room { AllByRecursion (λ u. degree t.now + degree u.at.m ≤ DEGREE) g.now }
-    ensures { let f = coefficient_at dividend.now in
+    ensures { let f = coefficient_at dividend.now.0 in
         let multiple = multiple_at q t.now g.now in
         MatchResult result
         (λ made. AreChanges f multiple made.items × (length made.items ≡ length g.now))

@@ -17,6 +17,8 @@ pub fn reducer<L: VecList>(list: &L, front: u32, at: &Place) -> Option<u32>
 }
 
 /// The step that is due at the term. `None` exactly where none is.
+// Where it is inlined, the term's exponents are taken apart, and no longer compared by vector instructions.
+#[inline(never)]
 pub fn due<L: VecList>(list: &L, front: u32, top: &Term) -> Option<Step>
     requires { front ≤ length (L.vectors list.now) }
     ensures { let b = take front (L.vectors list.now) in MatchOption result (RestsWith b top.now) (IsStepAt b top.now) }

@@ -35,7 +35,7 @@ pub fn reduce<L: VecList>(
 {
     // The proof needs that the list has entries, and the call says so.
     let _ = list.count();
-    let mut reduction = Reduction::new(alloc, v)?;
+    let mut reduction = Reduction::new(alloc, v);
     while let Some(top) = reduction.dividend.pop() {
         match due(list, front, &top) {
             Some(step) => reduction.make(alloc, step, list.vector(step.by), top)?,
@@ -47,25 +47,25 @@ pub fn reduce<L: VecList>(
 
 /// A vector on its way to its rest. Each place that was passed is final.
 #[derive(Drop)]
-struct Reduction {
+struct Reduction<'a> {
     /// The terms that were passed, in falling order.
     rest: Vec<Term>,
     /// The terms below them.
-    dividend: Dividend,
+    dividend: Dividend<'a>,
     steps: Vec<Step>,
 }
 
-impl Reduction {
+impl<'a> Reduction<'a> {
     /// The vector before its first step.
-    fn new(alloc: Global, v: &ModVec) -> Result<Reduction, AllocError>
+    fn new(alloc: Global, v: &'a ModVec) -> Reduction<'a>
         ensures vector { IsVector v.now }
-        ensures is { IfOk result (λ r. (r.rest.items ≡ []) × (r.dividend ≡ v.now) × (r.steps.items ≡ [])) }
+        ensures is { (result.rest.items ≡ []) × (result.dividend.0 ≡ v.now) × (result.steps.items ≡ []) }
     {
-        Ok(Reduction {
+        Reduction {
             rest: Vec::new(alloc),
-            dividend: Dividend::new(alloc, v.terms())?,
+            dividend: Dividend::new(alloc, v.terms()),
             steps: Vec::new(alloc),
-        })
+        }
     }
 
     /// Makes the step, which is due at the term `top` above the dividend. All that it computes is known to be in range
@@ -78,13 +78,13 @@ impl Reduction {
         top: Term,
     ) -> Result<(), ReduceFault>
         requires made { length self.old.steps.items ≤ STEPS }
-        requires short { length self.old.rest.items + length self.old.dividend < TERMS }
+        requires short { length self.old.rest.items + length self.old.dividend.0 < TERMS }
         requires entry { IsEntry entry.now }
         requires range { InRange step.q }
         requires room { HasRoom step.t entry.now }
         ensures is { (b : List (List Term)) (v : Coefficients) → IsStepAt b top step → slice_get b step.by ≡ Some entry.now →
-            Running b v self.old.steps.items self.old.rest.items (top ∷ self.old.dividend) →
-            MatchResult result (λ _. Running b v self.new.steps.items self.new.rest.items self.new.dividend) (Fails b v) }
+            Running b v self.old.steps.items self.old.rest.items (top ∷ self.old.dividend.0) →
+            MatchResult result (λ _. Running b v self.new.steps.items self.new.rest.items self.new.dividend.0) (Fails b v) }
         ensures step { IfOk result (λ _. self.new.steps.items ≡ self.old.steps.items ++ step ∷ []) }
     {
         let made = self.steps.len() as u32;

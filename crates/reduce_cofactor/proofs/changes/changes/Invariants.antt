@@ -6,6 +6,6 @@ use Rattle.reduce_cofactor.proofs.changes.changes.Given as goal
 
 abbrev pub invariant-loop-term : goal.invariant-loop-term
 invariant-loop-term l = record {
-  is : l.made.items ≡ map (changed (coefficient_at l.dividend) l.q l.t) (take l.term-index l.g);
-  reach : AllByRecursion (IsInReach (coefficient_at l.dividend) l.q l.t) (take l.term-index l.g);
+  is : l.made.items ≡ map (changed (coefficient_at l.dividend.0) l.q l.t) (take l.term-index l.g);
+  reach : AllByRecursion (IsInReach (coefficient_at l.dividend.0) l.q l.t) (take l.term-index l.g);
 }

@@ -6,6 +6,6 @@ use Rattle.reduce_cofactor.proofs.dividend.Dividend.change.Given as goal
 
 abbrev pub invariant-loop-change : goal.invariant-loop-change
 invariant-loop-change l = record {
-  is : (x : Place) → overwritten (drop l.change-index l.changes) (coefficient_at l.self) x ≡ overwritten l.changes (coefficient_at l.fn.self) x;
-  count : length l.self ≤ length l.fn.self + l.change-index;
+  is : (x : Place) → overwritten (drop l.change-index l.changes) (coefficient_at l.self.0) x ≡ overwritten l.changes (coefficient_at l.fn.self.0) x;
+  count : length l.self.0 ≤ length l.fn.self.0 + l.change-index;
 }

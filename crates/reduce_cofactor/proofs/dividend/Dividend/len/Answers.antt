@@ -1,6 +1,7 @@
-use Rattle.std.proofs.Common.{◌∙◌, sym, ap, length}
-use Rattle.reduce_cofactor.proofs.Entries.{count}
+use Rattle.std.proofs.Common.{subst}
+use Rattle.module_vec.specs.Vectors.{IsSparse}
+use Rattle.reduce_cofactor.proofs.Overlays.{sparse_overlay}
 use Rattle.reduce_cofactor.proofs.dividend.Dividend.len.Goals as goal
 
-pub returns-clause-is : goal.returns-clause-is
-returns-clause-is c = c.len.ensures.len ∙ sym (count c.self.inside.terms.entries) ∙ ap length c.self.view_is
+pub returns-clause-sparse : goal.returns-clause-sparse
+returns-clause-sparse c = subst IsSparse (λ i. (c.self.view_is i).0) (sparse_overlay c.self.inside.changed.entries c.self.inside.given.now c.self.invariant.1 c.self.invariant.0)

@@ -1,40 +1,70 @@
-use Rattle.std.proofs.Common.{rules, arith, ◌≡◌, ◌≢◌, ◌∙◌, sym, ap, subst, pos, FitsSigned, Some, None, cond, length, is_some, refl}
+use Rattle.std.proofs.Common.{rules, arith, ◌≡◌, ◌∙◌, sym, ap, ℤ, cond, length, FitsSigned}
 use mir.Syntax.{w128}
-use borrow.Author.Differences.{ints}
-use Rattle.std.specs.List.{AllByRecursion}
 use Rattle.std.proofs.lemmas.Int.{to_z-of_z}
+use Rattle.std.specs.Option.{unwrap_or}
 use Rattle.module_vec.specs.Places.{same_place}
-use Rattle.module_vec.specs.Vectors.{coefficient_at, IsTerm}
-use Rattle.reduce_cofactor.specs.Dividends.{falling_terms}
-use Rattle.reduce_cofactor.proofs.Entries.{count, sparse_from, terms_remove, terms_insert, coefficients_after, falls_from_keys, removed_count, inserted_count}
+use Rattle.module_vec.specs.Vectors.{coefficient_at}
+use Rattle.reduce_cofactor.specs.Dividends.{presence, overlay}
+use Rattle.reduce_cofactor.proofs.Overlays.{Inserts, overlay_at, changed_at, changed_count, new_coefficients, presence_most}
 use Rattle.reduce_cofactor.proofs.dividend.Dividend.set.Goals as goal
 
-pub invariant_of-self : goal.invariant_of-self
-invariant_of-self c = sparse_from c.remove.new.self.entries c.remove.ensures.ordered (subst (λ es. AllByRecursion IsTerm (falling_terms es)) (sym c.remove.ensures.entries) (terms_remove (λ q. same_place c.args.at q) c.self.inside.terms.entries c.self.invariant.terms))
-
-pub returns-then-k-eq0-clause-is : goal.returns-then-k-eq0-clause-is
-returns-then-k-eq0-clause-is c x =
-    let none : pos 0 ≡ c.args.k = omega (arith, ints) in
-    coefficients_after c.self.inside.terms.entries c.remove.new.self.entries c.args.at c.args.k None c.self.invariant.falling (falls_from_keys c.remove.new.self.entries c.remove.ensures.ordered) none c.remove.ensures.updates.0 x
-    ∙ ap (λ w. cond (same_place c.args.at x) c.args.k (coefficient_at w x)) c.self.view_is
-
-pub returns-then-k-eq0-clause-count : goal.returns-then-k-eq0-clause-count
-returns-then-k-eq0-clause-count c = omega (arith, count c.remove.new.self.entries, count c.self.inside.terms.entries, ap length c.self.view_is, removed_count (is_some c.remove.result) (length c.remove.new.self.entries) (length c.self.inside.terms.entries) c.remove.ensures.len)
+pub overflow_sub-self : goal.overflow_sub-self
+overflow_sub-self c =
+    let k : FitsSigned w128 c.args.k = search rules in
+    let entries = simp to_z-of_z at c.in_ok-insert.ensures.entries in
+    let updates = simp to_z-of_z at c.in_ok-insert.ensures.updates.0 in
+    let inserts : Inserts c.self.inside.changed.entries c.insert.new.self.entries c.self.inside.given.now c.args.at c.args.k =
+    record { coefficients = c.self.invariant.1; given = c.self.invariant.0; place = c.requires.place; range = c.requires.range; entries = entries; updates = updates } in
+    let z : FitsSigned w128 c.former-before.result = search rules in
+    let old : ℤ = coefficient_at (overlay c.self.inside.changed.entries c.self.inside.given.now) c.args.at in
+    let before : c.former-before.result ≡ old =
+    c.former-before.ensures
+    ∙ ap (λ o. unwrap_or o (coefficient_at c.self.inside.given.now c.args.at)) c.in_ok-insert.ensures.old
+    ∙ sym (overlay_at c.self.inside.changed.entries c.self.inside.given.now c.self.invariant.1 c.self.invariant.0 c.args.at) in
+    let more = simp to_z-of_z at c.presence.ensures in
+    let fewer = simp to_z-of_z at c.presence-2.ensures in
+    let taken : c.presence-2.result ≡ presence old = fewer ∙ ap presence before in
+    let count = changed_count c.self.inside.changed.entries c.insert.new.self.entries c.self.inside.given.now c.args.at c.args.k inserts in
+    omega (arith, c.self.invariant.2, count, more, taken)
 
 pub invariant_of-self-2 : goal.invariant_of-self-2
 invariant_of-self-2 c =
     let k : FitsSigned w128 c.args.k = search rules in
-    let nonzero : c.args.k ≢ pos 0 = λ none. absurd (omega (arith, ints, none)) in
-    let term : IsTerm (record { at = c.args.at; k = c.args.k }) = record { place = c.requires.place; nonzero = nonzero; range = c.requires.range } in
     let entries = simp to_z-of_z at c.in_ok-insert.ensures.entries in
-    sparse_from c.insert.new.self.entries c.insert.ensures.ordered (subst (λ es. AllByRecursion IsTerm (falling_terms es)) (sym entries) (terms_insert c.self.inside.terms.entries c.args.at c.args.k c.self.invariant.terms term))
+    let updates = simp to_z-of_z at c.in_ok-insert.ensures.updates.0 in
+    let inserts : Inserts c.self.inside.changed.entries c.insert.new.self.entries c.self.inside.given.now c.args.at c.args.k =
+    record { coefficients = c.self.invariant.1; given = c.self.invariant.0; place = c.requires.place; range = c.requires.range; entries = entries; updates = updates } in
+    let z : FitsSigned w128 c.former-before.result = search rules in
+    let old : ℤ = coefficient_at (overlay c.self.inside.changed.entries c.self.inside.given.now) c.args.at in
+    let before : c.former-before.result ≡ old =
+    c.former-before.ensures
+    ∙ ap (λ o. unwrap_or o (coefficient_at c.self.inside.given.now c.args.at)) c.in_ok-insert.ensures.old
+    ∙ sym (overlay_at c.self.inside.changed.entries c.self.inside.given.now c.self.invariant.1 c.self.invariant.0 c.args.at) in
+    let more = simp to_z-of_z at c.presence.ensures in
+    let fewer = simp to_z-of_z at c.presence-2.ensures in
+    let taken : c.presence-2.result ≡ presence old = fewer ∙ ap presence before in
+    let count = changed_count c.self.inside.changed.entries c.insert.new.self.entries c.self.inside.given.now c.args.at c.args.k inserts in (
+      c.self.invariant.0,
+      new_coefficients c.self.inside.changed.entries c.insert.new.self.entries c.self.inside.given.now c.args.at c.args.k inserts,
+      omega (arith, c.self.invariant.2, count, more, taken),
+    )
 
 pub returns-clause-is : goal.returns-clause-is
 returns-clause-is c x =
     let k : FitsSigned w128 c.args.k = search rules in
+    let entries = simp to_z-of_z at c.in_ok-insert.ensures.entries in
     let updates = simp to_z-of_z at c.in_ok-insert.ensures.updates.0 in
-    coefficients_after c.self.inside.terms.entries c.insert.new.self.entries c.args.at c.args.k (Some c.args.k) c.self.invariant.falling (falls_from_keys c.insert.new.self.entries c.insert.ensures.ordered) refl updates x
-    ∙ ap (λ w. cond (same_place c.args.at x) c.args.k (coefficient_at w x)) c.self.view_is
+    let inserts : Inserts c.self.inside.changed.entries c.insert.new.self.entries c.self.inside.given.now c.args.at c.args.k =
+    record { coefficients = c.self.invariant.1; given = c.self.invariant.0; place = c.requires.place; range = c.requires.range; entries = entries; updates = updates } in
+    changed_at c.self.inside.changed.entries c.insert.new.self.entries c.self.inside.given.now c.args.at c.args.k inserts x
+    ∙ (λ i. cond (same_place c.args.at x) c.args.k (coefficient_at (c.self.view_is i).0 x))
 
 pub returns-clause-count : goal.returns-clause-count
-returns-clause-count c = omega (arith, count c.insert.new.self.entries, count c.self.inside.terms.entries, ap length c.self.view_is, inserted_count (is_some c.in_ok-insert.field-0) (length c.insert.new.self.entries) (length c.self.inside.terms.entries) c.in_ok-insert.ensures.len)
+returns-clause-count c =
+    let k : FitsSigned w128 c.args.k = search rules in
+    let entries = simp to_z-of_z at c.in_ok-insert.ensures.entries in
+    let updates = simp to_z-of_z at c.in_ok-insert.ensures.updates.0 in
+    let inserts : Inserts c.self.inside.changed.entries c.insert.new.self.entries c.self.inside.given.now c.args.at c.args.k =
+    record { coefficients = c.self.invariant.1; given = c.self.invariant.0; place = c.requires.place; range = c.requires.range; entries = entries; updates = updates } in
+    let seen : length (overlay c.self.inside.changed.entries c.self.inside.given.now) ≡ length c.args.self.now.0 = λ i. length (c.self.view_is i).0 in
+    omega (arith, changed_count c.self.inside.changed.entries c.insert.new.self.entries c.self.inside.given.now c.args.at c.args.k inserts, presence_most c.args.k, seen)
