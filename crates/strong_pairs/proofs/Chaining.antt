@@ -238,11 +238,16 @@ module _ (b : List (List Term)) (entries : AreEntries b) (i j : ℕ) (pair : IsP
   pub g_stands : (v : List Term) → IsPairVector G b i j v → StandsAt (λ x. IsUpTo x (pair_place b i j)) (coefficient_at v)
   g_stands v is x nz = both_stand b entries i j pair is.first is.second (meeting G b i j is.first is.second is.steps) x (λ e. nz (is.made.1.is x ∙ e))
 
-  pub g_divisor : (v : List Term) → IsPairVector G b i j v → IsGcd (unsigned_abs (lead_at b i).k) (unsigned_abs (lead_at b j).k) (unsigned_abs (coefficient_at v (pair_place b i j)))
+  -- a positive number by its absolute value
+  by_abs : (z : ℤ) → pos 0 <ℤ z → z ≡ pos (unsigned_abs z)
+  by_abs (pos n) h = refl
+  by_abs (negsuc n) h = absurd (omega (arith, ints, h))
+
+  pub g_divisor : (v : List Term) → IsPairVector G b i j v → (d : ℕ) × IsGcd (unsigned_abs (lead_at b i).k) (unsigned_abs (lead_at b j).k) d × (coefficient_at v (pair_place b i j) ≡ pos d)
   g_divisor v is = by is.steps.factors
     where
-      by : AreFactors G (lead_at b i).k (lead_at b j).k is.first.q is.second.q → IsGcd (unsigned_abs (lead_at b i).k) (unsigned_abs (lead_at b j).k) (unsigned_abs (coefficient_at v (pair_place b i j)))
-      by (d, bezout) = subst (λ z. IsGcd (unsigned_abs (lead_at b i).k) (unsigned_abs (lead_at b j).k) (unsigned_abs z)) (sym bezout.sum ∙ sym (both_there b entries i j pair is.first is.second (meeting G b i j is.first is.second is.steps)) ∙ sym (is.made.1.is (pair_place b i j))) bezout.divisor
+      by : AreFactors G (lead_at b i).k (lead_at b j).k is.first.q is.second.q → (d : ℕ) × IsGcd (unsigned_abs (lead_at b i).k) (unsigned_abs (lead_at b j).k) d × (coefficient_at v (pair_place b i j) ≡ pos d)
+      by (d, bezout) = (unsigned_abs d, bezout.divisor, is.made.1.is (pair_place b i j) ∙ both_there b entries i j pair is.first is.second (meeting G b i j is.first is.second is.steps) ∙ bezout.sum ∙ by_abs d bezout.positive)
 
   -- ---- G: what the chain takes from the pair's place are multiples of one lead coefficient
   module _ (r : ℕ) (e : Term) (h : List Term) (reducer : IsReducer b (pair_place b i j) r e h) where

@@ -56,6 +56,7 @@ IsClosedFromStart b G i j = Divides (lead_at b i).k (lead_at b j).k ⊎ Divides 
 abbrev pub AreClosed : List (List Term) → PairKind → Type 0
 AreClosed b kind = (i j : ℕ) → IsPair b i j → IsClosed b kind i j
 
+-- every task of the list is truly closed
 abbrev pub AllClosed : List (List Term) → Type 0
 AllClosed b = (kind : PairKind) → AreClosed b kind
 
