@@ -13,7 +13,7 @@ use Rattle.laurent_terms.proofs.Combining.{sum-product, length-combined}
 use Rattle.module_vec.specs.declared.places.Place.{Place}
 use Rattle.module_vec.specs.declared.places.Term.{Term}
 use Rattle.module_vec.specs.Places.{IsBelow, same_place, moved}
-use Rattle.module_vec.specs.Vectors.{Coefficients, coefficient_at, multiple, multiple_at, InRange, IsWide, IsTerm, IsSparse}
+use Rattle.module_vec.specs.Vectors.{Coefficients, multiple, multiple_at, InRange, IsWide, IsTerm, IsSparse}
 use Rattle.module_vec.specs.Results.{DifferenceIsWide, IsGreatest}
 use Rattle.module_vec.specs.Merging.{Subtracts}
 use Rattle.module_vec.proofs.Order.{test, order, moved_below}
