@@ -204,7 +204,8 @@ fn many_letters(rt: HostRuntime) {
     text.extend_from_slice(&words).expect(&rt, "memory");
     let full = read_session(alloc, &p, &text).expect(&rt, "a session");
     assert_eq!(rt; full.len(), 35);
-    text.extend_from_slice(b" hom <s | > -> a").expect(&rt, "memory");
+    text.extend_from_slice(b" hom <s | > -> a")
+        .expect(&rt, "memory");
     match read_session(alloc, &p, &text) {
         Err(SessionFault::Text(f)) => {
             assert_eq!(rt; (f.line, f.column), (36, 2));
