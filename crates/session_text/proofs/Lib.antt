@@ -8,3 +8,4 @@ pub mod QuestionLemmas
 pub mod EventTurns
 pub mod Spelled
 pub mod TextLaws
+pub mod ReadAgain

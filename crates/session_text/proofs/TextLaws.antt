@@ -1,5 +1,5 @@
 -- What is read of a text is a session of the grammar, with its questions.
-use Rattle.std.proofs.Common.{◌≡◌, ℕ, ◌+◌, ◌≤◌, Bool, true, false, List, [], ◌∷◌, ◌++◌, length, Option, Some, None, Result, Ok, Err, IfOk, Vec, refl, sym, ◌∙◌, subst, arith, append_assoc, append-nil, length-append, if◌then◌else◌}
+use Rattle.std.proofs.Common.{◌≡◌, ℕ, ◌+◌, ◌<◌, ◌≤◌, Bool, true, false, List, [], ◌∷◌, ◌++◌, length, Option, Some, None, Result, Ok, Err, IfOk, Vec, refl, sym, ap, ◌∙◌, subst, arith, append_assoc, append-nil, length-append, if◌then◌else◌}
 use Rattle.std.specs.declared.alloc.Global.{Global}
 use Rattle.word_text.specs.declared.fault.Fault.{Fault}
 use Rattle.word_text.specs.Place.{capped}
@@ -7,7 +7,12 @@ use Rattle.word_text.specs.Machine.{Find, finding}
 use Rattle.presentation.specs.Presented.{Presented}
 use Rattle.presentation.specs.Line.{is_end}
 use Rattle.derivation.specs.Reading.{lines_of}
-use Rattle.derivation.proofs.LineLists.{lines_joined, are_lines}
+use Rattle.derivation.specs.Grammar.{IsLine}
+use Rattle.presentation.specs.Writing.{joined}
+use Rattle.word_text.proofs.Lexing.{no_blanks}
+use Rattle.std.specs.List.{AllByRecursion}
+use Rattle.derivation.proofs.LineLists.{lines_joined, are_lines, lines_again}
+use Rattle.derivation.proofs.ReadAgain.{end_again}
 use Rattle.derivation.proofs.Spelled.{end_spelled}
 use Rattle.session_text.specs.declared.TheConstants.{QUESTIONS, LETTERS}
 use Rattle.session_text.specs.declared.fault.SessionFault.{SessionFault}
@@ -19,6 +24,7 @@ use Rattle.session_text.specs.Reading.{first_long, fitting_by, fitting_line, lin
 use Rattle.session_text.specs.Grammar.{IsAsked, HaveQuestions, IsSession}
 use Rattle.session_text.proofs.LetterSums.{letters_behind}
 use Rattle.session_text.proofs.ImageFits.{none_long}
+use Rattle.session_text.proofs.ReadAgain.{question_again, no_end, no_long}
 use Rattle.session_text.proofs.Spelled.{question_spelled}
 
 same : {A : Type 0} (x y : A) → ◌≡◌ {A = Result A SessionFault} (Ok x) (Ok y) → x ≡ y
@@ -124,6 +130,48 @@ text_spelled p text qs e =
     let are : HaveQuestions (finding p.names) (lines_of text) qs = subst (HaveQuestions (finding p.names) (lines_of text)) (sym b.whole) b.are in
     (lines_of text, lines_joined text, are_lines text, are, b.few, b.few_letters)
 
+-- letters of questions behind others
+letters_append : (qs rs : List Question) → session_letters (qs ++ rs) ≡ session_letters qs + session_letters rs
+letters_append [] rs = omega arith
+letters_append (q ∷ qs) rs = omega (arith, letters_append qs rs)
+
+-- a line that is a question is read behind others
+asked_again : (find : Find) (number : ℕ) (before : List Question) (line : List ℕ) (q : Question) (later : List Question) → IsAsked find line q → Within (before ++ q ∷ later)
+    → line_questions find number before line ≡ Ok (before ++ q ∷ [])
+asked_again find number before line q later is within =
+    let room : length before < QUESTIONS = omega (arith, within.0, length-append before (q ∷ later)) in
+    let few : session_letters before + question_letters q ≤ LETTERS = omega (arith, within.1, letters_append before (q ∷ later)) in
+    let r = question_again find (length before) (session_letters before) line q is.0 is.1 is.2 room few in
+    rw (no_end find line q is.0 is.1, r.1, no_long q is.3) refl
+
+session_again : (find : Find) (number : ℕ) (before : List Question) (ls : List (List ℕ)) (qs : List Question) → HaveQuestions find ls qs → Within (before ++ qs)
+    → session_from find number before ls ≡ Ok (before ++ qs)
+session_again find number before _ _ HaveQuestions.none within = ap (λ (l : List Question). Ok l) (sym (append-nil before))
+session_again find number before _ _ (HaveQuestions.blank line ls qs e h) within =
+    rw (end_again line e) (session_again find (capped (number + 1)) before ls qs h within)
+session_again find number before _ _ (HaveQuestions.question line q ls qs is h) within =
+    let all : (before ++ q ∷ []) ++ qs ≡ before ++ q ∷ qs = append_assoc before (q ∷ []) qs in
+    rw (asked_again find number before line q qs is within, ← all)
+    (session_again find (capped (number + 1)) (before ++ q ∷ []) ls qs h (rw all within))
+
+no_lines : (find : Find) (qs : List Question) → HaveQuestions find [] qs → qs ≡ []
+no_lines find _ HaveQuestions.none = refl
+
+-- the lines of a text, read
+lines_read : (p : Presented) (lines : List (List ℕ)) (qs : List Question) → AllByRecursion IsLine lines → HaveQuestions (finding p.names) lines qs → Within qs
+    → session_from (finding p.names) 1 [] (lines_of (joined (10 ∷ []) lines)) ≡ Ok qs
+lines_read p [] qs are h within = rw (no_lines (finding p.names) qs h, end_again [] no_blanks) refl
+lines_read p (l ∷ ls) qs are h within = rw (lines_again l ls are) (session_again (finding p.names) 1 [] (l ∷ ls) qs h within)
+
+-- a session of the grammar is read
+pub text_again : (p : Presented) (text : List ℕ) (qs : List Question) → IsSession p text qs → session_text p text ≡ Ok qs
+unfolding session_text
+text_again p text qs h = rw (h.1) (lines_read p h.0 qs h.2 h.3 (h.4, h.5))
+
+-- a text spells one list of questions at most
+pub one_value : (p : Presented) (text : List ℕ) (qs rs : List Question) → IsSession p text qs → IsSession p text rs → qs ≡ rs
+one_value p text qs rs g h = same qs rs (sym (text_again p text qs g) ∙ text_again p text rs h)
+
 -- the same of what a reader answers
 pub is_found : (p : Presented) (text : List ℕ) (result : Result (Vec Question Global) SessionFault) → ReadsSession (session_text p text) result
     → IfOk result (λ qs. IsSession p text qs.items)
@@ -131,3 +179,10 @@ is_found p text (Ok qs) e = text_spelled p text qs.items e
 is_found p text (Err faults.NoMemory) e = tt
 is_found p text (Err (Text f)) e = tt
 is_found p text (Err (ImageTooLong l r)) e = tt
+
+pub is_only : (p : Presented) (text : List ℕ) (result : Result (Vec Question Global) SessionFault) (qs : List Question) → IsSession p text qs
+    → ReadsSession (session_text p text) result → ReadsSession (Ok qs) result
+is_only p text (Ok questions) qs h e = sym (text_again p text qs h) ∙ e
+is_only p text (Err faults.NoMemory) qs h e = tt
+is_only p text (Err (Text f)) qs h e = sym (text_again p text qs h) ∙ e
+is_only p text (Err (ImageTooLong l r)) qs h e = sym (text_again p text qs h) ∙ e

@@ -18,3 +18,13 @@ pub fn written_is_over()
 pub fn read_is_spelled()
     ensures { (p : Presented) (text : List ℕ) (qs : List Question) → session_text p text ≡ Ok qs → IsSession p text qs }
 {}
+
+/// A session of the grammar is read, with its questions.
+pub fn spelled_is_read()
+    ensures { (p : Presented) (text : List ℕ) (qs : List Question) → IsSession p text qs → session_text p text ≡ Ok qs }
+{}
+
+/// A text spells one list of questions at most.
+pub fn one_value()
+    ensures { (p : Presented) (text : List ℕ) (qs rs : List Question) → IsSession p text qs → IsSession p text rs → qs ≡ rs }
+{}
