@@ -19,7 +19,7 @@ use Rattle.module_vec.specs.Modules.{vector_at}
 use Rattle.module_vec.specs.Places.{same_place, moved}
 use Rattle.module_vec.specs.Results.{SumIsWide, DifferenceIsWide, StopsBy, Makes}
 use Rattle.module_vec.specs.Vectors.{Coefficients, sum_of, coefficient_at, multiple_at, difference_at, InRange, IsWide}
-use Rattle.strong_pairs.specs.declared.kinds.PairKind.{PairKind}
+use Rattle.outcomes.specs.declared.kinds.PairKind.{PairKind}
 use Rattle.std.specs.Result.{IsErr, IsErrAnd}
 use Rattle.strong_pairs.specs.declared.faults.PairFault.{PairFault}
 use Rattle.strong_pairs.specs.declared.faults.PairFault.TheVariants as faults

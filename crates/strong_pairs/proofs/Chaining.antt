@@ -22,8 +22,8 @@ use Rattle.module_vec.specs.Reducers.{Reduces, IsReducer, AreEntries}
 use Rattle.module_vec.specs.Vectors.{Coefficients, sum_of, coefficient_at, IsTerm}
 use Rattle.module_vec.proofs.Determined.{same_reducer}
 use Rattle.module_vec.proofs.Order.{order}
-use Rattle.strong_pairs.specs.declared.kinds.PairKind.{PairKind}
-use Rattle.strong_pairs.specs.declared.kinds.PairKind.TheVariants.{S, G}
+use Rattle.outcomes.specs.declared.kinds.PairKind.{PairKind}
+use Rattle.outcomes.specs.declared.kinds.PairKind.TheVariants.{S, G}
 use Rattle.strong_pairs.specs.Covering.{Divides}
 use Rattle.strong_pairs.specs.Pairs.{lead_at, IsPair, pair_place, AreFactors, ArePairSteps, both_at}
 use Rattle.strong_pairs.specs.Results.{IsPairVector}

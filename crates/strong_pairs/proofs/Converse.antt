@@ -19,8 +19,8 @@ use Rattle.module_vec.specs.Places.{IsBelow, moved}
 use Rattle.module_vec.specs.Reducers.{Reduces, AreEntries}
 use Rattle.module_vec.specs.Vectors.{Coefficients}
 use Rattle.module_vec.proofs.Order.{order}
-use Rattle.strong_pairs.specs.declared.kinds.PairKind.{PairKind}
-use Rattle.strong_pairs.specs.declared.kinds.PairKind.TheVariants.{S, G}
+use Rattle.outcomes.specs.declared.kinds.PairKind.{PairKind}
+use Rattle.outcomes.specs.declared.kinds.PairKind.TheVariants.{S, G}
 use Rattle.strong_pairs.specs.Covering.{Divides}
 use Rattle.strong_pairs.specs.Pairs.{lead_at, IsPair, pair_place, AreFactors, ArePairSteps, both_at}
 use Rattle.strong_pairs.specs.Tasks.{step_place, StandsAt, AreStepsAt, IsClosed}

@@ -8,7 +8,7 @@ use Rattle.laurent_terms.proofs.Division.{divides_trans, divides-common_multiple
 use Rattle.module_vec.specs.declared.places.Place.{Place}
 use Rattle.module_vec.specs.declared.places.Term.{Term}
 use Rattle.module_vec.specs.Reducers.{Reduces, AreEntries}
-use Rattle.strong_pairs.specs.declared.kinds.PairKind.TheVariants.{G}
+use Rattle.outcomes.specs.declared.kinds.PairKind.TheVariants.{G}
 use Rattle.strong_pairs.specs.Covering.{Divides, CoversLeads, Covers}
 use Rattle.strong_pairs.specs.Pairs.{lead_at}
 use Rattle.strong_pairs.specs.Tasks.{AreClosed, Reaches, DividesAll}

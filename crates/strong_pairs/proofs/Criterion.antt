@@ -19,7 +19,7 @@ use Rattle.module_vec.specs.Places.{IsBelow, same_place, moved}
 use Rattle.module_vec.specs.Reducers.{Reduces, AreEntries}
 use Rattle.module_vec.specs.Vectors.{Coefficients, sum_of, coefficient_at, multiple, IsTerm}
 use Rattle.module_vec.proofs.Order.{test, order}
-use Rattle.strong_pairs.specs.declared.kinds.PairKind.TheVariants.{S, G}
+use Rattle.outcomes.specs.declared.kinds.PairKind.TheVariants.{S, G}
 use Rattle.strong_pairs.specs.Covering.{Divides}
 use Rattle.strong_pairs.specs.Generating.{IsUpToSign, Holds, IsGenerating}
 use Rattle.strong_pairs.specs.Pairs.{lead_at}

@@ -20,7 +20,7 @@ use Rattle.module_vec.specs.Modules.{vector_at, steps_at}
 use Rattle.module_vec.specs.Places.{IsBelow, same_place, moved}
 use Rattle.module_vec.specs.Reducers.{AreEntries}
 use Rattle.module_vec.specs.Vectors.{sum_of, multiple}
-use Rattle.strong_pairs.specs.declared.kinds.PairKind.TheVariants.{S}
+use Rattle.outcomes.specs.declared.kinds.PairKind.TheVariants.{S}
 use Rattle.strong_pairs.specs.Covering.{Divides}
 use Rattle.strong_pairs.specs.Pairs.{lead_at, pair_place, AreFactors}
 use Rattle.strong_pairs.specs.Tasks.{AreStepsBelow, IsClosed, AreClosed}

@@ -10,7 +10,7 @@ use Rattle.std.proofs.lemmas.Int.{to_z-of_z, fits_signed_from_abs}
 use Rattle.formal_sums.proofs.Integers.{neg_ℤ-*ℤ}
 use Rattle.laurent_terms.specs.Factors.{IsBezout}
 use Rattle.module_vec.specs.Vectors.{InRange}
-use Rattle.strong_pairs.specs.declared.kinds.PairKind.TheVariants.{S}
+use Rattle.outcomes.specs.declared.kinds.PairKind.TheVariants.{S}
 use Rattle.strong_pairs.specs.Pairs.{AreFactors}
 
 abbrev pub word : ℤ → ℤ

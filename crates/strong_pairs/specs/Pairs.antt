@@ -10,8 +10,8 @@ use Rattle.module_vec.specs.declared.steps.Step.{Step}
 use Rattle.module_vec.specs.Chains.{taken_at}
 use Rattle.module_vec.specs.Modules.{vector_at}
 use Rattle.module_vec.specs.Vectors.{Coefficients}
-use Rattle.strong_pairs.specs.declared.kinds.PairKind.{PairKind}
-use Rattle.strong_pairs.specs.declared.kinds.PairKind.TheVariants.{S, G}
+use Rattle.outcomes.specs.declared.kinds.PairKind.{PairKind}
+use Rattle.outcomes.specs.declared.kinds.PairKind.TheVariants.{S, G}
 
 -- the first term of a vector, with the coefficient 0 where there is none
 abbrev pub lead_of : List Term → Term

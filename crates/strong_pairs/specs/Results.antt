@@ -13,7 +13,7 @@ use Rattle.module_vec.specs.Chains.{taken_at}
 use Rattle.module_vec.specs.Modules.{vector_at}
 use Rattle.module_vec.specs.Results.{SumIsWide, StopsBy, IsMade}
 use Rattle.module_vec.specs.Vectors.{Coefficients, IsWide, InRange, HasRoom}
-use Rattle.strong_pairs.specs.declared.kinds.PairKind.{PairKind}
+use Rattle.outcomes.specs.declared.kinds.PairKind.{PairKind}
 use Rattle.strong_pairs.specs.declared.faults.PairFault.{PairFault}
 use Rattle.strong_pairs.specs.declared.faults.PairFault.TheVariants as faults
 use Rattle.strong_pairs.specs.Pairs.{pair_place, ArePairSteps, both_at}

@@ -10,8 +10,8 @@ use Rattle.module_vec.specs.Modules.{steps_at}
 use Rattle.module_vec.specs.Places.{IsBelow, moved}
 use Rattle.module_vec.specs.Reducers.{Reduces}
 use Rattle.module_vec.specs.Vectors.{Coefficients}
-use Rattle.strong_pairs.specs.declared.kinds.PairKind.{PairKind}
-use Rattle.strong_pairs.specs.declared.kinds.PairKind.TheVariants.{S, G}
+use Rattle.outcomes.specs.declared.kinds.PairKind.{PairKind}
+use Rattle.outcomes.specs.declared.kinds.PairKind.TheVariants.{S, G}
 use Rattle.strong_pairs.specs.Covering.{Divides, Covers}
 use Rattle.strong_pairs.specs.Pairs.{lead_at, IsPair, pair_place, ArePairSteps, both_at}
 

@@ -13,8 +13,8 @@ ghost use Rattle.module_vec.specs.Modules.{vector_at, steps_at, AreSteps, InModu
 ghost use Rattle.module_vec.specs.Places.{IsBelow};
 ghost use Rattle.module_vec.specs.Reducers.{AreEntries};
 ghost use Rattle.module_vec.specs.Vectors.{Coefficients, coefficient_at, difference_at, IsSparse};
-ghost use Rattle.strong_pairs.specs.declared.kinds.PairKind.{PairKind};
-ghost use Rattle.strong_pairs.specs.declared.kinds.PairKind.TheVariants.{S, G};
+ghost use Rattle.outcomes.specs.declared.kinds.PairKind.{PairKind};
+ghost use Rattle.outcomes.specs.declared.kinds.PairKind.TheVariants.{S, G};
 ghost use Rattle.strong_pairs.specs.Generating.{BeginsWith, Holds, IsGenerating};
 ghost use Rattle.strong_pairs.specs.Pairs.{lead_at, IsPair, pair_place, ArePairSteps};
 ghost use Rattle.strong_pairs.specs.Results.{IsPairVector};

@@ -9,14 +9,13 @@
 mod covering;
 mod factors;
 mod faults;
-mod kinds;
 pub mod laws;
 mod leads;
 mod pairs;
 
 pub use covering::covers;
 pub use faults::PairFault;
-pub use kinds::PairKind;
+pub use outcomes::PairKind;
 pub use pairs::{g_vector, is_pair, pair_steps, pair_vector, s_vector};
 
 #[cfg(test)]

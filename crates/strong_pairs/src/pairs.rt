@@ -4,7 +4,7 @@ ghost use Rattle.std.specs.Prelude.{◌+ℤ◌, ◌↔◌, IsTrue, IfOk};
 ghost use Rattle.module_vec.specs.Chains.{taken_at};
 ghost use Rattle.module_vec.specs.Results.{Makes};
 ghost use Rattle.module_vec.specs.Vectors.{coefficient_at};
-ghost use Rattle.strong_pairs.specs.declared.kinds.PairKind.TheVariants.{S, G};
+ghost use Rattle.outcomes.specs.declared.kinds.PairKind.TheVariants.{S, G};
 ghost use Rattle.strong_pairs.specs.Pairs.{IsPair};
 ghost use Rattle.strong_pairs.specs.Results.{FindsSteps, IsInReach, AdditionIsWide, MakesPair};
 
