@@ -1,11 +1,30 @@
 //! Laws of questions and of the texts of sessions, each as the contract of a function with an empty body.
 
+ghost use Rattle.std.specs.Prelude.{◌≡◌, ℕ, List, Ok};
 ghost use Rattle.presentation.specs.Presented.{Presented};
 ghost use Rattle.session_text.specs.declared.question.Question.{Question};
 ghost use Rattle.session_text.specs.Questions.{IsQuestion, IsWrittenQuestion};
+ghost use Rattle.session_text.specs.Reading.{session_text};
+ghost use Rattle.session_text.specs.Grammar.{IsSession};
 
 /// A question whose words may be written, as those that are read, is one over the presentation.
 #[tactic(auto, using(crate::proofs::QuestionLemmas::written_is_over))]
 pub fn written_is_over()
     ensures { (p : Presented) (q : Question) → IsWrittenQuestion p q → IsQuestion p q }
+{}
+
+/// What is read of a text is a session of the grammar, with its questions.
+#[tactic(auto, using(crate::proofs::TextLaws::text_spelled))]
+pub fn read_is_spelled()
+    ensures { (p : Presented) (text : List ℕ) (qs : List Question) → session_text p text ≡ Ok qs → IsSession p text qs }
+{}
+
+/// A session of the grammar is read, with its questions.
+pub fn spelled_is_read()
+    ensures { (p : Presented) (text : List ℕ) (qs : List Question) → IsSession p text qs → session_text p text ≡ Ok qs }
+{}
+
+/// A text spells one list of questions at most.
+pub fn one_value()
+    ensures { (p : Presented) (text : List ℕ) (qs rs : List Question) → IsSession p text qs → IsSession p text rs → qs ≡ rs }
 {}
