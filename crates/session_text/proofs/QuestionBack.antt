@@ -70,9 +70,13 @@ words_stand p (w ∷ []) text h are some e = word_stands p w text [] h are.0 ref
 words_stand p (w ∷ v ∷ vs) text h are some e =
     let later : List ℕ = led_by (codes ", ") (map (written_word p.names) vs) in
     let next : List ℕ = 32 ∷ (written_word p.names v ++ later) in
-    let mark : MarkAt (after_blanks (44 ∷ next)) (codes ",") next = blanks_once (44 ∷ next) ∙ kept 44 next bytes.1 in
-    (after_blanks (44 ∷ next), next, word_stands p w text (44 ∷ next) h are.0 (comma_ends next) e, mark,
-      words_stand p (v ∷ vs) next h are.1 (omega arith) (behind_space p v later h are.1.0))
+    let mark : MarkAt (after_blanks (44 ∷ next)) (codes ",") next = blanks_once (44 ∷ next) ∙ kept 44 next bytes.1 in (
+      after_blanks (44 ∷ next),
+      next,
+      word_stands p w text (44 ∷ next) h are.0 (comma_ends next) e,
+      mark,
+      words_stand p (v ∷ vs) next h are.1 (omega arith) (behind_space p v later h are.1.0),
+    )
 
 -- a written source behind a space, with an arrow behind it
 source_stands : (source : Presented) (more : List ℕ) → IsPresented source → source.modulus ≡ 0
@@ -103,7 +107,7 @@ first_plain p (w ∷ ws) h are some = behind_space p w (led_by (codes ", ") (map
 map_stands : (p source : Presented) (images : List (List Letter)) → IsPresented p → IsPresented source → source.modulus ≡ 0
     → AllByRecursion (IsWritten (length p.names)) images → length images ≡ length source.names
     → QuestionAt (finding p.names) (codes "hom" ++ 32 ∷ (written_presentation source ++ 32 ∷ 45 ∷ 62 ∷ 32 ∷ joined (codes ", ") (map (written_word p.names) images)))
-        (Hom source images) (after_blanks [])
+    (Hom source images) (after_blanks [])
 map_stands p source images h known none are so =
     let next : List ℕ = 32 ∷ joined (codes ", ") (map (written_word p.names) images) in
     let arrow : List ℕ = 32 ∷ 45 ∷ 62 ∷ next in
@@ -127,6 +131,10 @@ question_stands p (Hom source images) h is =
     subst (λ (t : List ℕ). QuestionAt (finding p.names) (codes "hom" ++ 32 ∷ t) (Hom source images) (after_blanks []))
     (sym (append_assoc (written_presentation source) (codes " -> ") (joined (codes ", ") (map (written_word p.names) images))))
     (map_stands p source images h is.1 ((is.0).0).1 (is.0).1 ((is.0).0).0)
+
+pub written_stands : (p : Presented) (q : Question) (text : List ℕ) → IsPresented p → text ≡ written_question p.names q → IsWritable p q
+    → QuestionAt (finding p.names) text q (after_blanks [])
+written_stands p q text h e is = rw e (question_stands p q h is)
 
 -- one question is within the limits of a session
 letters_fit : (p : Presented) (q : Question) → IsWritable p q → question_letters q ≤ LETTERS
