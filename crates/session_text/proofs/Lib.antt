@@ -10,3 +10,4 @@ pub mod Spelled
 pub mod TextLaws
 pub mod ReadAgain
 pub mod QuestionBack
+pub mod ScheduleLaws

@@ -3,3 +3,4 @@ pub mod Writing
 pub mod Reading
 pub mod Schedule
 pub mod Grammar
+pub mod ScheduleGrammar
