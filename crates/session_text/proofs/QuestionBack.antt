@@ -1,5 +1,5 @@
 -- A written question stands in the grammar, and is read back.
-use Rattle.std.proofs.Common.{◌≡◌, ℕ, ◌+◌, ◌<◌, ◌≤◌, true, false, nat_eq, codes, List, [], ◌∷◌, ◌++◌, length, map, Result, Ok, Err, refl, sym, ◌∙◌, ap, subst, arith, append_assoc, append-nil}
+use Rattle.std.proofs.Common.{◌≡◌, ℕ, ◌<◌, ◌≤◌, true, false, nat_eq, codes, List, [], ◌∷◌, ◌++◌, length, map, Result, Ok, Err, refl, sym, ◌∙◌, ap, subst, arith, append_assoc, append-nil}
 use Rattle.std.specs.List.{AllByRecursion}
 use Rattle.std.specs.Cmp.Lexicographic.{pointwise}
 use Rattle.std.proofs.lemmas.Slice.Eq.{bytes_eq-Decides}
@@ -23,7 +23,7 @@ use Rattle.presentation.proofs.WritingNames.{name_taken, name_left}
 use Rattle.presentation.proofs.WritingTurns.{name_plain}
 use Rattle.presentation.proofs.WritingWhole.{presentation_read_before}
 use Rattle.derivation.specs.Grammar.{KeywordAt, WordAt, WordsAt}
-use Rattle.session_text.specs.declared.TheConstants.{QUESTIONS, LETTERS}
+use Rattle.session_text.specs.declared.TheConstants.{LETTERS}
 use Rattle.session_text.specs.declared.question.Question.{Question}
 use Rattle.session_text.specs.declared.question.Question.TheVariants.{Trivial, Equal, Normal, Hom}
 use Rattle.session_text.specs.Questions.{IsWritable, question_letters, session_letters}

@@ -1,15 +1,13 @@
 -- What is read of a text is a schedule of the grammar, and schedules of the grammar are read.
-use Rattle.std.proofs.Common.{◌≡◌, ℕ, zero, suc, ◌+◌, ◌-◌, ◌/◌, ◌%◌, ◌<◌, ◌≤◌, ◌==◌, ◌&&◌, ◌⊎◌, inl, inr, nat_le, nat_lt, Bool, true, false, codes, decimal, List, [], ◌∷◌, ◌++◌, length, drop, Option, Some, None, option_map, Result, Ok, Err, IfOk, Vec, refl, sym, ◌∙◌, ap, subst, arith, append_assoc, append-nil, if◌then◌else◌}
+use Rattle.std.proofs.Common.{◌≡◌, ℕ, zero, suc, ◌+◌, ◌-◌, ◌/◌, ◌%◌, ◌<◌, ◌≤◌, ◌==◌, ◌&&◌, nat_le, nat_lt, Bool, true, false, decimal, List, [], ◌∷◌, ◌++◌, length, Option, Some, None, option_map, Result, Ok, Err, IfOk, Vec, refl, sym, ◌∙◌, ap, subst, arith, append_assoc, append-nil, if◌then◌else◌}
 use Rattle.std.specs.declared.alloc.Global.{Global}
 use Rattle.std.proofs.lemmas.Bool.Decides.{nat_tests}
 use Rattle.std.proofs.lemmas.Fmt.{decimal_digit, decimal_step}
 use Rattle.std.proofs.lemmas.List.{length-drop}
-use Rattle.word_text.specs.declared.fault.Fault.{Fault}
-use Rattle.word_text.specs.declared.fault.TextKind.TheVariants.{NoSession}
 use Rattle.word_text.specs.declared.fault.ReadFault.{ReadFault}
 use Rattle.word_text.specs.declared.fault.ReadFault.TheVariants as faults
-use Rattle.word_text.specs.Scan.{◌>>=◌, after_blanks, name_at, after_name, due}
-use Rattle.word_text.proofs.Lexing.{blanks_once, no_blanks}
+use Rattle.word_text.specs.Scan.{◌>>=◌, after_blanks, name_at, after_name}
+use Rattle.word_text.proofs.Lexing.{blanks_once}
 use Rattle.presentation.proofs.Steps.{bind_ok, ok_is, guard_ok}
 use Rattle.presentation.proofs.WritingEnds.{skips_le}
 use Rattle.derivation.specs.Grammar.{KeywordAt}
