@@ -2,3 +2,5 @@ pub mod Questions
 pub mod Writing
 pub mod Reading
 pub mod Schedule
+pub mod Grammar
+pub mod ScheduleGrammar

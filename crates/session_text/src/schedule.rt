@@ -1,8 +1,10 @@
 //! Schedules as texts: the order in which workers and sessions take their turns.
 
-ghost use Rattle.std.specs.Prelude.{◌≡◌, ◌<◌, ◌≤◌, length, All, IfOk, IfSome};
+ghost use Rattle.std.specs.Prelude.{◌≡◌, ◌<◌, ◌≤◌, length, All, IfOk, IfSome, List, Ok};
 ghost use Rattle.word_text.specs.Scan.{Gives, Tells};
 ghost use Rattle.session_text.specs.Schedule.{IsEvent, small_number, event_of, event_at, schedule_text, ReadsSchedule};
+ghost use Rattle.session_text.specs.ScheduleGrammar.{IsSchedule};
+ghost use Rattle.session_text.specs.declared.question.Event.{Event};
 
 use crate::question::Event;
 use std::alloc::Global;
@@ -65,10 +67,8 @@ fn events(alloc: Global, sessions: u32, text: &[u8]) -> Result<Vec<Event>, ReadE
     Ok(events)
 }
 
-/// The events that the text spells: `w3` is a turn of worker 3, `s1` one of session 1, with blanks between them. Their
-/// numbers are from 1 to 16. A session past the number of sessions is NoSession.
-pub fn read_schedule(alloc: Global, text: &[u8], sessions: u32) -> Result<Vec<Event>, ReadFault>
-    // Which events, or which fault, and where.
+// The events that the text spells, or the first fault.
+fn read_exactly(alloc: Global, text: &[u8], sessions: u32) -> Result<Vec<Event>, ReadFault>
     ensures exact { ReadsSchedule text.now (schedule_text sessions text.now) result }
     ensures range { IfOk result (λ v. All (IsEvent sessions) v.items) }
 {
@@ -77,4 +77,19 @@ pub fn read_schedule(alloc: Global, text: &[u8], sessions: u32) -> Result<Vec<Ev
         Err(ReadError::NoMemory) => Err(ReadFault::NoMemory),
         Err(ReadError::Text(fault)) => Err(ReadFault::Text(placed(text, fault))),
     }
+}
+
+/// The events that the text spells: `w3` is a turn of worker 3, `s1` one of session 1, with blanks between them. Their
+/// numbers are from 1 to 16. A session past the number of sessions is NoSession at its first byte, and any other token a
+/// fault at its own.
+pub fn read_schedule(alloc: Global, text: &[u8], sessions: u32) -> Result<Vec<Event>, ReadFault>
+    // The text is a schedule of the grammar, with these events.
+    ensures found { IfOk result (λ v. IsSchedule sessions text.now v.items) }
+    // Where the text is a schedule of the grammar, its events are read, unless memory runs out.
+    ensures only { (es : List Event) → IsSchedule sessions text.now es → ReadsSchedule text.now (Ok es) result }
+    // Which events, or which fault, and where.
+    ensures exact { ReadsSchedule text.now (schedule_text sessions text.now) result }
+    ensures range { IfOk result (λ v. All (IsEvent sessions) v.items) }
+{
+    read_exactly(alloc, text, sessions)
 }
