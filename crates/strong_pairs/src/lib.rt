@@ -17,6 +17,7 @@ mod pairs;
 pub use covering::covers;
 pub use faults::PairFault;
 pub use kinds::PairKind;
+pub use leads::lead;
 pub use pairs::{g_vector, is_pair, pair_steps, pair_vector, s_vector};
 
 #[cfg(test)]

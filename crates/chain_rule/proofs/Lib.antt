@@ -1,0 +1,4 @@
+pub mod Gauss
+pub mod Multiples
+pub mod ChainRule
+pub mod Closed
