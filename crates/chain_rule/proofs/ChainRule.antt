@@ -1,5 +1,5 @@
 -- THE CHAIN RULE: the S-vector of a pair is the sum of a multiple of each of the S-vectors of its entries with a third one.
-use Rattle.std.proofs.Common.{◌≡◌, ℕ, zero, suc, ◌+◌, ◌<◌, max, true, ℤ, pos, negsuc, neg_ℤ, ◌+ℤ◌, ◌*ℤ◌, List, ◌++◌, length, inl, inr, refl, sym, ap, subst, ◌∙◌, arith}
+use Rattle.std.proofs.Common.{◌≡◌, ℕ, zero, suc, ◌<◌, max, true, ℤ, pos, negsuc, neg_ℤ, ◌+ℤ◌, ◌*ℤ◌, List, ◌++◌, length, inl, inr, refl, sym, ap, ◌∙◌, arith}
 use borrow.Author.Differences.{ints}
 use Rattle.std.specs.Int.{IsGcd}
 use Rattle.std.specs.Prelude.{unsigned_abs, ◌<ℤ◌}
@@ -7,7 +7,7 @@ use Rattle.std.proofs.Math.IntN.{*ℤ_comm}
 use Rattle.std.proofs.lemmas.Nat.Gcd.{IsGcd-swap}
 use Rattle.formal_sums.proofs.Integers.{*ℤ-+ℤ, +ℤ-*ℤ, *ℤ_assoc, neg_ℤ-*ℤ, *ℤ-neg_ℤ}
 use Rattle.laurent_terms.specs.declared.TheConstants.{VARIABLES}
-use Rattle.laurent_terms.specs.Monomials.{quotient, common_multiple, divides}
+use Rattle.laurent_terms.specs.Monomials.{quotient, divides}
 use Rattle.laurent_terms.proofs.Combining.{length-combined}
 use Rattle.module_vec.specs.declared.places.Place.{Place}
 use Rattle.module_vec.specs.declared.places.Term.{Term}
@@ -18,7 +18,7 @@ use Rattle.module_vec.specs.Reducers.{AreEntries, Reduces}
 use Rattle.strong_pairs.specs.declared.kinds.PairKind.TheVariants.{S}
 use Rattle.strong_pairs.specs.Covering.{Divides}
 use Rattle.strong_pairs.specs.Pairs.{lead_at, IsPair, pair_place, AreFactors, ArePairSteps, both_at}
-use Rattle.strong_pairs.specs.Tasks.{AreStepsBelow, IsSumBelow, IsClosed}
+use Rattle.strong_pairs.specs.Tasks.{IsClosed}
 use Rattle.strong_pairs.proofs.Entered.{lead_length, lead_positive, length-quotient}
 use Rattle.strong_pairs.proofs.Exchanges.{cancel, quotient-back, Meets, swapped, PairCarried, pair_carried}
 use Rattle.strong_pairs.proofs.LeadTerms.{divides_common}
@@ -221,11 +221,16 @@ module _ (b : List (List Term)) (entries : AreEntries b) where
         some = divisor_some g.d (coeff i) hi g.divisor.0
 
         parts : Divides (pos g.d) (coeff j) → Divides (pos g.d) (coeff i) → IsClosed b S i j
-        parts (q, eq) (w, ew) = (first, second, are, record {
-          steps = scaled m.x one.steps ++ scaled m.y two.steps;
-          below = at_append b entries (λ x. IsBelow x p) (scaled m.x one.steps) (scaled m.y two.steps) (at_scaled b entries (λ x. IsBelow x p) m.x one.steps one.below) (at_scaled b entries (λ x. IsBelow x p) m.y two.steps two.below);
-          is = is;
-        })
+        parts (q, eq) (w, ew) = (
+          first,
+          second,
+          are,
+          record {
+            steps = scaled m.x one.steps ++ scaled m.y two.steps;
+            below = at_append b entries (λ x. IsBelow x p) (scaled m.x one.steps) (scaled m.y two.steps) (at_scaled b entries (λ x. IsBelow x p) m.x one.steps one.below) (at_scaled b entries (λ x. IsBelow x p) m.y two.steps two.below);
+            is = is;
+          },
+        )
           where
             r : ℤ
             r = neg_ℤ w

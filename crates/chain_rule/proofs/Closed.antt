@@ -1,5 +1,5 @@
 -- Closed pairs of a list, in either order.
-use Rattle.std.proofs.Common.{◌≡◌, ℕ, zero, suc, ◌<◌, List, [], ◌∷◌, length, slice_index_or, inl, inr, ◌⊎◌, subst, arith}
+use Rattle.std.proofs.Common.{ℕ, zero, suc, ◌<◌, List, [], ◌∷◌, length, slice_index_or, inl, inr, subst, arith}
 use Rattle.std.specs.List.{AllByRecursion, Contains}
 use Rattle.module_vec.specs.declared.places.Term.{Term}
 use Rattle.chain_rule.specs.ClosedPairs.{IsAmong, IsClosedPair, IsClosedEither, AreClosedPairs}

@@ -1,4 +1,5 @@
 pub mod Gauss
 pub mod Multiples
 pub mod ChainRule
+pub mod Parts
 pub mod Closed

@@ -1,5 +1,5 @@
 -- Divisors of the least common multiple of two numbers.
-use Rattle.std.proofs.Common.{◌≡◌, ℕ, ℤ, pos, ◌*ℤ◌, refl, sym, ap, ◌∙◌}
+use Rattle.std.proofs.Common.{◌≡◌, ℤ, pos, ◌*ℤ◌, refl, sym, ap, ◌∙◌}
 use Rattle.std.specs.Int.{IsGcd}
 use Rattle.std.specs.Prelude.{unsigned_abs, ◌<ℤ◌, ◌↔◌}
 use Rattle.std.proofs.Math.IntN.{*ℤ_comm}

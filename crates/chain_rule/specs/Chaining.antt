@@ -3,7 +3,7 @@ use Rattle.std.specs.Prelude.{◌≢◌, ℕ, ◌<◌, ◌≤◌, ℤ, List, len
 use Rattle.laurent_terms.specs.declared.TheConstants.{DEGREE}
 use Rattle.laurent_terms.specs.Monomials.{degree}
 use Rattle.module_vec.specs.declared.places.Term.{Term}
-use Rattle.module_vec.specs.Reducers.{AreEntries, Reduces}
+use Rattle.module_vec.specs.Reducers.{Reduces}
 use Rattle.strong_pairs.specs.declared.kinds.PairKind.TheVariants.{S}
 use Rattle.strong_pairs.specs.Covering.{Divides}
 use Rattle.strong_pairs.specs.Pairs.{lead_at, IsPair, pair_place, meeting_place}

@@ -48,9 +48,7 @@ fn chains_leads(by: &Term, first: &Term, second: &Term) -> bool
     let Some(multiple) = first.at.m.lcm(&second.at.m) else {
         return false;
     };
-    by.at.c == first.at.c
-        && by.at.m.divides(&multiple)
-        && divides_multiple(by.k, first.k, second.k)
+    by.at.c == first.at.c && by.at.m.divides(&multiple) && divides_multiple(by.k, first.k, second.k)
 }
 
 /// Whether `by` makes one of the pairs with i, and one with j.
