@@ -3,3 +3,4 @@ pub mod Multiples
 pub mod ChainRule
 pub mod Parts
 pub mod Closed
+pub mod Selected
