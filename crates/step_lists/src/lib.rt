@@ -5,6 +5,12 @@
 //! step has to keep.
 #![tactic(auto)]
 
+mod changes;
+mod faults;
+mod overlay;
 mod steps;
+mod sum;
 
+pub use faults::SumFault;
 pub use steps::Steps;
+pub use sum::Sum;

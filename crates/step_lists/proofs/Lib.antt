@@ -1,0 +1,5 @@
+pub mod Joins
+pub mod Overlays
+pub mod Differences
+pub mod Parting
+pub mod Stepping
