@@ -12,7 +12,9 @@ use Rattle.module_vec.specs.Results.{Nowhere, DifferenceIsWide, HasTerms, IsMade
 use Rattle.step_lists.specs.declared.faults.SumFault.{SumFault}
 use Rattle.step_lists.specs.declared.faults.SumFault.TheVariants.{Wide, Long, NoMemory}
 use Rattle.step_lists.specs.Overlays.{overwritten, AreChanges}
-use Rattle.step_lists.specs.Partial.{total_at, TotalIsWide, Gives}
+use Rattle.step_lists.specs.declared.way.Way.TheVariants.{Add, Take}
+use Rattle.step_lists.specs.Sums.{combined, IsWideAt}
+use Rattle.step_lists.specs.Partial.{Makes}
 
 -- the changes that a step makes in terms, and the terms then
 module _ (f m : Coefficients) (old new changes : List Term) (is : (x : Place) → coefficient_at old x ≡ f x) (are : AreChanges (coefficient_at old) m changes) (made : (x : Place) → coefficient_at new x ≡ overwritten changes (coefficient_at old) x) (sparse : IsSparse new) where
@@ -48,21 +50,21 @@ turned_wide : (z : ℤ) → IsWide z → IsWide (neg_ℤ z)
 turned_wide z w = omega (arith, ints, w)
 
 -- taking the negative is adding
-pub added : (f g h : Coefficients) (r : Result (List Term) SumFault) → ((x : Place) → h x ≡ neg_ℤ (g x)) → Gives (DifferenceIsWide f h) (difference_at f h) r → Gives (TotalIsWide f g) (total_at f g) r
+pub added : (f g h : Coefficients) (r : Result (List Term) SumFault) → ((x : Place) → h x ≡ neg_ℤ (g x)) → Makes (IsWideAt Take f h) (combined Take f h) r → Makes (IsWideAt Add f g) (combined Add f g) r
 added f g h r turns given = by r given
   where
-    total : (x : Place) → difference_at f h x ≡ total_at f g x
+    total : (x : Place) → combined Take f h x ≡ combined Add f g x
     total x = let e = turns x in omega (arith, ints, e)
 
-    there : (x : Place) → DifferenceIsWide f h x → TotalIsWide f g x
+    there : (x : Place) → IsWideAt Take f h x → IsWideAt Add f g x
     there x (inl w) = inl (wide_turned (g x) (subst IsWide (turns x) w))
     there x (inr w) = inr (subst IsWide (total x) w)
 
-    back : (x : Place) → TotalIsWide f g x → DifferenceIsWide f h x
+    back : (x : Place) → IsWideAt Add f g x → IsWideAt Take f h x
     back x (inl w) = inl (subst IsWide (sym (turns x)) (turned_wide (g x) w))
     back x (inr w) = inr (subst IsWide (sym (total x)) w)
 
-    by : (r : Result (List Term) SumFault) → Gives (DifferenceIsWide f h) (difference_at f h) r → Gives (TotalIsWide f g) (total_at f g) r
+    by : (r : Result (List Term) SumFault) → Makes (IsWideAt Take f h) (combined Take f h) r → Makes (IsWideAt Add f g) (combined Add f g) r
     by (Ok v) made = record { vector = made.vector; is = λ x. made.is x ∙ total x; narrow = λ x w. made.narrow x (back x w) }
     by (Err Wide) w = (w.0, there w.0 w.1)
     by (Err Long) l = (λ x w. l.0 x (back x w), (l.1.0, record { v = l.1.1.v; sparse = l.1.1.sparse; is = λ x. l.1.1.is x ∙ total x; count = l.1.1.count }, l.1.2))

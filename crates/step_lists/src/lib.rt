@@ -7,10 +7,16 @@
 
 mod changes;
 mod faults;
+pub mod laws;
 mod overlay;
 mod steps;
 mod sum;
+mod way;
 
 pub use faults::SumFault;
 pub use steps::Steps;
 pub use sum::Sum;
+pub use way::Way;
+
+#[cfg(test)]
+mod tests;

@@ -1,15 +1,16 @@
 //! `Sum`: a vector to which steps are added, or from which they are taken, one after another.
 
 ghost use Rattle.std.specs.Prelude.{◌≡◌, ◌≢◌, [], slice_get, MatchOption};
-ghost use Rattle.module_vec.specs.Vectors.{coefficient_at, multiple_at, difference_at, InRange, HasRoom};
-ghost use Rattle.module_vec.specs.Results.{DifferenceIsWide, IsGreatest};
-ghost use Rattle.step_lists.specs.Partial.{total_at, TotalIsWide, Gives, Differ, IsParting};
+ghost use Rattle.module_vec.specs.Vectors.{coefficient_at, multiple_at, InRange, HasRoom};
+ghost use Rattle.module_vec.specs.Results.{IsGreatest};
+ghost use Rattle.step_lists.specs.declared.way.Way.TheVariants.{Add, Take};
+ghost use Rattle.step_lists.specs.Partial.{Combines, Differ, IsParting};
 
-use crate::SumFault;
+use crate::{SumFault, Way};
 use crate::changes::changes;
 use crate::overlay::Overlay;
 use laurent_terms::Mono;
-use module_vec::{ModVec, Place, TERMS, Term};
+use module_vec::{ModVec, Place, Step, TERMS, Term};
 use std::alloc::Global;
 use std::marker::Model;
 
@@ -56,9 +57,7 @@ impl<'a> Sum<'a> {
     pub fn take(self, alloc: Global, q: i128, t: &Mono, g: &ModVec) -> Result<Sum<'a>, SumFault>
         requires range { InRange q }
         requires room { HasRoom t.now g.now }
-        ensures { let f = coefficient_at self.entry in
-            let multiple = multiple_at q t.now g.now in
-            Gives (DifferenceIsWide f multiple) (difference_at f multiple) result }
+        ensures { Combines Take (coefficient_at self.entry) (multiple_at q t.now g.now) result }
     {
         let mut terms = self.terms;
         let changes = changes(alloc, &terms, q, t, g.terms())?;
@@ -74,11 +73,27 @@ impl<'a> Sum<'a> {
     pub fn add(self, alloc: Global, q: i128, t: &Mono, g: &ModVec) -> Result<Sum<'a>, SumFault>
         requires range { InRange q }
         requires room { HasRoom t.now g.now }
-        ensures { let f = coefficient_at self.entry in
-            let multiple = multiple_at q t.now g.now in
-            Gives (TotalIsWide f multiple) (total_at f multiple) result }
+        ensures { Combines Add (coefficient_at self.entry) (multiple_at q t.now g.now) result }
     {
         self.take(alloc, -q, t, g)
+    }
+
+    /// The sum with the step added to it, or taken from it, where `g` is the vector that the step names.
+    pub fn pass(
+        self,
+        alloc: Global,
+        way: Way,
+        step: &Step,
+        g: &ModVec,
+    ) -> Result<Sum<'a>, SumFault>
+        requires range { InRange step.now.q }
+        requires room { HasRoom step.now.t g.now }
+        ensures { Combines way (coefficient_at self.entry) (multiple_at step.now.q step.now.t g.now) result }
+    {
+        match way {
+            Way::Add => self.add(alloc, step.q, &step.t, g),
+            Way::Take => self.take(alloc, step.q, &step.t, g),
+        }
     }
 
     /// The greatest place at which the sum differs from the vector. `None` exactly where they are equal.
