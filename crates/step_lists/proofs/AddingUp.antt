@@ -1,16 +1,16 @@
 -- What steps add up to.
-use Rattle.std.proofs.Common.{◌≡◌, pos, ◌+ℤ◌, ◌-ℤ◌, List, [], ◌∷◌, sym, ap, ◌∙◌, arith}
+use Rattle.std.proofs.Common.{◌≡◌, ◌+ℤ◌, List, [], ◌∷◌, arith}
 use borrow.Author.Differences.{ints}
 use Rattle.formal_sums.proofs.Coefficients.{coefficient-append}
 use Rattle.module_vec.specs.declared.places.Place.{Place}
 use Rattle.module_vec.specs.declared.places.Term.{Term}
 use Rattle.module_vec.specs.declared.steps.Step.{Step}
 use Rattle.module_vec.specs.Places.{same_place}
-use Rattle.module_vec.specs.Vectors.{Coefficients, coefficient_at, multiple}
+use Rattle.module_vec.specs.Vectors.{coefficient_at, multiple}
 use Rattle.module_vec.specs.Modules.{vector_at, sum_of_steps, steps_at}
 use Rattle.module_vec.specs.Chains.{taken_at}
 use Rattle.step_lists.specs.declared.way.Way.TheVariants.{Add, Take}
-use Rattle.step_lists.specs.Sums.{Adds, Takes, passed, zero_vector, IsValue}
+use Rattle.step_lists.specs.Sums.{passed, zero_vector}
 use Rattle.step_lists.specs.Laws.{AddingAddsUp, TakingTakesAway, ProvenVectorsAreSums, ValuesAreSums}
 
 -- the first step, and the others

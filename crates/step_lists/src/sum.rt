@@ -6,9 +6,9 @@ ghost use Rattle.module_vec.specs.Results.{IsGreatest};
 ghost use Rattle.step_lists.specs.declared.way.Way.TheVariants.{Add, Take};
 ghost use Rattle.step_lists.specs.Partial.{Combines, Differ, IsParting};
 
-use crate::{SumFault, Way};
 use crate::changes::changes;
 use crate::overlay::Overlay;
+use crate::{SumFault, Way};
 use laurent_terms::Mono;
 use module_vec::{ModVec, Place, Step, TERMS, Term};
 use std::alloc::Global;
@@ -79,13 +79,7 @@ impl<'a> Sum<'a> {
     }
 
     /// The sum with the step added to it, or taken from it, where `g` is the vector that the step names.
-    pub fn pass(
-        self,
-        alloc: Global,
-        way: Way,
-        step: &Step,
-        g: &ModVec,
-    ) -> Result<Sum<'a>, SumFault>
+    pub fn pass(self, alloc: Global, way: Way, step: &Step, g: &ModVec) -> Result<Sum<'a>, SumFault>
         requires range { InRange step.now.q }
         requires room { HasRoom step.now.t g.now }
         ensures { Combines way (coefficient_at self.entry) (multiple_at step.now.q step.now.t g.now) result }

@@ -1,7 +1,7 @@
 //! Known sums, each limit, and where sums part from vectors.
 
 use crate::{Steps, Sum, SumFault, Way, laws};
-use laurent_terms::{DEGREE, Mono};
+use laurent_terms::Mono;
 use module_vec::{COEFFICIENT, ModVec, Place, Step, Term};
 use std::alloc::Global;
 use std::test::Fail;
@@ -69,54 +69,61 @@ fn made<'a>(answer: Result<Sum<'a>, SumFault>) -> Result<Sum<'a>, Fail> {
 }
 
 #[test]
-fn steps_are_added() -> Result<(), Fail> {
-    let alloc = Global;
+fn steps_are_added(rt: HostRuntime) -> Result<(), Fail> {
+    let alloc = rt.alloc();
     let g = vector(alloc, &[(1, 2), (0, -1)])?;
     let sum = made(pass(alloc, Sum::empty(alloc), Way::Add, 3, 1, &g)?)?;
     let sum = made(pass(alloc, sum, Way::Add, -3, 0, &g)?)?;
-    assert!(sum.difference(&vector(alloc, &[(2, 6), (1, -9), (0, 3)])?).is_none());
+    assert!(rt;
+        sum.difference(&vector(alloc, &[(2, 6), (1, -9), (0, 3)])?)
+            .is_none()
+    );
     Ok(())
 }
 
 #[test]
-fn steps_are_taken() -> Result<(), Fail> {
-    let alloc = Global;
+fn steps_are_taken(rt: HostRuntime) -> Result<(), Fail> {
+    let alloc = rt.alloc();
     let g = vector(alloc, &[(1, 2), (0, -1)])?;
     let start = vector(alloc, &[(2, 6), (1, -9), (0, 3)])?;
     let sum = made(pass(alloc, Sum::of(alloc, &start), Way::Take, 3, 1, &g)?)?;
     let sum = made(pass(alloc, sum, Way::Take, -3, 0, &g)?)?;
-    assert!(sum.lead().is_none());
+    assert!(rt; sum.lead().is_none());
     Ok(())
 }
 
 #[test]
-fn sums_part_at_the_greatest_place() -> Result<(), Fail> {
-    let alloc = Global;
+fn sums_part_at_the_greatest_place(rt: HostRuntime) -> Result<(), Fail> {
+    let alloc = rt.alloc();
     let start = vector(alloc, &[(3, 1), (2, 6), (0, 3)])?;
     let parts = Sum::of(alloc, &start).difference(&vector(alloc, &[(3, 1), (2, 5), (1, 1)])?);
-    assert!(parts == Some(place(2)?));
+    assert!(rt; parts == Some(place(2)?));
     let parts = Sum::of(alloc, &start).difference(&vector(alloc, &[(4, 1), (3, 1)])?);
-    assert!(parts == Some(place(4)?));
+    assert!(rt; parts == Some(place(4)?));
     let parts = Sum::of(alloc, &start).difference(&vector(alloc, &[(3, 1), (2, 6)])?);
-    assert!(parts == Some(place(0)?));
-    assert!(Sum::of(alloc, &start).lead() == Some(place(3)?));
+    assert!(rt; parts == Some(place(0)?));
+    assert!(rt; Sum::of(alloc, &start).lead() == Some(place(3)?));
     Ok(())
 }
 
 #[test]
-fn limits() -> Result<(), Fail> {
-    let alloc = Global;
+fn limits(rt: HostRuntime) -> Result<(), Fail> {
+    let alloc = rt.alloc();
     let most = vector(alloc, &[(0, MOST)])?;
     let one = vector(alloc, &[(0, 1)])?;
-    assert!(pass(alloc, Sum::of(alloc, &most), Way::Add, 1, 0, &one)?.err() == Some(SumFault::Wide));
-    assert!(pass(alloc, Sum::of(alloc, &most), Way::Take, 1, 0, &one)?.is_ok());
-    assert!(pass(alloc, Sum::empty(alloc), Way::Take, 2, 0, &most)?.err() == Some(SumFault::Wide));
+    assert!(rt;
+        pass(alloc, Sum::of(alloc, &most), Way::Add, 1, 0, &one)?.err() == Some(SumFault::Wide)
+    );
+    assert!(rt; pass(alloc, Sum::of(alloc, &most), Way::Take, 1, 0, &one)?.is_ok());
+    assert!(rt;
+        pass(alloc, Sum::empty(alloc), Way::Take, 2, 0, &most)?.err() == Some(SumFault::Wide)
+    );
     Ok(())
 }
 
 #[test]
-fn long_sums() -> Result<(), Fail> {
-    let alloc = Global;
+fn long_sums(rt: HostRuntime) -> Result<(), Fail> {
+    let alloc = rt.alloc();
     let mut terms = Vec::new(alloc);
     for exponent in 1..50_001i32 {
         terms.push((exponent, 1))?;
@@ -124,16 +131,17 @@ fn long_sums() -> Result<(), Fail> {
     let full = vector(alloc, &terms)?;
     let one = vector(alloc, &[(0, 1)])?;
     let end = vector(alloc, &[(1, 1)])?;
-    assert!(pass(alloc, Sum::of(alloc, &full), Way::Add, 1, 0, &one)?.err() == Some(SumFault::Long));
+    assert!(rt;
+        pass(alloc, Sum::of(alloc, &full), Way::Add, 1, 0, &one)?.err() == Some(SumFault::Long)
+    );
     let shorter = made(pass(alloc, Sum::of(alloc, &full), Way::Take, 1, 0, &end)?)?;
-    assert!(pass(alloc, shorter, Way::Add, 1, 0, &one)?.is_ok());
-    assert!(DEGREE == 60_000);
+    assert!(rt; pass(alloc, shorter, Way::Add, 1, 0, &one)?.is_ok());
     Ok(())
 }
 
 #[test]
-fn lists_and_laws() -> Result<(), Fail> {
-    assert!(Steps::of(Vec::new(Global)).steps().is_empty());
+fn lists_and_laws(rt: HostRuntime) -> Result<(), Fail> {
+    assert!(rt; Steps::of(Vec::new(rt.alloc())).steps().is_empty());
     laws::adding_adds_up();
     laws::taking_takes_away();
     laws::proven_vectors_are_sums();
