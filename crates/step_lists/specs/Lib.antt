@@ -1,1 +1,4 @@
 pub mod Sums
+pub mod Overlays
+pub mod Partial
+pub mod Laws

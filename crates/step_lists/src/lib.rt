@@ -5,6 +5,18 @@
 //! step has to keep.
 #![tactic(auto)]
 
+mod changes;
+mod faults;
+pub mod laws;
+mod overlay;
 mod steps;
+mod sum;
+mod way;
 
+pub use faults::SumFault;
 pub use steps::Steps;
+pub use sum::Sum;
+pub use way::Way;
+
+#[cfg(test)]
+mod tests;
