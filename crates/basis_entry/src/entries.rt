@@ -112,8 +112,15 @@ impl Entry {
     pub fn same(&self, other: &Entry) -> bool
         ensures { IsTrue result ↔ (self.now ≡ other.now) }
     {
-        self.vector.terms() == other.vector.terms()
-            && self.recipe.same(&other.recipe)
-            && self.source.same(&other.source)
+        same_vector(self.vector(), other.vector())
+            && self.recipe().same(other.recipe())
+            && self.presentation().same(other.presentation())
     }
+}
+
+/// Whether the vectors have the same terms.
+fn same_vector(vector: &ModVec, other: &ModVec) -> bool
+    ensures { IsTrue result ↔ (vector.now ≡ other.now) }
+{
+    vector.terms() == other.terms()
 }

@@ -1,6 +1,7 @@
 //! `EntryList`: a list of entries in memory.
 
-ghost use Rattle.std.specs.Prelude.{◌≡◌, ◌+◌, ◌<◌, ◌^◌, ◌++◌, ◌∷◌, [], List, None, length, IfOk, OnErr};
+ghost use Rattle.std.specs.Prelude.{◌≡◌, ◌+◌, ◌<◌, ◌^◌, ◌++◌, ◌∷◌, [], List, Some, None, length, map, slice_get, IfOk, OnErr};
+ghost use Rattle.std.proofs.Common.{refl};
 ghost use Rattle.std.specs.Arc.{arc_value};
 ghost use Rattle.basis_entry.specs.Entries.{BasisEntry, vectors_of};
 
@@ -51,6 +52,14 @@ impl EntryList {
         Ok(())
     }
 
+    /// The entry with this number.
+    fn get(&self, at: u32) -> &Arc<Entry>
+        requires { at < length self.now }
+        ensures { slice_get self.now at ≡ Some (arc_value result.now) }
+    {
+        &self.entries[at as usize]
+    }
+
     /// The entries in order.
     pub fn entries(&self) -> &[Arc<Entry>]
         ensures { map arc_value result.now ≡ self.now }
@@ -67,7 +76,7 @@ impl VecList for EntryList {
     }
 
     fn vector(&self, at: u32) -> &ModVec {
-        self.entries[at as usize].vector()
+        self.get(at).vector()
     }
 }
 
@@ -79,7 +88,7 @@ impl Front for EntryList {
     ghost vectors_are = { λ l. refl };
 
     fn front(&self) -> u32 {
-        self.count()
+        self.entries.len() as u32
     }
 
     fn sealed(&self) -> Option<&Sealed> {
@@ -87,6 +96,6 @@ impl Front for EntryList {
     }
 
     fn entry(&self, at: u32) -> &Arc<Entry> {
-        &self.entries[at as usize]
+        self.get(at)
     }
 }

@@ -26,10 +26,15 @@ impl Recipe {
                     negated: other_negated,
                 },
             ) => number == other_number && negated == other_negated,
-            (Recipe::Sum { steps }, Recipe::Sum { steps: others }) => {
-                steps.steps() == others.steps()
-            }
+            (Recipe::Sum { steps }, Recipe::Sum { steps: others }) => same_steps(steps, others),
             _ => false,
         }
     }
+}
+
+/// Whether the steps are the others, in their order.
+fn same_steps(steps: &Steps, others: &Steps) -> bool
+    ensures { IsTrue result ↔ (steps.now ≡ others.now) }
+{
+    steps.steps() == others.steps()
 }
