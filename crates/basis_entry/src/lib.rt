@@ -11,6 +11,7 @@ mod fronts;
 mod lists;
 mod recipes;
 mod seals;
+mod shared;
 
 pub use entries::Entry;
 pub use fronts::Front;
