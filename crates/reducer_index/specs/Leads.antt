@@ -1,17 +1,16 @@
 -- The lead terms of a list of vectors, and the reducer of a place among them.
-use Rattle.std.specs.List.{AllZip}
-use Rattle.std.specs.Prelude.{◌≡◌, ℕ, List, ◌∷◌, Option, Some, None, slice_get}
+use Rattle.std.specs.Prelude.{◌≡◌, ℕ, pos, List, [], map, Option, Some, None, slice_get, slice_index_or}
 use Rattle.module_vec.specs.declared.places.Place.{Place}
 use Rattle.module_vec.specs.declared.places.Term.{Term}
 use Rattle.module_vec.specs.Reducers.{Reduces, GoesBefore}
 
--- e is the first term of v
-abbrev pub HasLead : List Term → Term → Type 0
-HasLead v e = (g : List Term) × (v ≡ e ∷ g)
+-- the lead of a vector, with the coefficient 0 where there is none
+abbrev pub lead_of : List Term → Term
+lead_of v = slice_index_or v 0 (record { at = record { m = []; c = 0 }; k = pos 0 })
 
--- the first terms of the vectors, in their order
+-- the leads of the entries, in their order
 abbrev pub AreLeads : List (List Term) → List Term → Type 0
-AreLeads b es = AllZip HasLead b es
+AreLeads b es = es ≡ map lead_of b
 
 -- number i has the lead e and is the reducer of p
 pub record IsFirst (es : List Term) (p : Place) (i : ℕ) (e : Term) : Type 0 where

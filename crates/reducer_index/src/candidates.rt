@@ -47,6 +47,9 @@ impl Candidate {
         requires mask { IsMask at.now.m mask }
         ensures { IsTrue result ↔ IsReducing leads.now at.now self.now }
     {
-        self.mask & mask == self.mask && leads[self.number as usize].at.m.divides(&at.m)
+        if self.mask & mask != self.mask {
+            return false;
+        }
+        leads[self.number as usize].at.m.divides(&at.m)
     }
 }

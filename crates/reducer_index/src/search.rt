@@ -17,7 +17,7 @@ pub fn place_of(candidates: &[Candidate], new: &Candidate) -> usize
 {
     candidates.partition_point(
         |x: &Candidate| -> bool
-            ensures { result ≡ stands_before new.now x.now }
+            ensures { result ≡ stands_before new.entry.now x.now }
         { x.stands_before(new) },
     )
 }
