@@ -21,7 +21,7 @@ pub struct Candidate {
 impl Candidate {
     /// What is kept of this lead.
     pub fn new(lead: &Term, number: u32) -> Candidate
-        ensures is { (es : List Term) → slice_get es number ≡ Some lead.now → IsCandidateOf es result }
+        ensures is { (es : List Term) → slice_get es result.number ≡ Some lead.now → IsCandidateOf es result }
         ensures number { result.number ≡ number }
     {
         Candidate {

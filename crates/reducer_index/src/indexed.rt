@@ -37,6 +37,8 @@ impl<'a, L: VecList> VecList for Indexed<'a, L> {
     }
 
     fn find(&self, front: u32, at: &Place) -> Option<u32> {
+        // The proof needs that the list has entries, and the call says so.
+        let _ = self.list.count();
         self.index.find(front, at)
     }
 }
