@@ -8,10 +8,11 @@
 mod base;
 mod entries;
 mod fronts;
+mod indexed;
+pub mod laws;
 mod lists;
 mod recipes;
 mod seals;
-mod shared;
 
 pub use entries::Entry;
 pub use fronts::Front;
