@@ -1,0 +1,4 @@
+pub mod Members
+pub mod Generators
+pub mod Vectors
+pub mod Growing

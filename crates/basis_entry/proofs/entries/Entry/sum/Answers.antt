@@ -1,0 +1,8 @@
+use Rattle.std.specs.Arc.{arc_value}
+use Rattle.basis_entry.proofs.Members.{value_member}
+use Rattle.basis_entry.proofs.entries.Entry.sum.Goals as goal
+
+pub of-requires-clause-member : goal.of-requires-clause-member
+of-requires-clause-member g c =
+    value_member (arc_value c.args.p.now) (g.F.Front.entries c.args.list.now) (g.F.VecList.vectors c.args.list.now) c.args.steps c.args.vector
+    (g.met.F.Front.vectors_are c.args.list.now) c.front.ensures.entries c.requires.list c.requires.steps c.requires.value
