@@ -13,59 +13,23 @@ use Rattle.laurent_terms.proofs.Combining.{sum-product, length-combined}
 use Rattle.module_vec.specs.declared.places.Place.{Place}
 use Rattle.module_vec.specs.declared.places.Term.{Term}
 use Rattle.module_vec.specs.Places.{IsBelow, same_place, moved}
-use Rattle.module_vec.specs.Vectors.{Coefficients, coefficient_at, multiple, multiple_at, InRange, IsWide, IsTerm, IsSparse}
+use Rattle.module_vec.specs.Vectors.{Coefficients, multiple, multiple_at, InRange, IsWide, IsTerm, IsSparse}
 use Rattle.module_vec.specs.Results.{DifferenceIsWide, IsGreatest}
 use Rattle.module_vec.specs.Merging.{Subtracts}
 use Rattle.module_vec.proofs.Order.{test, order, moved_below}
 use Rattle.module_vec.proofs.FallingTerms.{Below, Falls, all_front, all_back, all_join}
-use Rattle.module_vec.proofs.Determined.{same_vector}
-use Rattle.reduce_cofactor.specs.Dividends.{IsChange, overwritten, AreChanges}
+use Rattle.reduce_cofactor.specs.declared.dividend.Change.{Change}
+use Rattle.reduce_cofactor.specs.Dividends.{IsChange, StartFrom, with_change, overwritten, AreChanges}
 use Rattle.reduce_cofactor.proofs.Joins.{above_next, falls_front}
 
--- f with one new coefficient
-abbrev pub with_one : Term → Coefficients → Coefficients
-with_one c f x = cond (same_place c.at x) c.k (f x)
-
-pub same_overwritten : (cs : List Term) (f g : Coefficients) → ((x : Place) → f x ≡ g x) → (x : Place) → overwritten cs f x ≡ overwritten cs g x
+pub same_overwritten : (cs : List Change) (f g : Coefficients) → ((x : Place) → f x ≡ g x) → (x : Place) → overwritten cs f x ≡ overwritten cs g x
 same_overwritten cs f g e x = ap (λ h. overwritten cs h x) (λ i y. e y i)
+
+pub same_start : (cs : List Change) (f g : Coefficients) → ((x : Place) → f x ≡ g x) → StartFrom cs g → StartFrom cs f
+same_start cs f g e h = let same : Path Coefficients g f = λ i y. sym (e y) i in subst (StartFrom cs) same h
 
 below_apart : (p q : Place) → IsBelow q p → same_place p q ≡ false
 below_apart p q h = eq-apart test p q (λ e. order.irreflexive q (subst (λ r. IsBelow q r) e h))
-
--- ---- from no coefficients to those of a vector
-
-all_zero : (f : Coefficients) (t : Term) (v : List Term) → Below t.at v → AllByRecursion (λ u. f u.at ≡ pos 0) v → AllByRecursion (λ u. with_one t f u.at ≡ pos 0) v
-all_zero f t [] b h = tt
-all_zero f t (u ∷ v) b h = (rw (below_apart t.at u.at b.0) h.0, all_zero f t v b.1 h.1)
-
-overwrites : (v : List Term) (f : Coefficients) → Falls v → AllByRecursion (λ u. f u.at ≡ pos 0) v → (x : Place) → overwritten v f x ≡ f x +ℤ coefficient_at v x
-overwrites [] f falls h x = omega (arith, ints)
-overwrites (t ∷ v) f falls h x = by (same_place t.at x) refl (overwrites v (with_one t f) falls.1 (all_zero f t v falls.0 h.1) x)
-  where
-    by : (b : Bool) → same_place t.at x ≡ b → overwritten v (with_one t f) x ≡ cond (same_place t.at x) t.k (f x) +ℤ coefficient_at v x → overwritten v (with_one t f) x ≡ f x +ℤ (cond (same_place t.at x) t.k (pos 0) +ℤ coefficient_at v x)
-    by true e rest =
-        let key : t.at ≡ x = test.sound t.at x e in
-        let zero_here : f x ≡ pos 0 = ap f (sym key) ∙ h.0 in
-        let read : overwritten v (with_one t f) x ≡ t.k +ℤ coefficient_at v x = rest ∙ rw e refl in
-        read ∙ rw e (omega (arith, ints, zero_here))
-    by false e rest =
-        let read : overwritten v (with_one t f) x ≡ f x +ℤ coefficient_at v x = rest ∙ rw e refl in
-        read ∙ rw e (omega (arith, ints))
-
-all_at_first : (v : List Term) → AllByRecursion (λ u. pos 0 ≡ pos 0) v
-all_at_first [] = tt
-all_at_first (u ∷ v) = (refl, all_at_first v)
-
-pub all_changes : (v : List Term) → AllByRecursion IsTerm v → AllByRecursion IsChange v
-all_changes [] h = tt
-all_changes (t ∷ v) h = (record { place = h.0.place; range = h.0.range }, all_changes v h.1)
-
--- what was empty is now the vector
-pub becomes : (v old new : List Term) → old ≡ [] → IsSparse v → IsSparse new → ((x : Place) → coefficient_at new x ≡ overwritten v (coefficient_at old) x) → new ≡ v
-becomes v old new none h g e = same_vector new v g h (λ x. e x ∙ ap (λ w. overwritten v (coefficient_at w) x) none ∙ overwrites v (coefficient_at []) h.falling (all_at_first v) x ∙ plus_zero (coefficient_at v x))
-  where
-    plus_zero : (z : ℤ) → pos 0 +ℤ z ≡ z
-    plus_zero z = omega (arith, ints)
 
 -- ---- a difference
 
@@ -75,8 +39,8 @@ multiple_below q t p (u ∷ g) e f h b = (moved_below t u.at p (h.0.place.variab
 
 module _ (f : Coefficients) (q : ℤ) (t : List ℕ) where
   -- what is left of f at the place of t·u
-  abbrev pub changed : Term → Term
-  changed u = record { at = moved t u.at; k = f (moved t u.at) -ℤ q *ℤ u.k }
+  abbrev pub changed : Term → Change
+  changed u = record { at = moved t u.at; before = f (moved t u.at); after = f (moved t u.at) -ℤ q *ℤ u.k }
 
   -- neither the product nor the difference leaves the range
   pub record IsInReach (u : Term) : Type 0 where
@@ -84,9 +48,10 @@ module _ (f : Coefficients) (q : ℤ) (t : List ℕ) where
     pub difference : InRange (f (moved t u.at) -ℤ q *ℤ u.k)
 
   -- one term more
-  pub one_more : (g made made' : List Term) (i : ℕ) (u : Term) (p : Place) (k : ℤ) → i < length g → u ≡ get_or g i u → made ≡ map changed (take i g) → made' ≡ made ++ record { at = p; k = k } ∷ [] → p ≡ moved t u.at → k ≡ f p -ℤ q *ℤ u.k → made' ≡ map changed (take (i + 1) g)
-  one_more g made made' i u p k h e is push place left =
-      let own : record { at = p; k = k } ≡ changed u = λ j. record { at = place j; k = (left ∙ ap (λ x. f x -ℤ q *ℤ u.k) place) j } in
+  pub one_more : (g : List Term) (made made' : List Change) (i : ℕ) (u : Term) (p : Place) (y z : ℤ) → i < length g → u ≡ get_or g i u → made ≡ map changed (take i g) → made' ≡ made ++ record { at = p; before = y; after = z } ∷ [] → p ≡ moved t u.at → y ≡ f p → z ≡ y -ℤ q *ℤ u.k → made' ≡ map changed (take (i + 1) g)
+  one_more g made made' i u p y z h e is push place found left =
+      let first : y ≡ f (moved t u.at) = found ∙ ap f place in
+      let own : record { at = p; before = y; after = z } ≡ changed u = λ j. record { at = place j; before = first j; after = (left ∙ ap (λ x. x -ℤ q *ℤ u.k) first) j } in
       push ∙ (λ j. is j ++ own j ∷ []) ∙ sym (map-append changed (take i g) (u ∷ [])) ∙ ap (map changed) (sym (take_more g i u h ∙ ap (λ x. take i g ++ x ∷ []) (sym e)))
 
   pub reach_more : (g : List Term) (i : ℕ) (u : Term) → i < length g → u ≡ get_or g i u → AllByRecursion IsInReach (take i g) → IsInReach u → AllByRecursion IsInReach (take (i + 1) g)
@@ -103,7 +68,7 @@ module _ (f : Coefficients) (q : ℤ) (t : List ℕ) (long : length t ≡ VARIAB
   first_other : (u : Term) (g : List Term) (x : Place) → same_place (moved t u.at) x ≡ false → multiple_at q t (u ∷ g) x ≡ multiple_at q t g x
   first_other u g x e = let own : cond (same_place (moved t u.at) x) (q *ℤ u.k) (pos 0) ≡ pos 0 = rw e refl in omega (arith, ints, own)
 
-  agree : (h : Coefficients) (u : Term) (g : List Term) → IsTerm u → AllByRecursion IsTerm g → Below u.at g → AllByRecursion (λ w. h (moved t w.at) ≡ f (moved t w.at)) g → AllByRecursion (λ w. with_one (changed f q t u) h (moved t w.at) ≡ f (moved t w.at)) g
+  agree : (h : Coefficients) (u : Term) (g : List Term) → IsTerm u → AllByRecursion IsTerm g → Below u.at g → AllByRecursion (λ w. h (moved t w.at) ≡ f (moved t w.at)) g → AllByRecursion (λ w. with_change (changed f q t u) h (moved t w.at) ≡ f (moved t w.at)) g
   agree h u [] own terms b e = tt
   agree h u (w ∷ g) own terms b e = (
     rw (below_apart (moved t u.at) (moved t w.at) (moved_below t w.at u.at (terms.0.place.variables ∙ sym long) (own.place.variables ∙ sym long) b.0)) e.0,
@@ -112,19 +77,19 @@ module _ (f : Coefficients) (q : ℤ) (t : List ℕ) (long : length t ≡ VARIAB
 
   takes : (g : List Term) (h : Coefficients) → AllByRecursion IsTerm g → Falls g → AllByRecursion (λ w. h (moved t w.at) ≡ f (moved t w.at)) g → (x : Place) → overwritten (map (changed f q t) g) h x ≡ h x -ℤ multiple_at q t g x
   takes [] h terms falls e x = omega (arith, ints)
-  takes (u ∷ g) h terms falls e x = by (same_place (moved t u.at) x) refl (takes g (with_one (changed f q t u) h) terms.1 falls.1 (agree h u g terms.0 terms.1 falls.0 e.1) x)
+  takes (u ∷ g) h terms falls e x = by (same_place (moved t u.at) x) refl (takes g (with_change (changed f q t u) h) terms.1 falls.1 (agree h u g terms.0 terms.1 falls.0 e.1) x)
     where
-      by : (b : Bool) → same_place (moved t u.at) x ≡ b → overwritten (map (changed f q t) g) (with_one (changed f q t u) h) x ≡ cond (same_place (moved t u.at) x) (f (moved t u.at) -ℤ q *ℤ u.k) (h x) -ℤ multiple_at q t g x → overwritten (map (changed f q t) g) (with_one (changed f q t u) h) x ≡ h x -ℤ multiple_at q t (u ∷ g) x
+      by : (b : Bool) → same_place (moved t u.at) x ≡ b → overwritten (map (changed f q t) g) (with_change (changed f q t u) h) x ≡ cond (same_place (moved t u.at) x) (f (moved t u.at) -ℤ q *ℤ u.k) (h x) -ℤ multiple_at q t g x → overwritten (map (changed f q t) g) (with_change (changed f q t u) h) x ≡ h x -ℤ multiple_at q t (u ∷ g) x
       by true s rest =
           let key : moved t u.at ≡ x = test.sound (moved t u.at) x s in
           let here : multiple_at q t (u ∷ g) x ≡ q *ℤ u.k = ap (multiple_at q t (u ∷ g)) (sym key) ∙ first_here u g terms falls in
           let own : cond (same_place (moved t u.at) x) (q *ℤ u.k) (pos 0) ≡ q *ℤ u.k = rw s refl in
           let none : multiple_at q t g x ≡ pos 0 = omega (arith, ints, here, own) in
           let same : h x ≡ f (moved t u.at) = ap h (sym key) ∙ e.0 in
-          let read : overwritten (map (changed f q t) g) (with_one (changed f q t u) h) x ≡ (f (moved t u.at) -ℤ q *ℤ u.k) -ℤ multiple_at q t g x = rest ∙ rw s refl in
+          let read : overwritten (map (changed f q t) g) (with_change (changed f q t u) h) x ≡ (f (moved t u.at) -ℤ q *ℤ u.k) -ℤ multiple_at q t g x = rest ∙ rw s refl in
           omega (arith, ints, read, none, same, here)
       by false s rest =
-          let read : overwritten (map (changed f q t) g) (with_one (changed f q t u) h) x ≡ h x -ℤ multiple_at q t g x = rest ∙ rw s refl in
+          let read : overwritten (map (changed f q t) g) (with_change (changed f q t u) h) x ≡ h x -ℤ multiple_at q t g x = rest ∙ rw s refl in
           read ∙ ap (λ z. h x -ℤ z) (sym (first_other u g x s))
 
   -- in range where each is
@@ -171,9 +136,14 @@ module _ (f : Coefficients) (q : ℤ) (t : List ℕ) (long : length t ≡ VARIAB
         are_changes g d terms.1 room.1 reach.1,
       )
 
-  pub all_are_changes : (g made : List Term) → IsSparse g → ((x : Place) → InRange (f x)) → degree t ≤ DEGREE → AllByRecursion (λ u. degree t + degree u.at.m ≤ DEGREE) g → AllByRecursion (IsInReach f q t) g → made ≡ map (changed f q t) g → AreChanges f (multiple_at q t g) made
+  starts : (g : List Term) (h : Coefficients) → AllByRecursion IsTerm g → Falls g → AllByRecursion (λ w. h (moved t w.at) ≡ f (moved t w.at)) g → StartFrom (map (changed f q t) g) h
+  starts [] h terms falls e = tt
+  starts (u ∷ g) h terms falls e = (sym e.0, starts g (with_change (changed f q t u) h) terms.1 falls.1 (agree h u g terms.0 terms.1 falls.0 e.1))
+
+  pub all_are_changes : (g : List Term) (made : List Change) → IsSparse g → ((x : Place) → InRange (f x)) → degree t ≤ DEGREE → AllByRecursion (λ u. degree t + degree u.at.m ≤ DEGREE) g → AllByRecursion (IsInReach f q t) g → made ≡ map (changed f q t) g → AreChanges f (multiple_at q t g) made
   all_are_changes g made h own d room reach is = record {
     are = subst (AllByRecursion IsChange) (sym is) (are_changes g d h.terms room reach);
+    start = subst (λ w. StartFrom w f) (sym is) (starts g f h.terms h.falling (all_agree g));
     is = λ x. ap (λ w. overwritten w f x) is ∙ takes g f h.terms h.falling (all_agree g) x;
     narrow = λ x. narrow_at g h.terms h.falling reach x (own x);
   }

@@ -3,3 +3,4 @@ pub mod Overlays
 pub mod Differences
 pub mod Resting
 pub mod Stepping
+pub mod Answering

@@ -8,6 +8,7 @@ use Rattle.module_vec.specs.declared.faults.Stop.TheVariants.{Wide, Long, Deep, 
 use Rattle.module_vec.specs.Places.{IsBelow, IsPlace, place_cmp, same_place}
 use Rattle.module_vec.specs.Vectors.{Coefficients, difference_at, InRange}
 use Rattle.module_vec.specs.Results.{DifferenceIsWide, Nowhere, IsGreatest}
+use Rattle.reduce_cofactor.specs.declared.dividend.Change.{Change}
 use Rattle.reduce_cofactor.specs.declared.faults.ReduceFault.{ReduceFault}
 use Rattle.reduce_cofactor.specs.declared.faults.ReduceFault.TheVariants.{Stop, NoMemory}
 
@@ -56,19 +57,28 @@ Skips p (t ∷ v) left = ((t.at ≡ p) × (left ≡ v)) ⊎ ((t.at ≢ p) × (le
 abbrev pub Passes : List Term → Term → List Term → Type 0
 Passes old t new = ((t.k ≡ pos 0) × (new ≡ old)) ⊎ ((t.k ≢ pos 0) × (old ≡ t ∷ new))
 
--- a new coefficient at a place, which may be 0
-pub record IsChange (c : Term) : Type 0 where
+-- what a change leaves is a coefficient
+pub record IsChange (c : Change) : Type 0 where
   pub place : IsPlace c.at
-  pub range : InRange c.k
+  pub range : InRange c.after
 
--- f with the new coefficients
-abbrev pub overwritten : List Term → Coefficients → Coefficients
+-- f after one change, and after all
+abbrev pub with_change : Change → Coefficients → Coefficients
+with_change c f x = if same_place c.at x then c.after else f x
+
+abbrev pub overwritten : List Change → Coefficients → Coefficients
 overwritten [] f = f
-overwritten (c ∷ cs) f = overwritten cs (λ x. if same_place c.at x then c.k else f x)
+overwritten (c ∷ cs) f = overwritten cs (with_change c f)
+
+-- each change finds what it says
+abbrev pub StartFrom : List Change → Coefficients → Type 0
+StartFrom [] f = Unit {0}
+StartFrom (c ∷ cs) f = (c.before ≡ f c.at) × StartFrom cs (with_change c f)
 
 -- the changes take g from f, and nothing leaves the range
-pub record AreChanges (f g : Coefficients) (changes : List Term) : Type 0 where
+pub record AreChanges (f g : Coefficients) (changes : List Change) : Type 0 where
   pub are : AllByRecursion IsChange changes
+  pub start : StartFrom changes f
   pub is : (x : Place) → overwritten changes f x ≡ difference_at f g x
   pub narrow : Nowhere (DifferenceIsWide f g)
 

@@ -10,13 +10,12 @@ ghost use Rattle.module_vec.specs.Merging.{Subtracts};
 ghost use Rattle.reduce_cofactor.specs.Dividends.{AreChanges, FailsAt};
 
 use crate::ReduceFault;
-use crate::dividend::Dividend;
+use crate::dividend::{Change, Dividend};
 use laurent_terms::Mono;
 use module_vec::{Place, Stop, Term, checked_difference, checked_product};
 use std::alloc::Global;
 
-/// The coefficients that the dividend has at the places of `q·t·g` once that is taken from it. `step` is the number of
-/// the step, and nothing is written.
+/// What changes in the dividend where `q·t·g` is taken from it. `step` is the number of the step, and nothing is written.
 pub fn changes(
     alloc: Global,
     dividend: &Dividend<'_>,
@@ -24,7 +23,7 @@ pub fn changes(
     t: &Mono,
     g: &[Term],
     step: u32,
-) -> Result<Vec<Term>, ReduceFault>
+) -> Result<Vec<Change>, ReduceFault>
     requires g { IsSparse g.now }
     requires room { AllByRecursion (λ u. degree t.now + degree u.at.m ≤ DEGREE) g.now }
     ensures { let f = coefficient_at dividend.now.0 in
@@ -42,10 +41,11 @@ pub fn changes(
             m: t.product(&term.at.m),
             c: term.at.c,
         };
-        let Some(k) = reduced(dividend.coefficient(&at), q, term.k) else {
+        let before = dividend.coefficient(&at);
+        let Some(after) = reduced(before, q, term.k) else {
             return Err(ReduceFault::Stop(Stop::Wide { at, step }));
         };
-        made.push(Term { at, k })?;
+        made.push(Change { at, before, after })?;
     }
     Ok(made)
 }

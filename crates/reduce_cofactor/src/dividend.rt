@@ -1,17 +1,24 @@
 //! `Dividend`: the terms of a vector that a step may still change.
 
 ghost use Rattle.std.specs.Prelude.{◌≡◌, ◌≤◌, ◌<◌, ◌+◌, ◌^◌, ◌↔◌, [], ◌∷◌, length, if◌then◌else◌, IsTrue, IfOk, IfSome, MatchOption};
-ghost use Rattle.std.specs.Option.{unwrap_or};
 ghost use Rattle.std.specs.List.{AllByRecursion};
 ghost use Rattle.module_vec.specs.declared.places.Place.{Place};
-ghost use Rattle.module_vec.specs.Places.{IsPlace, same_place};
-ghost use Rattle.module_vec.specs.Vectors.{coefficient_at, InRange, IsSparse};
-ghost use Rattle.reduce_cofactor.specs.Dividends.{IsChange, overwritten, presence, AreBelow, IsFirstAbove, Skips, Passes};
+ghost use Rattle.module_vec.specs.Places.{same_place};
+ghost use Rattle.module_vec.specs.Vectors.{coefficient_at, IsSparse};
+ghost use Rattle.reduce_cofactor.specs.Dividends.{IsChange, StartFrom, overwritten, presence, AreBelow, IsFirstAbove, Skips, Passes};
 
 use module_vec::{Place, Term, coefficient};
 use std::alloc::{AllocError, Global};
 use std::collections::BTreeMap;
 use std::marker::Model;
+
+/// A coefficient that changes.
+#[derive(Clone, Copy)]
+pub struct Change {
+    pub at: Place,
+    pub before: i128,
+    pub after: i128,
+}
 
 /// The terms of a vector on its way: those that were given, and the coefficients at the places that steps changed, which
 /// stand in their stead. So a change takes time logarithmic in the number of terms, and what no step reaches is only
@@ -95,32 +102,36 @@ impl<'a> Dividend<'a> {
     pub fn coefficient(&self, at: &Place) -> i128
         ensures { result ≡ coefficient_at self.now.0 at.now }
     {
-        former(self.changed.get(at).copied(), self.given, at)
+        match self.changed.get(at) {
+            Some(k) => *k,
+            None => coefficient(self.given, at),
+        }
     }
 
-    /// Gives each of these places its new coefficient, in turn.
-    pub fn change(&mut self, changes: &[Term]) -> Result<(), AllocError>
+    /// Makes the changes in turn.
+    pub fn change(&mut self, changes: &[Change]) -> Result<(), AllocError>
         requires changes { AllByRecursion IsChange changes.now }
+        requires before { StartFrom changes.now (coefficient_at self.old.0) }
         requires room { length self.old.0 + length changes.now < 2 ^ 32 }
         ensures is { IfOk result (λ _. (x : Place) → coefficient_at self.new.0 x ≡ overwritten changes.now (coefficient_at self.old.0) x) }
         ensures count { IfOk result (λ _. length self.new.0 ≤ length self.old.0 + length changes.now) }
     {
         for change in changes {
-            self.set(change.at, change.k)?;
+            self.set(change)?;
         }
         Ok(())
     }
 
-    /// Gives the place its new coefficient.
-    fn set(&mut self, at: Place, k: i128) -> Result<(), AllocError>
-        requires place { IsPlace at }
-        requires range { InRange k }
+    /// Makes one change.
+    fn set(&mut self, change: &Change) -> Result<(), AllocError>
+        requires change { IsChange change.now }
+        requires before { change.now.before ≡ coefficient_at self.old.0 change.now.at }
         requires room { length self.old.0 < 2 ^ 32 }
-        ensures is { IfOk result (λ _. (x : Place) → coefficient_at self.new.0 x ≡ (if same_place at x then k else coefficient_at self.old.0 x)) }
+        ensures is { IfOk result (λ _. (x : Place) → coefficient_at self.new.0 x ≡ (if same_place change.now.at x then change.now.after else coefficient_at self.old.0 x)) }
         ensures count { IfOk result (λ _. length self.new.0 ≤ length self.old.0 + 1) }
     {
-        let before = former(self.changed.insert(at, k)?, self.given, &at);
-        self.count = self.count + presence(k) - presence(before);
+        self.changed.insert(change.at, change.after)?;
+        self.count = self.count + presence(change.after) - presence(change.before);
         Ok(())
     }
 }
@@ -153,17 +164,6 @@ fn without<'a>(given: &'a [Term], at: &Place) -> &'a [Term]
     match given.split_first() {
         Some((first, others)) if first.at == *at => others,
         _ => given,
-    }
-}
-
-/// The coefficient at a place: the changed one, or else that of the given terms.
-fn former(changed: Option<i128>, given: &[Term], at: &Place) -> i128
-    requires { IsSparse given.now }
-    ensures { result ≡ unwrap_or changed (coefficient_at given.now at.now) }
-{
-    match changed {
-        Some(k) => k,
-        None => coefficient(given, at),
     }
 }
 

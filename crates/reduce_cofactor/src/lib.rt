@@ -12,6 +12,7 @@ mod changes;
 mod dividend;
 mod due;
 mod faults;
+pub mod laws;
 mod reduction;
 
 pub use due::reducer;

@@ -111,7 +111,7 @@ module _ (b : List (List Term)) (entries : AreEntries b) where
             )
         by true e a others = exchanged (others a.1) (exchange b entries closed s.by k s.t u p a.0.0 (record { i_in = h.0.1; j_in = k_in; t-length = h.0.0; u-length = long; first = test.sound (step_place b s) p e; second = at_p }) a.0.1)
           where
-            exchanged : Gathered p k u ss → Exchanged b entries closed s.by k s.t u p a.0.0 → Gathered p k u (s ∷ ss)
+            exchanged : Gathered p k u ss → Exchanged b entries s.by k s.t u p a.0.0 → Gathered p k u (s ∷ ss)
             exchanged (f, rest, below, is) (low, low_below, low_is) = (
               s.q *ℤ a.0.0 +ℤ f,
               scaled s.q low ++ rest,

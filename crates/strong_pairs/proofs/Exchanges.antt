@@ -93,7 +93,7 @@ multiple_moved q t s v x =
     ap (λ w. coefficient same_place w x) (rename-scale (moved t) q (rename (moved s) (sum_of v)) ∙ ap (scale q) (rename-rename (moved t) (moved s) (sum_of v) ∙ λ i. rename (λ p. moved-moved t s p i) (sum_of v)))
     ∙ coefficient-scale same_place q (rename (moved (product t s)) (sum_of v)) x
 
-module _ (b : List (List Term)) (entries : AreEntries b) (closed : AreClosed b S) where
+module _ (b : List (List Term)) (entries : AreEntries b) where
   -- entries i and j are carried to p by t and u
   pub record Meets (i j : ℕ) (t u : List ℕ) (p : Place) : Type 0 where
     pub i_in : i < length b
@@ -103,20 +103,20 @@ module _ (b : List (List Term)) (entries : AreEntries b) (closed : AreClosed b S
     pub first : moved t (lead_at b i).at ≡ p
     pub second : moved u (lead_at b j).at ≡ p
 
-  swapped : (i j : ℕ) (t u : List ℕ) (p : Place) → Meets i j t u p → Meets j i u t p
+  pub swapped : (i j : ℕ) (t u : List ℕ) (p : Place) → Meets i j t u p → Meets j i u t p
   swapped i j t u p m = record { i_in = m.j_in; j_in = m.i_in; t-length = m.u-length; u-length = m.t-length; first = m.second; second = m.first }
 
   -- the S-vector, carried to a place that both leads divide
-  record PairCarried (i j : ℕ) (t u : List ℕ) (p : Place) : Type 0 where
-    q : ℤ
-    r : ℤ
-    factors : AreFactors S (lead_at b i).k (lead_at b j).k q r
-    steps : List Step
-    below : AreStepsBelow b p steps
-    is : (x : Place) → q *ℤ shifted t (vector_at b i) x +ℤ r *ℤ shifted u (vector_at b j) x ≡ steps_at b steps x
+  pub record PairCarried (i j : ℕ) (t u : List ℕ) (p : Place) : Type 0 where
+    pub q : ℤ
+    pub r : ℤ
+    pub factors : AreFactors S (lead_at b i).k (lead_at b j).k q r
+    pub steps : List Step
+    pub below : AreStepsBelow b p steps
+    pub is : (x : Place) → q *ℤ shifted t (vector_at b i) x +ℤ r *ℤ shifted u (vector_at b j) x ≡ steps_at b steps x
 
-  pair_carried : (i j : ℕ) (t u : List ℕ) (p : Place) → i < j → Meets i j t u p → PairCarried i j t u p
-  pair_carried i j t u p l meet = by (closed i j (record { order = l; within = meet.j_in; component = (λ n. (meet.first n).c) ∙ sym (λ n. (meet.second n).c) }))
+  pub pair_carried : (i j : ℕ) (t u : List ℕ) (p : Place) → IsClosed b S i j → Meets i j t u p → PairCarried i j t u p
+  pair_carried i j t u p closed meet = by closed
     where
       mi : List ℕ
       mi = (lead_at b i).at.m
@@ -198,40 +198,45 @@ module _ (b : List (List Term)) (entries : AreEntries b) (closed : AreClosed b S
   abbrev pub Exchanged : ℕ → ℕ → List ℕ → List ℕ → Place → ℤ → Type 0
   Exchanged i k t u p f = (steps : List Step) × AreStepsBelow b p steps × ((x : Place) → shifted t (vector_at b i) x ≡ f *ℤ shifted u (vector_at b k) x +ℤ steps_at b steps x)
 
-  pub exchange : (i k : ℕ) (t u : List ℕ) (p : Place) (f : ℤ) → Meets i k t u p → (lead_at b i).k ≡ f *ℤ (lead_at b k).k → Exchanged i k t u p f
-  exchange i k t u p f meet e = by (order_of i k)
-    where
-      down : (q r f y z s : ℤ) → q ≡ pos 1 → r ≡ neg_ℤ f → q *ℤ y +ℤ r *ℤ z ≡ s → y ≡ f *ℤ z +ℤ s
-      down q r f y z s eq er h =
-          let one : q *ℤ y ≡ y = ap (λ c. c *ℤ y) eq ∙ one_times y in
-          let two : r *ℤ z ≡ neg_ℤ (f *ℤ z) = ap (λ c. c *ℤ z) er ∙ neg_ℤ-*ℤ f z in
-          omega (arith, ints, h, one, two)
+  module _ (closed : AreClosed b S) where
+    task : (i j : ℕ) (t u : List ℕ) (p : Place) → i < j → Meets i j t u p → IsClosed b S i j
+    task i j t u p l meet = closed i j (record { order = l; within = meet.j_in; component = (λ n. (meet.first n).c) ∙ sym (λ n. (meet.second n).c) })
 
-      up : (q r f y z s n : ℤ) → q ≡ f → r ≡ negsuc 0 → q *ℤ z +ℤ r *ℤ y ≡ s → n ≡ negsuc 0 *ℤ s → y ≡ f *ℤ z +ℤ n
-      up q r f y z s n eq er h g =
-          let one : q *ℤ z ≡ f *ℤ z = ap (λ c. c *ℤ z) eq in
-          let two : r *ℤ y ≡ negsuc 0 *ℤ y = ap (λ c. c *ℤ y) er in
-          omega (arith, ints, h, g, one, two)
+    pub exchange : (i k : ℕ) (t u : List ℕ) (p : Place) (f : ℤ) → Meets i k t u p → (lead_at b i).k ≡ f *ℤ (lead_at b k).k → Exchanged i k t u p f
+    exchange i k t u p f meet e = by (order_of i k)
+      where
+        down : (q r f y z s : ℤ) → q ≡ pos 1 → r ≡ neg_ℤ f → q *ℤ y +ℤ r *ℤ z ≡ s → y ≡ f *ℤ z +ℤ s
+        down q r f y z s eq er h =
+            let one : q *ℤ y ≡ y = ap (λ c. c *ℤ y) eq ∙ one_times y in
+            let two : r *ℤ z ≡ neg_ℤ (f *ℤ z) = ap (λ c. c *ℤ z) er ∙ neg_ℤ-*ℤ f z in
+            omega (arith, ints, h, one, two)
 
-      equal : (f y z : ℤ) → f ≡ pos 1 → y ≡ z → y ≡ f *ℤ z +ℤ pos 0
-      equal f y z ef ey =
-          let one : f *ℤ z ≡ z = ap (λ c. c *ℤ z) ef ∙ one_times z in
-          omega (arith, ints, one, ey)
+        up : (q r f y z s n : ℤ) → q ≡ f → r ≡ negsuc 0 → q *ℤ z +ℤ r *ℤ y ≡ s → n ≡ negsuc 0 *ℤ s → y ≡ f *ℤ z +ℤ n
+        up q r f y z s n eq er h g =
+            let one : q *ℤ z ≡ f *ℤ z = ap (λ c. c *ℤ z) eq in
+            let two : r *ℤ y ≡ negsuc 0 *ℤ y = ap (λ c. c *ℤ y) er in
+            omega (arith, ints, h, g, one, two)
 
-      by : (i < k) ⊎ ((i ≡ k) ⊎ (k < i)) → Exchanged i k t u p f
-      by (inl l) =
-          let c : PairCarried i k t u p = pair_carried i k t u p l meet in
-          let are : (c.q ≡ pos 1) × (c.r ≡ neg_ℤ f) = down_factors (lead_at b i).k (lead_at b k).k f c.q c.r (lead_positive b entries k meet.j_in) e c.factors in
-          (c.steps, c.below, λ x. down c.q c.r f (shifted t (vector_at b i) x) (shifted u (vector_at b k) x) (steps_at b c.steps x) are.0 are.1 (c.is x))
-      by (inr (inr l)) =
-          let c : PairCarried k i u t p = pair_carried k i u t p l (swapped i k t u p meet) in
-          let are : (c.q ≡ f) × (c.r ≡ negsuc 0) = up_factors (lead_at b k).k (lead_at b i).k f c.q c.r (lead_positive b entries k meet.j_in) e c.factors in (
-            scaled (negsuc 0) c.steps,
-            at_scaled b entries (λ x. IsBelow x p) (negsuc 0) c.steps c.below,
-            λ x. up c.q c.r f (shifted t (vector_at b i) x) (shifted u (vector_at b k) x) (steps_at b c.steps x) (steps_at b (scaled (negsuc 0) c.steps) x) are.0 are.1 (c.is x) (steps_at-scaled b (negsuc 0) c.steps x),
-          )
-      by (inr (inl s)) =
-          let long : length (lead_at b i).at.m ≡ VARIABLES = lead_length b entries i meet.i_in in
-          let tu : t ≡ u = product-cancel t u (lead_at b i).at.m (meet.t-length ∙ sym long) (meet.u-length ∙ sym long) ((λ n. (meet.first n).m) ∙ sym (λ n. (meet.second n).m) ∙ ap (λ z. product u (lead_at b z).at.m) (sym s)) in
-          let unit : f ≡ pos 1 = cancel f (pos 1) (lead_at b i).k (lead_positive b entries i meet.i_in) (ap (λ z. f *ℤ (lead_at b z).k) s ∙ sym e ∙ sym (one_times (lead_at b i).k)) in
-          ([], tt, λ x. equal f (shifted t (vector_at b i) x) (shifted u (vector_at b k) x) unit (λ n. shifted (tu n) (vector_at b (s n)) x))
+        equal : (f y z : ℤ) → f ≡ pos 1 → y ≡ z → y ≡ f *ℤ z +ℤ pos 0
+        equal f y z ef ey =
+            let one : f *ℤ z ≡ z = ap (λ c. c *ℤ z) ef ∙ one_times z in
+            omega (arith, ints, one, ey)
+
+        by : (i < k) ⊎ ((i ≡ k) ⊎ (k < i)) → Exchanged i k t u p f
+        by (inl l) =
+            let c : PairCarried i k t u p = pair_carried i k t u p (task i k t u p l meet) meet in
+            let are : (c.q ≡ pos 1) × (c.r ≡ neg_ℤ f) = down_factors (lead_at b i).k (lead_at b k).k f c.q c.r (lead_positive b entries k meet.j_in) e c.factors in
+            (c.steps, c.below, λ x. down c.q c.r f (shifted t (vector_at b i) x) (shifted u (vector_at b k) x) (steps_at b c.steps x) are.0 are.1 (c.is x))
+        by (inr (inr l)) =
+            let turned : Meets k i u t p = swapped i k t u p meet in
+            let c : PairCarried k i u t p = pair_carried k i u t p (task k i u t p l turned) turned in
+            let are : (c.q ≡ f) × (c.r ≡ negsuc 0) = up_factors (lead_at b k).k (lead_at b i).k f c.q c.r (lead_positive b entries k meet.j_in) e c.factors in (
+              scaled (negsuc 0) c.steps,
+              at_scaled b entries (λ x. IsBelow x p) (negsuc 0) c.steps c.below,
+              λ x. up c.q c.r f (shifted t (vector_at b i) x) (shifted u (vector_at b k) x) (steps_at b c.steps x) (steps_at b (scaled (negsuc 0) c.steps) x) are.0 are.1 (c.is x) (steps_at-scaled b (negsuc 0) c.steps x),
+            )
+        by (inr (inl s)) =
+            let long : length (lead_at b i).at.m ≡ VARIABLES = lead_length b entries i meet.i_in in
+            let tu : t ≡ u = product-cancel t u (lead_at b i).at.m (meet.t-length ∙ sym long) (meet.u-length ∙ sym long) ((λ n. (meet.first n).m) ∙ sym (λ n. (meet.second n).m) ∙ ap (λ z. product u (lead_at b z).at.m) (sym s)) in
+            let unit : f ≡ pos 1 = cancel f (pos 1) (lead_at b i).k (lead_positive b entries i meet.i_in) (ap (λ z. f *ℤ (lead_at b z).k) s ∙ sym e ∙ sym (one_times (lead_at b i).k)) in
+            ([], tt, λ x. equal f (shifted t (vector_at b i) x) (shifted u (vector_at b k) x) unit (λ n. shifted (tu n) (vector_at b (s n)) x))

@@ -16,14 +16,14 @@ use Rattle.strong_pairs.specs.Pairs.{AreFactors}
 abbrev pub word : ℤ → ℤ
 word z = to_z w128 (of_z w128 z)
 
-abbrev IsQuotient : ℤ → ℤ → ℤ → Type 0
+abbrev pub IsQuotient : ℤ → ℤ → ℤ → Type 0
 IsQuotient l d q = (q *ℤ pos (unsigned_abs d) ≡ l) × (unsigned_abs q ≤ unsigned_abs l)
 
 le_multiple : (a d : ℕ) → 0 < d → a ≤ a * d
 le_multiple a (suc d) h = omega arith
 le_multiple a zero h = absurd (omega (arith, h))
 
-quotient_of : (l d : ℤ) → pos 0 <ℤ l → pos 0 <ℤ d → unsigned_abs d ∣ unsigned_abs l → IsQuotient l d (quot_z l d)
+pub quotient_of : (l d : ℤ) → pos 0 <ℤ l → pos 0 <ℤ d → unsigned_abs d ∣ unsigned_abs l → IsQuotient l d (quot_z l d)
 quotient_of (pos l) (pos d) h g u =
     let whole : (l / d) * d ≡ l = div-mul_cancel d u in
     (omega (arith, ints, whole), omega (arith, le_multiple (l / d) d (omega (arith, ints, g)), whole))
@@ -36,11 +36,11 @@ abs_neg (pos (suc n)) = refl
 abs_neg (negsuc n) = refl
 
 -- a positive number of 128 bits is in range
-in_range : (z : ℤ) → pos 0 <ℤ z → FitsSigned w128 z → InRange z
+pub in_range : (z : ℤ) → pos 0 <ℤ z → FitsSigned w128 z → InRange z
 in_range (pos n) h f = omega (arith, ints, f)
 in_range (negsuc n) h f = absurd (omega (arith, ints, h))
 
-fits : (z : ℤ) → InRange z → FitsSigned w128 z
+pub fits : (z : ℤ) → InRange z → FitsSigned w128 z
 fits z h = fits_signed_from_abs w128 z (omega (arith, h))
 
 pub InRange-neg : (z : ℤ) → InRange z → InRange (neg_ℤ z)

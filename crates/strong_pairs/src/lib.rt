@@ -15,6 +15,7 @@ mod pairs;
 
 pub use covering::covers;
 pub use faults::PairFault;
+pub use leads::lead;
 pub use outcomes::PairKind;
 pub use pairs::{g_vector, is_pair, pair_steps, pair_vector, s_vector};
 

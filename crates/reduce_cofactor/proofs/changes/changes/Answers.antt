@@ -21,7 +21,7 @@ pub returns-in_default : goal.returns-in_default
 returns-in_default c =
     let q : FitsSigned w128 c.args.q = search rules in
     let k : FitsSigned w128 c.term-item.result.k = search rules in
-    let z : FitsSigned w128 c.coefficient.result = search rules in
+    let z : FitsSigned w128 c.coefficient-before.result = search rules in
     let reach = simp to_z-of_z at c.loop-term.invariant.reach in
     let wide = simp to_z-of_z at c.in_default.ensures in
     let place : Place = record { m = c.product.result; c = c.term-item.result.at.c } in
@@ -29,28 +29,28 @@ returns-in_default c =
       refl,
       is_wide (coefficient_at c.args.dividend.now.0) c.args.q c.args.t.now c.degree.ensures.monomial.variables c.args.g.now (take c.loop-term.term-index c.args.g.now) c.term-item.result (drop (c.loop-term.term-index + 1) c.args.g.now) place split c.requires.g
           (in_range c.args.dividend.now.0 c.len.ensures.sparse.terms c.len.ensures.sparse.falling) reach (λ j. record { m = c.product.ensures.is j; c = c.term-item.result.at.c })
-          (subst (λ y. Subtracts y c.args.q c.term-item.result.k None) c.coefficient.ensures wide),
+          (subst (λ y. Subtracts y c.args.q c.term-item.result.k None) c.coefficient-before.ensures wide),
     )
 
 pub loop-term-preserved : goal.loop-term-preserved
 loop-term-preserved c =
     let q : FitsSigned w128 c.args.q = search rules in
     let k : FitsSigned w128 c.term-item.result.k = search rules in
-    let z : FitsSigned w128 c.coefficient.result = search rules in
-    let left : FitsSigned w128 c.in-Some.k = search rules in
+    let z : FitsSigned w128 c.coefficient-before.result = search rules in
+    let left : FitsSigned w128 c.in-Some.after = search rules in
     let is = simp to_z-of_z at c.loop-term.invariant.is in
     let reach = simp to_z-of_z at c.loop-term.invariant.reach in
     let reduced = simp to_z-of_z at c.in-Some.ensures in
     let push = simp to_z-of_z at c.in_ok-push.ensures.items in
     let place : Place = record { m = c.product.result; c = c.term-item.result.at.c } in
     let moves : place ≡ moved c.args.t.now c.term-item.result.at = λ j. record { m = c.product.ensures.is j; c = c.term-item.result.at.c } in
-    let value : c.in-Some.k ≡ coefficient_at c.args.dividend.now.0 place -ℤ c.args.q *ℤ c.term-item.result.k = reduced.0 ∙ ap (λ y. y -ℤ c.args.q *ℤ c.term-item.result.k) c.coefficient.ensures in
+    let value : c.in-Some.after ≡ coefficient_at c.args.dividend.now.0 place -ℤ c.args.q *ℤ c.term-item.result.k = reduced.0 ∙ ap (λ y. y -ℤ c.args.q *ℤ c.term-item.result.k) c.coefficient-before.ensures in
     let own : IsInReach (coefficient_at c.args.dividend.now.0) c.args.q c.args.t.now c.term-item.result = record {
       product = reduced.2;
       difference = subst InRange (value ∙ ap (λ x. coefficient_at c.args.dividend.now.0 x -ℤ c.args.q *ℤ c.term-item.result.k) moves) reduced.1;
     } in
     simp to_z-of_z (record {
-      is = one_more (coefficient_at c.args.dividend.now.0) c.args.q c.args.t.now c.args.g.now c.loop-term.made.items c.push.new.self.items c.loop-term.term-index c.term-item.result place c.in-Some.k c.loop-term-test.true c.term-item.is is push moves value;
+      is = one_more (coefficient_at c.args.dividend.now.0) c.args.q c.args.t.now c.args.g.now c.loop-term.made.items c.push.new.self.items c.loop-term.term-index c.term-item.result place c.coefficient-before.result c.in-Some.after c.loop-term-test.true c.term-item.is is push moves c.coefficient-before.ensures reduced.0;
       reach = reach_more (coefficient_at c.args.dividend.now.0) c.args.q c.args.t.now c.args.g.now c.loop-term.term-index c.term-item.result c.loop-term-test.true c.term-item.is reach own;
     })
 

@@ -1,21 +1,24 @@
-use Rattle.std.proofs.Common.{rules, arith, ◌≡◌, ◌∙◌, sym, ap, drop, List, ◌∷◌, ◌+◌, FitsSigned}
-use mir.Syntax.{w128}
-use Rattle.std.proofs.lemmas.Int.{to_z-of_z}
-use Rattle.module_vec.specs.declared.places.Term.{Term}
+use Rattle.std.proofs.Common.{arith, ◌≡◌, ◌∙◌, sym, ap, subst, drop, List, ◌∷◌, ◌+◌}
 use Rattle.module_vec.specs.Vectors.{coefficient_at}
 use Rattle.module_vec.proofs.FallingTerms.{drop_read}
-use Rattle.reduce_cofactor.specs.Dividends.{overwritten}
-use Rattle.reduce_cofactor.proofs.Differences.{with_one, same_overwritten}
+use Rattle.reduce_cofactor.specs.declared.dividend.Change.{Change}
+use Rattle.reduce_cofactor.specs.Dividends.{with_change, overwritten, StartFrom}
+use Rattle.reduce_cofactor.proofs.Differences.{same_overwritten, same_start}
 use Rattle.reduce_cofactor.proofs.dividend.Dividend.change.Goals as goal
+
+pub set-requires-clause-before : goal.set-requires-clause-before
+set-requires-clause-before c =
+    let split : drop c.loop-change.change-index c.args.changes.now ≡ c.change-item.result ∷ drop (c.loop-change.change-index + 1) c.args.changes.now = drop_read c.args.changes.now c.loop-change.change-index c.change-item.result c.loop-change-test.true c.change-item.is in
+    (subst (λ w. StartFrom w (coefficient_at c.loop-change.self.0)) split c.loop-change.invariant.start).0
 
 pub loop-change-preserved : goal.loop-change-preserved
 loop-change-preserved c =
-    let k : FitsSigned w128 c.change-item.result.k = search rules in
-    let set = simp to_z-of_z at c.in_ok-set.ensures.is in
-    let rest : List Term = drop (c.loop-change.change-index + 1) c.args.changes.now in
+    let rest : List Change = drop (c.loop-change.change-index + 1) c.args.changes.now in
     let split : drop c.loop-change.change-index c.args.changes.now ≡ c.change-item.result ∷ rest = drop_read c.args.changes.now c.loop-change.change-index c.change-item.result c.loop-change-test.true c.change-item.is in
+    let start : StartFrom (c.change-item.result ∷ rest) (coefficient_at c.loop-change.self.0) = subst (λ w. StartFrom w (coefficient_at c.loop-change.self.0)) split c.loop-change.invariant.start in
     record {
-      is = λ x. same_overwritten rest (coefficient_at c.set.new.self.0) (with_one c.change-item.result (coefficient_at c.loop-change.self.0)) set x
+      start = same_start rest (coefficient_at c.set.new.self.0) (with_change c.change-item.result (coefficient_at c.loop-change.self.0)) c.in_ok-set.ensures.is start.1;
+      is = λ x. same_overwritten rest (coefficient_at c.set.new.self.0) (with_change c.change-item.result (coefficient_at c.loop-change.self.0)) c.in_ok-set.ensures.is x
           ∙ ap (λ w. overwritten w (coefficient_at c.loop-change.self.0) x) (sym split) ∙ c.loop-change.invariant.is x;
       count = omega (arith, c.in_ok-set.ensures.count, c.loop-change.invariant.count);
     }

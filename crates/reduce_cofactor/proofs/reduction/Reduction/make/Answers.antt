@@ -10,6 +10,7 @@ use Rattle.module_vec.specs.Vectors.{Coefficients, coefficient_at, multiple_at, 
 use Rattle.module_vec.specs.Results.{DifferenceIsWide}
 use Rattle.module_vec.specs.Chains.{ChainStops}
 use Rattle.module_vec.specs.Merging.{Subtracts}
+use Rattle.reduce_cofactor.specs.declared.dividend.Change.{Change}
 use Rattle.reduce_cofactor.specs.Answers.{Fails}
 use Rattle.reduce_cofactor.specs.Dividends.{FailsAt, AreChanges, overwritten}
 use Rattle.reduce_cofactor.specs.Running.{Running, IsKept}
@@ -53,9 +54,9 @@ returns-in_err-changes-clause-is c b v due entry r =
     (subst (λ w. FailsAt (c.len-made.result + 1) (DifferenceIsWide (coefficient_at c.args.self.now.dividend.0) (multiple_at c.args.step.q c.args.step.t w)) c.in_err-changes.field-0.0) (sym parts.1) fault))))
 
 -- what the calls leave is the vector after the step
-made_by : (b : List (List Term)) (v : Coefficients) (ss : List Step) (rest : List Term) (top : Term) (dividend : List Term) (s : Step) (r : Running b v ss rest (top ∷ dividend)) (due : IsStepAt b top s) (k : ℤ) (rest' dividend' changes others : List Term) (x : Term) →
+made_by : (b : List (List Term)) (v : Coefficients) (ss : List Step) (rest : List Term) (top : Term) (dividend : List Term) (s : Step) (r : Running b v ss rest (top ∷ dividend)) (due : IsStepAt b top s) (k : ℤ) (rest' dividend' others : List Term) (changes : List Change) (x : Term) →
     due.lead ≡ x → due.others ≡ others → Subtracts top.k s.q x.k (Some k) → AreChanges (coefficient_at dividend) (multiple_at s.q s.t others) changes → ((y : Place) → coefficient_at dividend' y ≡ overwritten changes (coefficient_at dividend) y) → IsSparse dividend' → IsKept rest top.at k rest' → Made b v ss rest top dividend s r due k rest' dividend'
-made_by b v ss rest top dividend s r due k rest' dividend' changes others x lead same reduced are is sparse kept =
+made_by b v ss rest top dividend s r due k rest' dividend' others changes x lead same reduced are is sparse kept =
     let taken : AreChanges (coefficient_at dividend) (multiple_at s.q s.t due.others) changes = subst (λ w. AreChanges (coefficient_at dividend) (multiple_at s.q s.t w) changes) (sym same) are in
     record {
       left = subst (λ (u : Term). Subtracts top.k s.q u.k (Some k)) (sym lead) reduced;
@@ -78,7 +79,7 @@ returns-then-count-clause-is c b v due entry r =
     let count : c.len-made.result ≡ length c.args.self.now.steps.items = omega (arith, c.len-made.ensures) in
     let few : length c.args.self.now.steps.items < STEPS = omega (arith, c.len-made.ensures, c.if-made-eq-STEPS.false, c.requires.made) in
     let total : c.len.result + c.len-2.result ≡ length c.keep.new.rest.items + length c.change.new.self.0 = omega (arith, c.len.ensures, c.len-2.ensures.is) in
-    let made = made_by b v c.args.self.now.steps.items c.args.self.now.rest.items c.args.top c.args.self.now.dividend.0 c.args.step r due c.in-Some.k c.keep.new.rest.items c.change.new.self.0 c.in_ok-changes.changes.items (take (length c.terms-terms.result.now - 1) (drop 1 c.terms-terms.result.now)) c.index-terms-0.result parts.0 parts.1 reduced are (subst (λ w. (y : Place) → coefficient_at c.change.new.self.0 y ≡ overwritten w (coefficient_at c.args.self.now.dividend.0) y) c.as_slice.ensures.value c.in_ok-change.ensures.is) c.len-2.ensures.sparse kept in
+    let made = made_by b v c.args.self.now.steps.items c.args.self.now.rest.items c.args.top c.args.self.now.dividend.0 c.args.step r due c.in-Some.k c.keep.new.rest.items c.change.new.self.0 (take (length c.terms-terms.result.now - 1) (drop 1 c.terms-terms.result.now)) c.in_ok-changes.changes.items c.index-terms-0.result parts.0 parts.1 reduced are (subst (λ w. (y : Place) → coefficient_at c.change.new.self.0 y ≡ overwritten w (coefficient_at c.args.self.now.dividend.0) y) c.as_slice.ensures.value c.in_ok-change.ensures.is) c.len-2.ensures.sparse kept in
     subst (λ n. ChainStops b v (Long n (c.len-made.result + 1))) (sym total)
     (subst (λ n. ChainStops b v (Long (length c.keep.new.rest.items + length c.change.new.self.0) (n + 1))) (sym count)
     (stops_long b v c.args.self.now.steps.items c.args.self.now.rest.items c.args.top c.args.self.now.dividend.0 c.args.step r due c.in-Some.k c.keep.new.rest.items c.change.new.self.0 made few (omega (arith, total, c.if-count.true))))
@@ -96,7 +97,7 @@ returns-clause-is c b v due entry r =
     let count : c.len-made.result ≡ length c.args.self.now.steps.items = omega (arith, c.len-made.ensures) in
     let few : length c.args.self.now.steps.items < STEPS = omega (arith, c.len-made.ensures, c.if-made-eq-STEPS.false, c.requires.made) in
     let total : c.len.result + c.len-2.result ≡ length c.keep.new.rest.items + length c.change.new.self.0 = omega (arith, c.len.ensures, c.len-2.ensures.is) in
-    let made = made_by b v c.args.self.now.steps.items c.args.self.now.rest.items c.args.top c.args.self.now.dividend.0 c.args.step r due c.in-Some.k c.keep.new.rest.items c.change.new.self.0 c.in_ok-changes.changes.items (take (length c.terms-terms.result.now - 1) (drop 1 c.terms-terms.result.now)) c.index-terms-0.result parts.0 parts.1 reduced are (subst (λ w. (y : Place) → coefficient_at c.change.new.self.0 y ≡ overwritten w (coefficient_at c.args.self.now.dividend.0) y) c.as_slice.ensures.value c.in_ok-change.ensures.is) c.len-2.ensures.sparse kept in
+    let made = made_by b v c.args.self.now.steps.items c.args.self.now.rest.items c.args.top c.args.self.now.dividend.0 c.args.step r due c.in-Some.k c.keep.new.rest.items c.change.new.self.0 (take (length c.terms-terms.result.now - 1) (drop 1 c.terms-terms.result.now)) c.in_ok-changes.changes.items c.index-terms-0.result parts.0 parts.1 reduced are (subst (λ w. (y : Place) → coefficient_at c.change.new.self.0 y ≡ overwritten w (coefficient_at c.args.self.now.dividend.0) y) c.as_slice.ensures.value c.in_ok-change.ensures.is) c.len-2.ensures.sparse kept in
     let push = c.in_ok-push.ensures.items in
     subst (λ ss. Running b v ss c.keep.new.rest.items c.change.new.self.0) (sym push)
     (goes_on b v c.args.self.now.steps.items c.args.self.now.rest.items c.args.top c.args.self.now.dividend.0 c.args.step r due c.in-Some.k c.keep.new.rest.items c.change.new.self.0 made few (omega (arith, total, c.if-count.false)))

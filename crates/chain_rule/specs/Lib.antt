@@ -1,0 +1,2 @@
+pub mod ClosedPairs
+pub mod Chaining
