@@ -1,5 +1,5 @@
 -- Hints stay hints.
-use Rattle.std.proofs.Common.{ℕ, ◌+◌, ◌<◌, ◌≤◌, ◌≡◌, ◌≢◌, ◌⊎◌, inl, inr, arith, refl, sym, ap, ◌∙◌, List, [], ◌∷◌, ◌++◌, length, map, Bool, true, false, slice_set, get_or, length-append}
+use Rattle.std.proofs.Common.{ℕ, ◌<◌, ◌≤◌, ◌≡◌, ◌≢◌, ◌⊎◌, inl, inr, arith, refl, sym, ap, ◌∙◌, List, ◌++◌, length, map, false, slice_set, get_or, length-append}
 use Rattle.std.proofs.lemmas.List.{get_or-set_same, get_or-set_other, length-set, length-map, get_or_append_left}
 use Rattle.std.proofs.Math.ListN.{get_or-map}
 use Rattle.task_table.specs.declared.hints.Hint.{Hint}
@@ -9,7 +9,7 @@ use Rattle.task_table.specs.declared.states.Wanted.{Wanted}
 use Rattle.task_table.specs.declared.states.Wanted.TheVariants.{OpenOnes, Unclosed}
 use Rattle.task_table.specs.declared.states.Reopened.{Reopened}
 use Rattle.task_table.specs.declared.states.Reopened.TheVariants.{HardOnes, TakenOnes}
-use Rattle.task_table.specs.Tasks.{tasks_below, is_wanted, is_open, is_unclosed, is_never, is_closed_later, reopened}
+use Rattle.task_table.specs.Tasks.{tasks_below, is_wanted, is_open, is_unclosed, reopened}
 use Rattle.task_table.specs.Tables.{state_at}
 use Rattle.task_table.specs.Inner.{IsHint}
 use Rattle.task_table.proofs.Counting.{tasks_below_none}

@@ -1,14 +1,13 @@
 -- The hint that stands at a wanted task stands at the least one.
-use Rattle.std.proofs.Common.{ℕ, ◌+◌, ◌<◌, ◌≤◌, ◌≡◌, arith, refl, sym, ap, ◌∙◌, List, length, true, false}
+use Rattle.std.proofs.Common.{◌+◌, ◌<◌, ◌≡◌, arith, refl, ap, ◌∙◌, List, length, true}
 use Rattle.module_vec.specs.declared.places.Term.{Term}
 use Rattle.outcomes.specs.declared.tasks.Task.{Task}
 use Rattle.task_table.specs.declared.hints.Hint.{Hint}
 use Rattle.task_table.specs.declared.order.Order.{Order}
 use Rattle.task_table.specs.declared.order.Order.TheVariants.{ByNumber}
 use Rattle.task_table.specs.declared.states.Wanted.{Wanted}
-use Rattle.task_table.specs.Tasks.{IsTask, tasks_below, number_of, is_wanted}
-use Rattle.task_table.specs.Orders.{Before}
-use Rattle.task_table.specs.Tables.{Table, IsTable, IsLeast, NoneIs, state_at, state_of}
+use Rattle.task_table.specs.Tasks.{IsTask, number_of, is_wanted}
+use Rattle.task_table.specs.Tables.{Table, IsTable, IsLeast, NoneIs, state_at}
 use Rattle.task_table.specs.Inner.{IsHint}
 use Rattle.task_table.proofs.Counting.{number_within}
 use Rattle.task_table.proofs.Ordering.{before_number}

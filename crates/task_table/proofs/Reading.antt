@@ -1,5 +1,5 @@
 -- What calls on a table need.
-use Rattle.std.proofs.Common.{ℕ, ◌+◌, ◌-◌, ◌<◌, ◌≤◌, ◌≡◌, arith, refl, sym, ap, ◌∙◌, List, [], ◌∷◌, ◌++◌, length, map, Bool, true, false, get_or, take, drop}
+use Rattle.std.proofs.Common.{ℕ, ◌-◌, ◌<◌, ◌≡◌, arith, ap, ◌∙◌, List, ◌++◌, length, map, get_or, take, drop}
 use Rattle.std.proofs.lemmas.List.{length-map, length-take-le, get_or-drop}
 use Rattle.std.proofs.Math.Seq.{get_or-append_right, take-append_seam}
 use Rattle.std.proofs.lemmas.Option.{slice_get-get_or, get_or_from_slice_get}

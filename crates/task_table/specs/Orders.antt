@@ -1,10 +1,10 @@
 -- The order in which tasks are worked: by a rank that the order gives to each task, and then by number.
-use Rattle.std.specs.Prelude.{◌≡◌, ◌⊎◌, ℕ, ◌<◌, List, ◌++◌, length}
+use Rattle.std.specs.Prelude.{◌≡◌, ◌⊎◌, ℕ, ◌<◌, List}
 use Rattle.module_vec.specs.declared.places.Term.{Term}
 use Rattle.outcomes.specs.declared.tasks.Task.{Task}
 use Rattle.task_table.specs.declared.order.Order.{Order}
 use Rattle.task_table.specs.declared.order.Order.TheVariants.{ByNumber}
-use Rattle.task_table.specs.Tasks.{IsTask, kind_number}
+use Rattle.task_table.specs.Tasks.{kind_number}
 
 -- by the greater entry of the pair, then the lesser one, then G before S
 abbrev pub HasLowerNumber : Task → Task → Type 0

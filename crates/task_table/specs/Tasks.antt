@@ -1,5 +1,5 @@
 -- Tasks of a log, their numbers, and what a state says of one.
-use Rattle.std.specs.Prelude.{◌≡◌, ℕ, zero, suc, ◌+◌, ◌<◌, Bool, true, false, cond}
+use Rattle.std.specs.Prelude.{ℕ, zero, suc, ◌+◌, ◌<◌, Bool, true, false, cond}
 use Rattle.outcomes.specs.declared.kinds.PairKind.{PairKind}
 use Rattle.outcomes.specs.declared.kinds.PairKind.TheVariants.{S, G}
 use Rattle.outcomes.specs.declared.tasks.Task.{Task}

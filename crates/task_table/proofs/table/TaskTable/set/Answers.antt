@@ -1,9 +1,7 @@
-use Rattle.std.proofs.Common.{arith, sym, ap, ◌∙◌, ◌≡◌, ◌<◌, length, subst, List, slice_set}
+use Rattle.std.proofs.Common.{arith, sym, ◌∙◌, ◌<◌, length, subst}
 use Rattle.std.proofs.lemmas.List.{length-set}
-use Rattle.task_table.specs.declared.states.TaskState.{TaskState}
 use Rattle.task_table.specs.Tasks.{IsTask, number_of}
 use Rattle.task_table.specs.Tables.{Table}
-use Rattle.task_table.specs.Inner.{table_of}
 use Rattle.task_table.proofs.Counting.{number_within}
 use Rattle.task_table.proofs.table.TaskTable.set.Goals as goal
 

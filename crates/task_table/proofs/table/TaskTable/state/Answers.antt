@@ -1,7 +1,6 @@
-use Rattle.std.proofs.Common.{arith, sym, ap, ◌∙◌, ◌≡◌, ◌<◌, length, subst}
-use Rattle.task_table.specs.Tasks.{IsTask, number_of}
-use Rattle.task_table.specs.Tables.{Table, state_of, state_at}
-use Rattle.task_table.specs.Inner.{table_of}
+use Rattle.std.proofs.Common.{arith, sym, ap, ◌∙◌, ◌<◌, length, subst}
+use Rattle.task_table.specs.Tasks.{IsTask}
+use Rattle.task_table.specs.Tables.{Table, state_of}
 use Rattle.task_table.proofs.Counting.{number_within}
 use Rattle.task_table.proofs.Reading.{is_state}
 use Rattle.task_table.proofs.table.TaskTable.state.Goals as goal
