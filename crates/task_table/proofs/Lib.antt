@@ -1,0 +1,7 @@
+pub mod Counting
+pub mod Ordering
+pub mod Hinting
+pub mod Reading
+pub mod Least
+pub mod Pushing
+pub mod Putting

@@ -1,0 +1,25 @@
+-- What stands inside a table: below a hint no task has a wanted state.
+use Rattle.std.specs.Prelude.{◌≡◌, ℕ, ◌≤◌, ◌<◌, List, false, length, vec_capacity}
+use Rattle.task_table.specs.declared.hints.Hint.{Hint}
+use Rattle.task_table.specs.declared.states.TaskState.{TaskState}
+use Rattle.task_table.specs.declared.states.Wanted.{Wanted}
+use Rattle.task_table.specs.declared.states.Wanted.TheVariants.{OpenOnes, Unclosed}
+use Rattle.task_table.specs.declared.table.TaskTable.TheInside.{Inside}
+use Rattle.task_table.specs.Tasks.{tasks_below, is_wanted}
+use Rattle.task_table.specs.Tables.{Table, IsTable, state_at}
+
+-- no state before the hint is wanted, and the tasks of its row begin at it or before
+pub record IsHint (wanted : Wanted) (states : List TaskState) (hint : Hint) : Type 0 where
+  pub within : hint.number ≤ length states
+  pub begins : tasks_below hint.row ≤ hint.number
+  pub before : (k : ℕ) → k < hint.number → is_wanted wanted (state_at states k) ≡ false
+
+-- what callers see
+abbrev pub table_of : Inside → Table
+table_of t = record { order = t.order; room = t.room; count = t.count; states = t.states.items }
+
+pub record IsKept (t : Inside) : Type 0 where
+  pub table : IsTable (table_of t)
+  pub capacity : tasks_below t.room ≤ vec_capacity t.states
+  pub open_hint : IsHint OpenOnes t.states.items t.open_hint
+  pub unclosed_hint : IsHint Unclosed t.states.items t.unclosed_hint

@@ -1,0 +1,5 @@
+pub mod Tasks
+pub mod Orders
+pub mod Tables
+pub mod Rows
+pub mod Inner
