@@ -4,6 +4,8 @@ use Rattle.spelling.specs.Spelling.{IsSmall}
 use Rattle.presentation.specs.Presented.{Presented}
 use Rattle.module_vec.specs.declared.faults.Stop.{Stop}
 use Rattle.module_vec.specs.declared.faults.Stop.TheVariants.{Wide, Long, Deep, Steep}
+use Rattle.outcomes.specs.declared.kinds.PairKind.{PairKind}
+use Rattle.outcomes.specs.declared.ends.Measure.{Measure}
 use Rattle.outcomes.specs.declared.tasks.Task.{Task}
 use Rattle.outcomes.specs.declared.ends.End.{End}
 use Rattle.outcomes.specs.declared.ends.End.TheVariants as ends
@@ -11,10 +13,9 @@ use Rattle.outcomes.specs.declared.verdicts.Verdict.{Verdict}
 use Rattle.outcomes.specs.declared.verdicts.Verdict.TheVariants as verdicts
 use Rattle.session_text.specs.declared.question.Question.{Question}
 use Rattle.session_text.specs.declared.question.Question.TheVariants as questions
-use Rattle.session_text.specs.Questions.{IsQuestion}
+use Rattle.session_text.specs.Questions.{IsQuestion, IsWritable}
 use Rattle.vector_text.specs.Over.{PlaceIsOver, VectorIsOver, IsPlaceOf, IsVectorOf}
 use Rattle.step_text.specs.Over.{StepsAreOver, AreStepsOf}
-use Rattle.report_lines.specs.Questions.{IsWritable}
 use Rattle.report_lines.specs.declared.lines.Made.{Made}
 use Rattle.report_lines.specs.declared.lines.Made.TheVariants.{Gen, Sum}
 use Rattle.report_lines.specs.declared.lines.Line.{Line}
@@ -126,6 +127,13 @@ IsStopOf n (Steep degree) = IsSmall degree
 abbrev pub IsMadeOf : ℕ → Made → Type 0
 IsMadeOf n (Gen negated) = Unit {0}
 IsMadeOf n (Sum steps) = AreStepsOf n steps
+
+-- each kind, and each measure
+abbrev pub IsKind : PairKind → Type 0
+IsKind kind = Unit {0}
+
+abbrev pub IsMeasure : Measure → Type 0
+IsMeasure measure = Unit {0}
 
 pub record IsTask (t : Task) : Type 0 where
   pub i : IsSmall t.i

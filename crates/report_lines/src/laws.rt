@@ -1,0 +1,12 @@
+//! Laws of the lines of reports.
+
+ghost use Rattle.std.specs.Prelude.{◌≡◌};
+ghost use Rattle.presentation.specs.Presented.{Presented, IsPresented};
+ghost use Rattle.report_lines.specs.declared.lines.Line.{Line};
+ghost use Rattle.report_lines.specs.Texts.{line_text};
+ghost use Rattle.report_lines.specs.Lines.{IsLineOf};
+
+/// A text is that of one line.
+pub fn one_line()
+    ensures { (p : Presented) (l m : Line) → IsPresented p → IsLineOf p l → IsLineOf p m → line_text p l ≡ line_text p m → l ≡ m }
+{}
