@@ -13,7 +13,7 @@ use Rattle.vector_text.proofs.Parts.{IsApart}
 use Rattle.report_lines.specs.Parts.{headed, IsHead, paired, AreBoth}
 use Rattle.report_lines.specs.Texts.{measure_text, task_text, stop_text, end_text}
 use Rattle.report_lines.specs.Lines.{IsMeasure, IsTask, IsStopOf, IsEndOf}
-use Rattle.report_lines.proofs.Pairs.{IsFirst, first_by_cut, clash, no_first, no_second, both_read, pair_same}
+use Rattle.report_lines.proofs.Pairs.{IsFirst, first_by_cut, literal, clash, no_first, no_second, both_read, pair_same}
 use Rattle.report_lines.proofs.Numbers.{number_first, number_same}
 use Rattle.report_lines.proofs.TaskTexts.{task_first, task_same}
 use Rattle.report_lines.proofs.StopTexts.{stop_same}
@@ -32,9 +32,9 @@ measure_same Steps Terms e = absurd (clash 1 _ _ e refl)
 measure_same Steps Steps e = refl
 
 measure_lacks : (a : Measure) → IsMeasure a → Lacks 32 (measure_text a)
-measure_lacks Entries h = (refl, refl, refl, refl, refl, refl, refl, tt)
-measure_lacks Terms h = (refl, refl, refl, refl, refl, tt)
-measure_lacks Steps h = (refl, refl, refl, refl, refl, tt)
+measure_lacks Entries h = literal 32 (codes "entries") refl
+measure_lacks Terms h = literal 32 (codes "terms") refl
+measure_lacks Steps h = literal 32 (codes "steps") refl
 
 pub measures_apart : IsApart 32 measure_text IsMeasure
 measures_apart = record { lacks = measure_lacks; one = λ a b h k e. measure_same a b e }
@@ -104,7 +104,7 @@ no_stopped : (names : List (List ℕ)) (text : List ℕ) → IsRead (stopped_tex
 no_stopped names text bad = λ e h is.
     let i = is_stopped names text e is in
     let P : End → Type 0 = IsEndOf (length names) in
-    bad i.0 (subst P i.1.0 h) i.1.1
+    bad i.0 (subst P i.1 h) i.2
 
 pub no_stopped_task : (names : List (List ℕ)) (text : List ℕ) → IsRead (headed task_text (codes " ")) (IsHead IsTask) text None
     → IsRead (end_text names) (IsEndOf (length names)) (codes "stopped " ++ text) None
@@ -124,7 +124,7 @@ no_full : (names : List (List ℕ)) (text : List ℕ) → IsRead full_text AreFu
 no_full names text bad = λ e h is.
     let i = is_full names text e is in
     let P : End → Type 0 = IsEndOf (length names) in
-    bad i.0 (tt, subst P i.1.0 h) i.1.1
+    bad i.0 (tt, subst P i.1 h) i.2
 
 pub no_full_measure : (names : List (List ℕ)) (text : List ℕ) → IsRead (headed measure_text (codes " ")) (IsHead IsMeasure) text None
     → IsRead (end_text names) (IsEndOf (length names)) (codes "full " ++ text) None
@@ -144,7 +144,7 @@ no_spent : (names : List (List ℕ)) (text : List ℕ) → IsRead spent_text Are
 no_spent names text bad = λ e h is.
     let i = is_spent names text e is in
     let P : End → Type 0 = IsEndOf (length names) in
-    bad i.0 (subst P i.1.0 h) i.1.1
+    bad i.0 (subst P i.1 h) i.2
 
 pub no_spent_commits : (names : List (List ℕ)) (text : List ℕ) → IsRead (headed decimal (codes " ")) (IsHead IsSmall) text None
     → IsRead (end_text names) (IsEndOf (length names)) (codes "spent " ++ text) None
@@ -176,15 +176,15 @@ end_same names known Sealed f h k e = sym (is_sealed names f e)
 end_same names known (Stopped task stop) f h k e =
     let i = is_stopped names (stopped_text names (task, stop)) f e in
     let P : End → Type 0 = IsEndOf (length names) in
-    let a = pair_same task_text IsTask (codes " ") (stop_text names) (IsStopOf (length names)) task_first (λ x y p q g. stop_same names known x y p q g) (task, stop) i.0 h (subst P i.1.0 k) i.1.1 in
-    (λ j. Stopped (a.0 j) (a.1 j)) ∙ sym i.1.0
+    let a = pair_same task_text IsTask (codes " ") (stop_text names) (IsStopOf (length names)) task_first (λ x y p q g. stop_same names known x y p q g) (task, stop) i.0 h (subst P i.1 k) i.2 in
+    (λ j. Stopped (a.0 j) (a.1 j)) ∙ sym i.1
 end_same names known (Full measure count) f h k e =
     let i = is_full names (full_text (measure, count)) f e in
     let P : End → Type 0 = IsEndOf (length names) in
-    let a = pair_same measure_text IsMeasure (codes " ") decimal IsSmall measure_first number_same (measure, count) i.0 (tt, h) (tt, subst P i.1.0 k) i.1.1 in
-    (λ j. Full (a.0 j) (a.1 j)) ∙ sym i.1.0
+    let a = pair_same measure_text IsMeasure (codes " ") decimal IsSmall measure_first number_same (measure, count) i.0 (tt, h) (tt, subst P i.1 k) i.2 in
+    (λ j. Full (a.0 j) (a.1 j)) ∙ sym i.1
 end_same names known (Spent commits task) f h k e =
     let i = is_spent names (spent_text (commits, task)) f e in
     let P : End → Type 0 = IsEndOf (length names) in
-    let a = pair_same decimal IsSmall (codes " ") task_text IsTask number_first task_same (commits, task) i.0 h (subst P i.1.0 k) i.1.1 in
-    (λ j. Spent (a.0 j) (a.1 j)) ∙ sym i.1.0
+    let a = pair_same decimal IsSmall (codes " ") task_text IsTask number_first task_same (commits, task) i.0 h (subst P i.1 k) i.2 in
+    (λ j. Spent (a.0 j) (a.1 j)) ∙ sym i.1

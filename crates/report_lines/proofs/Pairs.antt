@@ -1,5 +1,5 @@
 -- Texts of two parts with a separator between them, read from the first part on.
-use Rattle.std.proofs.Common.{◌≡◌, ℕ, ◌<◌, ◌==◌, Bool, true, false, nat_eq, List, [], ◌∷◌, ◌++◌, take, length, Option, Some, None, Result, Ok, Err, codes, refl, sym, ap, ◌∙◌, arith, append_assoc}
+use Rattle.std.proofs.Common.{◌≡◌, ℕ, ◌<◌, ◌==◌, Bool, true, false, if◌then◌else◌, nat_eq, List, [], ◌∷◌, ◌++◌, take, length, Option, Some, None, Result, Ok, Err, codes, refl, sym, ap, ◌∙◌, arith, append_assoc}
 use Rattle.std.proofs.lemmas.Option.{none-some}
 use Rattle.std.specs.Cmp.Lexicographic.{pointwise}
 use Rattle.spelling.specs.Spelling.{IsRead, cut}
@@ -18,6 +18,18 @@ pub clash : (n : ℕ) (a b : List ℕ) → a ≡ b → pointwise nat_eq (take n 
 clash n a b e differ =
     let t : pointwise nat_eq (take n a) (take n b) ≡ true = same_text (take n a) (take n b) (ap (take n) e) in
     let f : true ≡ false = sym t ∙ differ in cc
+
+-- a byte stands nowhere in a text that is written out
+abbrev is_clear : ℕ → List ℕ → Bool
+is_clear c [] = true
+is_clear c (b ∷ bs) = if b == c then false else is_clear c bs
+
+pub literal : (c : ℕ) (text : List ℕ) → is_clear c text ≡ true → Lacks c text
+literal c [] e = tt
+literal c (b ∷ bs) e = by (b == c) refl e (λ k. literal c bs k) where
+  by : (t : Bool) → (b == c) ≡ t → (if t then false else is_clear c bs) ≡ true → (is_clear c bs ≡ true → Lacks c bs) → Lacks c (b ∷ bs)
+  by true h k again = absurd (cc)
+  by false h k again = (h, again k)
 
 -- ---- a first part that ends where the separator stands
 
@@ -57,7 +69,7 @@ no_second f IsA sep g IsB first text rest a good bad = λ x h e.
 
 pub both_read : {A B : Type 0} (f : A → List ℕ) (IsA : A → Type 0) (sep : List ℕ) (g : B → List ℕ) (IsB : B → Type 0) (text rest : List ℕ) (a : A) (b : B)
     → IsRead (headed f sep) (IsHead IsA) text (Some (a, rest)) → IsRead g IsB rest (Some b) → IsRead (paired f sep g) (AreBoth IsA IsB) text (Some (a, b))
-both_read f IsA sep g IsB text rest a b good then = ((good.0, then.0), good.1 ∙ ap (λ (t : List ℕ). f a ++ (sep ++ t)) then.1)
+both_read f IsA sep g IsB text rest a b good next = ((good.0, next.0), good.1 ∙ ap (λ (t : List ℕ). f a ++ (sep ++ t)) next.1)
 
 pub second_fails : {A B : Type 0} (f : A → List ℕ) (IsA : A → Type 0) (sep : List ℕ) (g : B → List ℕ) (IsB : B → Type 0) → IsFirst f IsA sep → (text rest : List ℕ) (a : A)
     → IsRead (headed f sep) (IsHead IsA) text (Some (a, rest)) → (e : SpellFault) → Reads g IsB rest (Err e) → Reads (paired f sep g) (AreBoth IsA IsB) text (Err e)

@@ -17,6 +17,7 @@ use Rattle.session_text.specs.declared.question.Question.TheVariants.{Trivial, E
 use Rattle.session_text.specs.Questions.{IsWritable}
 use Rattle.session_text.specs.Writing.{written_question}
 use Rattle.report_lines.specs.Parts.{HasNoColon}
+use Rattle.report_lines.proofs.Pairs.{literal}
 
 no_name_byte : is_name_byte 58 ≡ false
 unfolding is_name_byte is_letter is_digit
@@ -44,7 +45,7 @@ runs_within [] = tt
 runs_within (l ∷ ls) = within_behind (length ls) l (runs ls) (runs_within ls)
 
 exponent_lacks : (inv : Bool) (n : ℕ) → n < 2 ^ 128 → HasNoColon (written_exponent inv n)
-exponent_lacks true n h = (refl, refl, decimal_lacks 58 n (inr (omega arith)) h)
+exponent_lacks true n h = (refl, (refl, decimal_lacks 58 n (inr (omega arith)) h))
 exponent_lacks false n h = by (n == 1) where
   by : (t : Bool) → HasNoColon (if t then [] else codes "^" ++ decimal n)
   by true = tt
@@ -91,28 +92,28 @@ presentation_lacks : (p : Presented) → IsPresented p → p.modulus ≡ 0 → H
 presentation_lacks p h none =
     let names : List ℕ = joined (codes ", ") p.names in
     let relators : List ℕ = joined (codes ", ") (map (written_word p.names) p.relators) in
-    let names_lack : HasNoColon names = joined_lacks (codes ", ") p.names (refl, refl, tt) (names_lack p.names h.names) in
-    let relators_lack : HasNoColon relators = joined_lacks (codes ", ") (map (written_word p.names) p.relators) (refl, refl, tt) (words_lack p.names p.relators (names_of p h) h.relators) in
+    let names_lack : HasNoColon names = joined_lacks (codes ", ") p.names (literal 58 (codes ", ") refl) (names_lack p.names h.names) in
+    let relators_lack : HasNoColon relators = joined_lacks (codes ", ") (map (written_word p.names) p.relators) (literal 58 (codes ", ") refl) (words_lack p.names p.relators (names_of p h) h.relators) in
     let head : HasNoColon (codes "<" ++ names) = lacks_append 58 (codes "<") names (refl, tt) names_lack in
-    let middle : HasNoColon (codes "<" ++ names ++ codes " | ") = lacks_append 58 (codes "<" ++ names) (codes " | ") head (refl, refl, refl, tt) in
+    let middle : HasNoColon (codes "<" ++ names ++ codes " | ") = lacks_append 58 (codes "<" ++ names) (codes " | ") head (literal 58 (codes " | ") refl) in
     let front : HasNoColon (codes "<" ++ names ++ codes " | " ++ relators) = lacks_append 58 (codes "<" ++ names ++ codes " | ") relators middle relators_lack in
     let bare : HasNoColon (written_bare p.names p.relators) = lacks_append 58 (codes "<" ++ names ++ codes " | " ++ relators) (codes ">") front (refl, tt) in
     rw none (lacks_append 58 (written_bare p.names p.relators) [] bare tt)
 
 pub question_lacks : (p : Presented) → IsPresented p → (q : Question) → IsWritable p q → HasNoColon (written_question p.names q)
 question_lacks p known (Trivial w) h =
-    lacks_append 58 (codes "trivial ") (written_word p.names w) (refl, refl, refl, refl, refl, refl, refl, refl, tt) (word_lacks p.names w (names_of p known) (h.0).1)
+    lacks_append 58 (codes "trivial ") (written_word p.names w) (literal 58 (codes "trivial ") refl) (word_lacks p.names w (names_of p known) (h.0).1)
 question_lacks p known (Equal u v) h =
     let head : HasNoColon (codes "equal " ++ written_word p.names u) =
-    lacks_append 58 (codes "equal ") (written_word p.names u) (refl, refl, refl, refl, refl, refl, tt) (word_lacks p.names u (names_of p known) ((h.0).1).0) in
-    let front : HasNoColon (codes "equal " ++ written_word p.names u ++ codes " = ") = lacks_append 58 (codes "equal " ++ written_word p.names u) (codes " = ") head (refl, refl, refl, tt) in
+    lacks_append 58 (codes "equal ") (written_word p.names u) (literal 58 (codes "equal ") refl) (word_lacks p.names u (names_of p known) ((h.0).1).0) in
+    let front : HasNoColon (codes "equal " ++ written_word p.names u ++ codes " = ") = lacks_append 58 (codes "equal " ++ written_word p.names u) (codes " = ") head (literal 58 (codes " = ") refl) in
     lacks_append 58 (codes "equal " ++ written_word p.names u ++ codes " = ") (written_word p.names v) front (word_lacks p.names v (names_of p known) ((h.0).1).1)
 question_lacks p known (Normal w) h =
-    lacks_append 58 (codes "normal ") (written_word p.names w) (refl, refl, refl, refl, refl, refl, refl, tt) (word_lacks p.names w (names_of p known) (h.0).1)
+    lacks_append 58 (codes "normal ") (written_word p.names w) (literal 58 (codes "normal ") refl) (word_lacks p.names w (names_of p known) (h.0).1)
 question_lacks p known (Hom source images) h =
     let head : HasNoColon (codes "hom " ++ written_presentation source) =
-    lacks_append 58 (codes "hom ") (written_presentation source) (refl, refl, refl, refl, tt) (presentation_lacks source h.1 ((h.0).0).1) in
+    lacks_append 58 (codes "hom ") (written_presentation source) (literal 58 (codes "hom ") refl) (presentation_lacks source h.1 ((h.0).0).1) in
     let front : HasNoColon (codes "hom " ++ written_presentation source ++ codes " -> ") =
-    lacks_append 58 (codes "hom " ++ written_presentation source) (codes " -> ") head (refl, refl, refl, refl, tt) in
+    lacks_append 58 (codes "hom " ++ written_presentation source) (codes " -> ") head (literal 58 (codes " -> ") refl) in
     lacks_append 58 (codes "hom " ++ written_presentation source ++ codes " -> ") (joined (codes ", ") (map (written_word p.names) images)) front
-    (joined_lacks (codes ", ") (map (written_word p.names) images) (refl, refl, tt) (words_lack p.names images (names_of p known) (h.0).1))
+    (joined_lacks (codes ", ") (map (written_word p.names) images) (literal 58 (codes ", ") refl) (words_lack p.names images (names_of p known) (h.0).1))

@@ -65,8 +65,8 @@ no_wide : (names : List (List ℕ)) (text : List ℕ) → IsRead (wide_text name
 no_wide names text bad = λ s h e.
     let i = is_wide names text s e in
     let P : Stop → Type 0 = IsStopOf (length names) in
-    let k = subst P i.1.0 h in
-    bad i.0 (k.1, k.0) i.1.1
+    let k = subst P i.1 h in
+    bad i.0 (k.1, k.0) i.2
 
 pub no_wide_step : (names : List (List ℕ)) (text : List ℕ) → IsRead (headed decimal (codes " ")) (IsHead IsSmall) text None → IsRead (stop_text names) (IsStopOf (length names)) (codes "wide " ++ text) None
 no_wide_step names text bad = no_wide names text (no_first decimal IsSmall (codes " ") (place_text names) (IsPlaceOf (length names)) text bad)
@@ -87,8 +87,8 @@ no_long : (names : List (List ℕ)) (text : List ℕ) → IsRead long_text AreLo
 no_long names text bad = λ s h e.
     let i = is_long names text s e in
     let P : Stop → Type 0 = IsStopOf (length names) in
-    let k = subst P i.1.0 h in
-    bad i.0 (k.1, k.0) i.1.1
+    let k = subst P i.1 h in
+    bad i.0 (k.1, k.0) i.2
 
 pub no_long_step : (names : List (List ℕ)) (text : List ℕ) → IsRead (headed decimal (codes " ")) (IsHead IsSmall) text None → IsRead (stop_text names) (IsStopOf (length names)) (codes "long " ++ text) None
 no_long_step names text bad = no_long names text (no_first decimal IsSmall (codes " ") decimal IsSmall text bad)
@@ -107,7 +107,7 @@ pub no_degree : (names : List (List ℕ)) (text : List ℕ) → IsRead decimal I
 no_degree names text bad = λ s h e.
     let i = is_steep names text s e in
     let P : Stop → Type 0 = IsStopOf (length names) in
-    bad i.0 (subst P i.1.0 h) i.1.1
+    bad i.0 (subst P i.1 h) i.2
 
 pub steep_read : (names : List (List ℕ)) (text : List ℕ) (degree : ℕ) → IsRead decimal IsSmall text (Some degree) → IsRead (stop_text names) (IsStopOf (length names)) (codes "steep " ++ text) (Some (Steep degree))
 steep_read names text degree a = (a.0, ap (λ (t : List ℕ). codes "steep " ++ t) a.1)
@@ -127,18 +127,18 @@ pub stop_same : (names : List (List ℕ)) → AreNames names → (s t : Stop) �
 stop_same names known (Wide at step) t h k e =
     let i = is_wide names (wide_text names (step, at)) t e in
     let P : Stop → Type 0 = IsStopOf (length names) in
-    let k' = subst P i.1.0 k in
-    let a = pair_same decimal IsSmall (codes " ") (place_text names) (IsPlaceOf (length names)) number_first (λ x y p q f. place_same names known x y p q f) (step, at) i.0 (h.1, h.0) (k'.1, k'.0) i.1.1 in
-    (λ j. Wide (a.1 j) (a.0 j)) ∙ sym i.1.0
+    let k' = subst P i.1 k in
+    let a = pair_same decimal IsSmall (codes " ") (place_text names) (IsPlaceOf (length names)) number_first (λ x y p q f. place_same names known x y p q f) (step, at) i.0 (h.1, h.0) (k'.1, k'.0) i.2 in
+    (λ j. Wide (a.1 j) (a.0 j)) ∙ sym i.1
 stop_same names known (Long terms step) t h k e =
     let i = is_long names (long_text (step, terms)) t e in
     let P : Stop → Type 0 = IsStopOf (length names) in
-    let k' = subst P i.1.0 k in
-    let a = pair_same decimal IsSmall (codes " ") decimal IsSmall number_first number_same (step, terms) i.0 (h.1, h.0) (k'.1, k'.0) i.1.1 in
-    (λ j. Long (a.1 j) (a.0 j)) ∙ sym i.1.0
+    let k' = subst P i.1 k in
+    let a = pair_same decimal IsSmall (codes " ") decimal IsSmall number_first number_same (step, terms) i.0 (h.1, h.0) (k'.1, k'.0) i.2 in
+    (λ j. Long (a.1 j) (a.0 j)) ∙ sym i.1
 stop_same names known Deep t h k e = sym (is_deep names t e)
 stop_same names known (Steep degree) t h k e =
     let i = is_steep names (decimal degree) t e in
     let P : Stop → Type 0 = IsStopOf (length names) in
-    let a = number_same degree i.0 h (subst P i.1.0 k) i.1.1 in
-    ap (λ (d : ℕ). Steep d) a ∙ sym i.1.0
+    let a = number_same degree i.0 h (subst P i.1 k) i.2 in
+    ap (λ (d : ℕ). Steep d) a ∙ sym i.1

@@ -162,10 +162,10 @@ pub record IsAnswer (p : Presented) (q : Question) (v : Verdict) : Type 0 where
 
 -- a line of a report over p; that the images of a homomorphism are short is another rule
 abbrev pub IsLineOf : Presented → Line → Type 0
-IsLineOf p (lines.Entry number made vector) = IsSmall number × IsMadeOf (length p.names) made × IsVectorOf (length p.names) vector
+IsLineOf p (lines.Entry number made vector) = IsSmall number × (IsMadeOf (length p.names) made × IsVectorOf (length p.names) vector)
 IsLineOf p lines.Seal = Unit {0}
-IsLineOf p (lines.Live session number front question verdict) = IsSmall session × IsSmall number × IsSmall front × IsAnswer p question verdict
+IsLineOf p (lines.Live session number front question verdict) = IsSmall session × (IsSmall number × (IsSmall front × IsAnswer p question verdict))
 IsLineOf p (lines.Proof subject steps) = IsSmall subject × AreStepsOf (length p.names) steps
 IsLineOf p (lines.End end) = IsEndOf (length p.names) end
-IsLineOf p (lines.Close session number question verdict) = IsSmall session × IsSmall number × IsAnswer p question verdict
+IsLineOf p (lines.Close session number question verdict) = IsSmall session × (IsSmall number × IsAnswer p question verdict)
 IsLineOf p lines.Done = Unit {0}

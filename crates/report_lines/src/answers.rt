@@ -24,8 +24,12 @@ pub fn read_answer(
     ensures { Reads (λ x. answer_text p.now.names x.0 x.1) (λ x. IsAnswer p.now x.0 x.1) text.now result }
 {
     p.known();
-    let (front, rest) = around_colon(text).ok_or(SpellFault::Spelling)?;
-    let question = read_question(alloc, p, front)?.ok_or(SpellFault::Spelling)?;
+    let Some((front, rest)) = around_colon(text) else {
+        return Err(SpellFault::Spelling);
+    };
+    let Some(question) = read_question(alloc, p, front)? else {
+        return Err(SpellFault::Spelling);
+    };
     let verdict = read_verdict(alloc, p, rest)?;
     if !may_answer(&question, &verdict) {
         return Err(SpellFault::Spelling);

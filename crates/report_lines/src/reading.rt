@@ -64,8 +64,12 @@ fn entry(alloc: Global, p: &Presentation, text: &[u8]) -> Result<Line, SpellFaul
     ensures { Reads (line_text p.now) (IsLineOf p.now) (codes "entry " ++ text.now) result }
 {
     p.known();
-    let (number, rest) = number_then(text).ok_or(SpellFault::Spelling)?;
-    let (front, last) = around_colon(rest).ok_or(SpellFault::Spelling)?;
+    let Some((number, rest)) = number_then(text) else {
+        return Err(SpellFault::Spelling);
+    };
+    let Some((front, last)) = around_colon(rest) else {
+        return Err(SpellFault::Spelling);
+    };
     let made = read_made(alloc, p, front)?;
     let vector = read_vector(alloc, p, last)?;
     Ok(Line::Entry {
@@ -79,9 +83,15 @@ fn entry(alloc: Global, p: &Presentation, text: &[u8]) -> Result<Line, SpellFaul
 fn live(alloc: Global, p: &Presentation, text: &[u8]) -> Result<Line, SpellFault>
     ensures { Reads (line_text p.now) (IsLineOf p.now) (codes "live " ++ text.now) result }
 {
-    let (session, rest) = number_then(text).ok_or(SpellFault::Spelling)?;
-    let (number, more) = number_then(rest).ok_or(SpellFault::Spelling)?;
-    let (front, last) = number_then(more).ok_or(SpellFault::Spelling)?;
+    let Some((session, rest)) = number_then(text) else {
+        return Err(SpellFault::Spelling);
+    };
+    let Some((number, more)) = number_then(rest) else {
+        return Err(SpellFault::Spelling);
+    };
+    let Some((front, last)) = number_then(more) else {
+        return Err(SpellFault::Spelling);
+    };
     let (question, verdict) = read_answer(alloc, p, last)?;
     Ok(Line::Live {
         session,
@@ -96,7 +106,9 @@ fn live(alloc: Global, p: &Presentation, text: &[u8]) -> Result<Line, SpellFault
 fn proof(alloc: Global, p: &Presentation, text: &[u8]) -> Result<Line, SpellFault>
     ensures { Reads (line_text p.now) (IsLineOf p.now) (codes "proof " ++ text.now) result }
 {
-    let (subject, rest) = number_then(text).ok_or(SpellFault::Spelling)?;
+    let Some((subject, rest)) = number_then(text) else {
+        return Err(SpellFault::Spelling);
+    };
     let steps = read_steps(alloc, p, rest)?;
     Ok(Line::Proof { subject, steps })
 }
@@ -105,7 +117,9 @@ fn proof(alloc: Global, p: &Presentation, text: &[u8]) -> Result<Line, SpellFaul
 fn end(p: &Presentation, text: &[u8]) -> Result<Line, SpellFault>
     ensures { Reads (line_text p.now) (IsLineOf p.now) (codes "end " ++ text.now) result }
 {
-    let end = read_end(p, text).ok_or(SpellFault::Spelling)?;
+    let Some(end) = read_end(p, text) else {
+        return Err(SpellFault::Spelling);
+    };
     Ok(Line::End(end))
 }
 
@@ -113,8 +127,12 @@ fn end(p: &Presentation, text: &[u8]) -> Result<Line, SpellFault>
 fn close(alloc: Global, p: &Presentation, text: &[u8]) -> Result<Line, SpellFault>
     ensures { Reads (line_text p.now) (IsLineOf p.now) (codes "close " ++ text.now) result }
 {
-    let (session, rest) = number_then(text).ok_or(SpellFault::Spelling)?;
-    let (number, last) = number_then(rest).ok_or(SpellFault::Spelling)?;
+    let Some((session, rest)) = number_then(text) else {
+        return Err(SpellFault::Spelling);
+    };
+    let Some((number, last)) = number_then(rest) else {
+        return Err(SpellFault::Spelling);
+    };
     let (question, verdict) = read_answer(alloc, p, last)?;
     Ok(Line::Close {
         session,
