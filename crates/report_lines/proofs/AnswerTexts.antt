@@ -1,5 +1,5 @@
 -- The texts of answers.
-use Rattle.std.proofs.Common.{◌≡◌, ℕ, Bool, true, false, List, ◌++◌, length, Option, Some, None, Result, Ok, Err, codes, refl, sym, ap, subst, ◌∙◌}
+use Rattle.std.proofs.Common.{◌≡◌, ℕ, List, length, Some, None, Ok, Err, codes, sym, subst, ◌∙◌}
 use Rattle.spelling.specs.Spelling.{IsRead}
 use Rattle.presentation.specs.Presented.{Presented, IsPresented}
 use Rattle.presentation.proofs.WritingBack.{names_of}

@@ -1,5 +1,5 @@
 -- The texts of measures and ends.
-use Rattle.std.proofs.Common.{◌≡◌, ℕ, List, [], ◌∷◌, ◌++◌, length, drop, Some, None, codes, decimal, refl, sym, ap, subst, ◌∙◌}
+use Rattle.std.proofs.Common.{◌≡◌, ℕ, List, ◌++◌, length, drop, Some, None, codes, decimal, refl, sym, ap, subst, ◌∙◌}
 use Rattle.spelling.specs.Spelling.{IsRead, IsSmall}
 use Rattle.spelling.proofs.Lacking.{Lacks}
 use Rattle.presentation.proofs.WritingBack.{AreNames}

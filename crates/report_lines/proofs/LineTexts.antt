@@ -1,5 +1,5 @@
 -- The texts of lines.
-use Rattle.std.proofs.Common.{◌≡◌, ℕ, List, [], ◌∷◌, ◌++◌, length, drop, Option, Some, None, Result, Ok, Err, codes, decimal, refl, sym, ap, subst, ◌∙◌}
+use Rattle.std.proofs.Common.{◌≡◌, ℕ, List, ◌++◌, length, drop, Some, None, Result, Ok, Err, codes, decimal, refl, sym, ap, subst, ◌∙◌}
 use Rattle.spelling.specs.Spelling.{IsRead, IsSmall}
 use Rattle.presentation.specs.Presented.{Presented, IsPresented}
 use Rattle.presentation.proofs.WritingBack.{names_of}
@@ -24,7 +24,7 @@ use Rattle.report_lines.specs.Parts.{headed, IsHead, paired, AreBoth, itself, Ha
 use Rattle.report_lines.specs.Texts.{made_text, end_text, line_text}
 use Rattle.report_lines.specs.Lines.{IsMadeOf, IsEndOf, IsLineOf}
 use Rattle.report_lines.proofs.Pairs.{clash, no_first, second_fails, both_read, pair_same, colon_first, colon_missing, front_fails, back_fails, around_both}
-use Rattle.report_lines.proofs.Numbers.{number_first, number_same}
+use Rattle.report_lines.proofs.Numbers.{number_first}
 use Rattle.report_lines.proofs.MadeTexts.{made_same, made_lacks}
 use Rattle.report_lines.proofs.EndTexts.{end_same}
 use Rattle.report_lines.proofs.AnswerTexts.{answer, IsPair, answer_same}

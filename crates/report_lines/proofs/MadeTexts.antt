@@ -1,8 +1,7 @@
 -- The texts of how entries were made.
-use Rattle.std.proofs.Common.{◌≡◌, inr, ℕ, Bool, true, false, List, [], ◌∷◌, ◌++◌, length, map, drop, Some, None, Result, Ok, Err, codes, refl, sym, ap, subst, ◌∙◌, arith}
-use Rattle.presentation.specs.Writing.{led_by}
+use Rattle.std.proofs.Common.{◌≡◌, inr, ℕ, true, false, List, [], ◌∷◌, ◌++◌, length, drop, Ok, Err, codes, refl, sym, ap, subst, ◌∙◌, arith}
 use Rattle.presentation.proofs.WritingBack.{AreNames}
-use Rattle.spelling.proofs.Lacking.{Lacks, lacks_append, apart}
+use Rattle.spelling.proofs.Lacking.{lacks_append}
 use Rattle.word_text.specs.Scan.{is_name_byte, is_letter, is_digit}
 use Rattle.module_vec.specs.declared.steps.Step.{Step}
 use Rattle.vector_text.specs.declared.fault.SpellFault.{SpellFault}
@@ -10,7 +9,7 @@ use Rattle.vector_text.specs.declared.fault.SpellFault.TheVariants.{Spelling, No
 use Rattle.vector_text.specs.Reading.{Reads}
 use Rattle.vector_text.proofs.Parts.{listed_lacks, all_weaker}
 use Rattle.step_text.specs.Spelling.{step_text, steps_text}
-use Rattle.step_text.specs.Over.{IsStepOf, AreStepsOf}
+use Rattle.step_text.specs.Over.{AreStepsOf}
 use Rattle.step_text.proofs.StepTexts.{IsOutside, step_lacks}
 use Rattle.step_text.proofs.StepLists.{steps_same}
 use Rattle.report_lines.specs.declared.lines.Made.{Made}

@@ -1,5 +1,5 @@
 -- Numbers at the heads of texts.
-use Rattle.std.proofs.Common.{◌≡◌, inl, ◌<◌, decimal, codes, arith}
+use Rattle.std.proofs.Common.{◌≡◌, inl, decimal, codes, arith}
 use Rattle.spelling.specs.Spelling.{IsSmall}
 use Rattle.spelling.proofs.Numbers.{decimal_same}
 use Rattle.spelling.proofs.Lacking.{decimal_lacks}

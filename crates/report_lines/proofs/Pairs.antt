@@ -1,5 +1,5 @@
 -- Texts of two parts with a separator between them, read from the first part on.
-use Rattle.std.proofs.Common.{◌≡◌, ℕ, ◌<◌, ◌==◌, Bool, true, false, if◌then◌else◌, nat_eq, List, [], ◌∷◌, ◌++◌, take, length, Option, Some, None, Result, Ok, Err, codes, refl, sym, ap, ◌∙◌, arith, append_assoc}
+use Rattle.std.proofs.Common.{◌≡◌, ℕ, ◌<◌, ◌==◌, Bool, true, false, if◌then◌else◌, nat_eq, List, [], ◌∷◌, ◌++◌, take, length, Option, Some, None, Ok, Err, codes, refl, sym, ap, ◌∙◌, arith, append_assoc}
 use Rattle.std.proofs.lemmas.Option.{none-some}
 use Rattle.std.specs.Cmp.Lexicographic.{pointwise}
 use Rattle.spelling.specs.Spelling.{IsRead, cut}

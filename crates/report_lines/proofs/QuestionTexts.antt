@@ -1,9 +1,8 @@
 -- No colon stands in the text of a question.
-use Rattle.std.proofs.Common.{◌≡◌, ◌≢◌, inr, ℕ, suc, ◌+◌, ◌<◌, ◌≤◌, ◌^◌, ◌==◌, Bool, true, false, if◌then◌else◌, List, [], ◌∷◌, ◌++◌, length, map, codes, decimal, refl, sym, ap, ◌∙◌, arith}
+use Rattle.std.proofs.Common.{◌≡◌, inr, ℕ, suc, ◌<◌, ◌≤◌, ◌^◌, ◌==◌, Bool, true, false, if◌then◌else◌, List, [], ◌∷◌, ◌++◌, length, map, codes, decimal, refl, arith}
 use Rattle.std.specs.List.{AllByRecursion}
 use Rattle.free_words.specs.declared.letter.Letter.{Letter}
-use Rattle.free_words.specs.Words.{IsOver}
-use Rattle.spelling.proofs.Lacking.{Lacks, lacks_append, decimal_lacks}
+use Rattle.spelling.proofs.Lacking.{lacks_append, decimal_lacks}
 use Rattle.word_text.specs.Scan.{is_name_byte, is_letter, is_digit}
 use Rattle.presentation.specs.declared.runs.Run.{Run}
 use Rattle.presentation.specs.Presented.{Presented, IsPresented, IsName, IsWritten}
@@ -11,7 +10,9 @@ use Rattle.presentation.specs.Writing.{is_same, once, behind, runs, AreOver, led
 use Rattle.presentation.proofs.WritingRuns.{over_runs}
 use Rattle.presentation.proofs.WritingNames.{name_passes}
 use Rattle.presentation.proofs.WritingBack.{AreNames, names_of}
-use Rattle.vector_text.proofs.MonomialTexts.{name_bytes, name_lacks}
+use Rattle.presentation.proofs.WritingBytes.{Passes}
+use Rattle.presentation.proofs.WritingEnds.{name_byte_other}
+use Rattle.vector_text.proofs.MonomialTexts.{name_lacks}
 use Rattle.session_text.specs.declared.question.Question.{Question}
 use Rattle.session_text.specs.declared.question.Question.TheVariants.{Trivial, Equal, Normal, Hom}
 use Rattle.session_text.specs.Questions.{IsWritable}
@@ -82,9 +83,13 @@ words_lack : (names : List (List ℕ)) (ws : List (List Letter)) → AreNames na
 words_lack names [] known h = tt
 words_lack names (w ∷ ws) known h = (word_lacks names w known h.0, words_lack names ws known h.1)
 
+name_bytes : (n : List ℕ) → Passes is_name_byte n → HasNoColon n
+name_bytes [] h = tt
+name_bytes (b ∷ bs) h = (name_byte_other b 58 h.0 no_name_byte, name_bytes bs h.1)
+
 names_lack : (ns : List (List ℕ)) → AllByRecursion IsName ns → AllLack ns
 names_lack [] h = tt
-names_lack (n ∷ ns) h = (name_bytes 58 n no_name_byte (name_passes n h.0), names_lack ns h.1)
+names_lack (n ∷ ns) h = (name_bytes n (name_passes n h.0), names_lack ns h.1)
 
 -- ---- presentations and questions
 

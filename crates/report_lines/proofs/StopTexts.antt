@@ -1,5 +1,5 @@
 -- The texts of stops.
-use Rattle.std.proofs.Common.{◌≡◌, ℕ, List, [], ◌∷◌, ◌++◌, length, drop, Some, None, Result, Ok, Err, codes, decimal, refl, sym, ap, subst, ◌∙◌}
+use Rattle.std.proofs.Common.{◌≡◌, ℕ, List, ◌++◌, length, drop, Some, None, Ok, Err, codes, decimal, refl, sym, ap, subst, ◌∙◌}
 use Rattle.spelling.specs.Spelling.{IsRead, IsSmall}
 use Rattle.presentation.proofs.WritingBack.{AreNames}
 use Rattle.module_vec.specs.declared.places.Place.{Place}

@@ -1,5 +1,5 @@
 -- The texts of kinds and tasks.
-use Rattle.std.proofs.Common.{◌≡◌, ℕ, List, [], ◌∷◌, ◌++◌, Some, None, codes, decimal, refl, sym, ap, ◌∙◌, append_assoc}
+use Rattle.std.proofs.Common.{◌≡◌, ℕ, List, Some, None, codes, decimal, refl, sym, ◌∙◌, append_assoc}
 use Rattle.spelling.specs.Spelling.{IsRead, IsSmall}
 use Rattle.spelling.proofs.Lacking.{Lacks}
 use Rattle.vector_text.proofs.Parts.{IsApart}

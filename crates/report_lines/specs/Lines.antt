@@ -1,5 +1,5 @@
 -- What a line of a report over a presentation is.
-use Rattle.std.specs.Prelude.{ℕ, ◌<◌, ◌≤◌, List, length}
+use Rattle.std.specs.Prelude.{ℕ, ◌<◌, ◌≤◌, length}
 use Rattle.spelling.specs.Spelling.{IsSmall}
 use Rattle.presentation.specs.Presented.{Presented}
 use Rattle.module_vec.specs.declared.faults.Stop.{Stop}

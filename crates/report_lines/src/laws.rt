@@ -7,6 +7,7 @@ ghost use Rattle.report_lines.specs.Texts.{line_text};
 ghost use Rattle.report_lines.specs.Lines.{IsLineOf};
 
 /// A text is that of one line.
+#[tactic(auto, using(crate::proofs::ReadingBack::one_line))]
 pub fn one_line()
     ensures { (p : Presented) (l m : Line) → IsPresented p → IsLineOf p l → IsLineOf p m → line_text p l ≡ line_text p m → l ≡ m }
 {}

@@ -17,11 +17,7 @@ use step_text::read_steps;
 use vector_text::{SpellFault, read_vector};
 
 /// The line over the presentation that the text spells. `None` exactly where it is the text of no such line.
-pub fn read_line(
-    alloc: Global,
-    p: &Presentation,
-    text: &[u8],
-) -> Result<Option<Line>, AllocError>
+pub fn read_line(alloc: Global, p: &Presentation, text: &[u8]) -> Result<Option<Line>, AllocError>
     ensures { IfOk result (λ line. IsRead (line_text p.now) (IsLineOf p.now) text.now line) }
 {
     match line_of(alloc, p, text) {
