@@ -76,15 +76,67 @@ fn generators_have_their_entries(rt: HostRuntime) -> Result<(), Fail> {
 }
 
 /// The list of the generators' entries.
-fn list(alloc: Global, p: &Arc<Presentation>) -> Result<EntryList, Fail> {
+fn list(alloc: Global, p: &Arc<Presentation>) -> Result<EntryList, Fail>
+    ensures { IfOk result (AreOf (arc_value p.now)) }
+{
     let mut list = EntryList::new(alloc);
     for entry in &Entry::base(alloc, p)? {
-        if list.count() > 100 {
-            return Err(Fail::from("too many"));
-        }
-        list.push(Arc::try_clone(entry)?)?;
+        put(&mut list, p, entry)?;
     }
     Ok(list)
+}
+
+/// Puts the entry at the end, which is of the presentation.
+fn put(list: &mut EntryList, p: &Arc<Presentation>, entry: &Arc<Entry>) -> Result<(), Fail>
+    requires { AreOf (arc_value p.now) list.old }
+    ensures { IfOk result (λ _. AreOf (arc_value p.now) list.new) }
+{
+    if list.count() > 100 || !entry.presentation().same(p) {
+        return Err(Fail::from("no entry of the presentation"));
+    }
+    list.push(Arc::try_clone(entry)?)?;
+    Ok(())
+}
+
+/// The entry that is once the entry with this number.
+fn once(
+    alloc: Global,
+    p: &Arc<Presentation>,
+    list: &EntryList,
+    at: u32,
+) -> Result<Arc<Entry>, Fail>
+    requires list { AreOf (arc_value p.now) list.now }
+    requires at { at < length (vectors_of list.now) }
+{
+    let vector = ModVec::of_falling(list.vector(at).terms().to_vec(alloc)?);
+    let mut steps = Vec::new(alloc);
+    steps.push(Step {
+        q: 1,
+        t: Mono::one(),
+        by: at,
+    })?;
+    Ok(Entry::sum(alloc, p, list, vector, Steps::of(steps))?)
+}
+
+#[test]
+fn sums_have_their_steps(rt: HostRuntime) -> Result<(), Fail> {
+    let alloc = rt.alloc();
+    let p = presentation(alloc, "<a,b|>")?;
+    let list = list(alloc, &p)?;
+    if list.count() != 4 {
+        return Err(Fail::from("no four entries"));
+    }
+    let entry = once(alloc, &p, &list, 2)?;
+    assert!(rt; entry.vector().terms() == list.vector(2).terms());
+    assert!(rt; entry.presentation().same(&p));
+    assert!(rt; !entry.same(list.entry(2)));
+    match entry.recipe() {
+        Recipe::Sum { steps } => {
+            assert!(rt; steps.steps() == &[Step { q: 1, t: Mono::one(), by: 2 }][..]);
+        }
+        Recipe::Gen { .. } => assert!(rt; false),
+    }
+    Ok(())
 }
 
 #[test]
