@@ -99,12 +99,7 @@ fn put(list: &mut EntryList, p: &Arc<Presentation>, entry: &Arc<Entry>) -> Resul
 }
 
 /// The entry that is once the entry with this number.
-fn once(
-    alloc: Global,
-    p: &Arc<Presentation>,
-    list: &EntryList,
-    at: u32,
-) -> Result<Arc<Entry>, Fail>
+fn once(alloc: Global, p: &Arc<Presentation>, list: &EntryList, at: u32) -> Result<Arc<Entry>, Fail>
     requires list { AreOf (arc_value p.now) list.now }
     requires at { at < length (vectors_of list.now) }
 {
@@ -132,7 +127,14 @@ fn sums_have_their_steps(rt: HostRuntime) -> Result<(), Fail> {
     assert!(rt; !entry.same(list.entry(2)));
     match entry.recipe() {
         Recipe::Sum { steps } => {
-            assert!(rt; steps.steps() == &[Step { q: 1, t: Mono::one(), by: 2 }][..]);
+            assert!(rt;
+                steps.steps()
+                    == &[Step {
+                        q: 1,
+                        t: Mono::one(),
+                        by: 2
+                    }][..]
+            );
         }
         Recipe::Gen { .. } => assert!(rt; false),
     }
