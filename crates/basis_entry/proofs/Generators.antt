@@ -1,5 +1,5 @@
 -- The generators of a module: they aren't zero, they lie in it, and there are few of them.
-use Rattle.std.proofs.Common.{◌≡◌, ◌≢◌, ℕ, zero, suc, ◌+◌, ◌*◌, ◌<◌, ◌≤◌, ◌==◌, Bool, true, false, if◌then◌else◌, ℤ, pos, ◌+ℤ◌, ◌*ℤ◌, List, [], ◌∷◌, ◌++◌, length, map, sum_by, length-append, refl, sym, ap, subst, ◌∙◌, arith}
+use Rattle.std.proofs.Common.{◌≡◌, ◌≢◌, ℕ, zero, suc, ◌*◌, ◌<◌, ◌≤◌, ◌==◌, Bool, true, false, if◌then◌else◌, ℤ, pos, ◌+ℤ◌, ◌*ℤ◌, List, [], ◌∷◌, ◌++◌, length, map, length-append, refl, sym, ap, ◌∙◌, arith}
 use borrow.Author.Differences.{ints}
 use Rattle.std.proofs.lemmas.List.{length-map}
 use Rattle.std.proofs.lemmas.List.FromFn.{length-range_with_len}
@@ -37,7 +37,7 @@ rename_one : (v : List Term) → AllByRecursion IsTerm v → rename (moved one) 
 rename_one [] h = refl
 rename_one (t ∷ v) h = λ n. (t.k, record { m = product-one t.at.m h.0.place.variables n; c = t.at.c }) ∷ rename_one v h.1 n
 
-once : (v : List Term) → AllByRecursion IsTerm v → (x : Place) → coefficient_at v x ≡ coefficient same_place (multiple (pos 1) one v ++ []) x
+pub once : (v : List Term) → AllByRecursion IsTerm v → (x : Place) → coefficient_at v x ≡ coefficient same_place (multiple (pos 1) one v ++ []) x
 once v h x =
     let first = coefficient-append same_place (multiple (pos 1) one v) [] x in
     let scaled = coefficient-scale same_place (pos 1) (rename (moved one) (sum_of v)) x in
@@ -88,10 +88,19 @@ length-candidates p h =
     let c = length-pieces (λ (g : ℕ). map (binomial (unit_monomial g)) (components p)) (components p) (λ g. length-each p (binomial (unit_monomial g)) h) in
     let d = length-modulus p h (p.modulus == 0) in
     let n = length-components p in
-    omega (arith, a, b, c, d, n, h.few_names, h.few_relators,
-    length-append (relator_vectors p) (relator_binomials p ++ (unit_binomials p ++ modulus_vectors p)),
-    length-append (relator_binomials p) (unit_binomials p ++ modulus_vectors p),
-    length-append (unit_binomials p) (modulus_vectors p))
+    omega (
+      arith,
+      a,
+      b,
+      c,
+      d,
+      n,
+      h.few_names,
+      h.few_relators,
+      length-append (relator_vectors p) (relator_binomials p ++ (unit_binomials p ++ modulus_vectors p)),
+      length-append (relator_binomials p) (unit_binomials p ++ modulus_vectors p),
+      length-append (unit_binomials p) (modulus_vectors p),
+    )
 
 pub few_generators : (p : Presented) (gens : List (List Term)) → IsPresented p → AreGenerators p gens → length gens ≤ BASE
 few_generators p gens h are = omega (arith, length-written (candidates p) gens are, length-candidates p h)

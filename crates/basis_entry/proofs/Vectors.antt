@@ -1,12 +1,11 @@
 -- Vectors with positive leads, and lists of entries as lists of vectors.
-use Rattle.std.proofs.Common.{◌≡◌, ◌≢◌, ℕ, Bool, true, false, ℤ, pos, negsuc, neg_ℤ, ◌*ℤ◌, MatchBool, List, [], ◌∷◌, refl, sym, ap, subst, ◌∙◌, arith}
+use Rattle.std.proofs.Common.{◌≡◌, ◌≢◌, ℕ, Bool, true, false, ℤ, pos, negsuc, ◌*ℤ◌, MatchBool, List, [], ◌∷◌, refl, sym, ap, subst, ◌∙◌, arith}
 use borrow.Author.Differences.{ints}
 use Rattle.std.proofs.lemmas.Option.{slice_get-map}
 use Rattle.std.specs.Int.{is_negative}
 use Rattle.std.specs.List.{AllByRecursion}
 use Rattle.std.specs.Option.{option_map}
-use Rattle.std.specs.Prelude.{◌<ℤ◌, int_lt, Some, slice_get}
-use Rattle.std.proofs.lemmas.Int.{by_lt_z}
+use Rattle.std.specs.Prelude.{◌<ℤ◌, Some, slice_get}
 use Rattle.presentation.specs.Presented.{Presented}
 use Rattle.formal_sums.specs.FormalSum.{scale}
 use Rattle.module_vec.specs.declared.places.Place.{Place}

@@ -1,5 +1,5 @@
 -- The index as a whole: one more lead, and what a search along the candidates finds among the leads.
-use Rattle.std.proofs.Common.{◌≡◌, ℕ, zero, suc, ◌+◌, ◌<◌, ◌≤◌, ◌^◌, List, [], ◌∷◌, ◌++◌, length, take, drop, length-append, append_assoc, ◌⊎◌, inl, inr, refl, sym, ap, subst, ◌∙◌, arith}
+use Rattle.std.proofs.Common.{◌≡◌, ℕ, zero, suc, ◌+◌, ◌<◌, ◌≤◌, ◌^◌, List, [], ◌∷◌, ◌++◌, length, take, drop, length-append, append_assoc, ◌⊎◌, inl, inr, sym, ap, subst, ◌∙◌, arith}
 use borrow.Author.Differences.{ints}
 use Rattle.std.proofs.lemmas.List.{take-append-drop}
 use Rattle.std.proofs.lemmas.Option.{slice_get_within}
@@ -8,10 +8,10 @@ use Rattle.std.specs.List.{AllByRecursion, insert}
 use Rattle.module_vec.specs.declared.places.Place.{Place}
 use Rattle.module_vec.specs.declared.places.Term.{Term}
 use Rattle.module_vec.specs.Reducers.{Reduces, GoesBefore}
-use Rattle.module_vec.proofs.Scans.{read_push, read_push_old}
+use Rattle.module_vec.proofs.Scans.{read_push_old}
 use Rattle.reducer_index.specs.declared.candidates.Candidate.{Candidate}
 use Rattle.reducer_index.specs.Candidates.{IsCandidateOf, Precedes, IsInOrder, HasNumber, IsIndex, IsReducing, IsPassed, IsFound, FindsFirst, BeginsAt}
-use Rattle.reducer_index.specs.Leads.{IsFirst, FindsLead}
+use Rattle.reducer_index.specs.Leads.{FindsLead}
 use Rattle.reducer_index.proofs.Leading.{taken_read, read_taken}
 use Rattle.reducer_index.proofs.Searching.{all_append, all_insert, all_weaker, same_lead, other_component}
 
@@ -122,11 +122,14 @@ module _ (es : List Term) (front : ℕ) (p : Place) (xs : List Candidate) (withi
         by (inr (equal, before)) = by_coefficient before
 
     one_found : FindsLead (take front es) p (Some x.number)
-    one_found = (e, record {
-      lead = read_taken front es x.number e below reducing.1;
-      reduces = reducing.2;
-      first = λ j f read reduces. by j f (taken_read front es j f read) reduces;
-    })
+    one_found = (
+      e,
+      record {
+        lead = read_taken front es x.number e below reducing.1;
+        reduces = reducing.2;
+        first = λ j f read reduces. by j f (taken_read front es j f read) reduces;
+      },
+    )
       where
         at_behind : (j : ℕ) (f : Term) → j < front → slice_get es j ≡ Some f → Reduces f p → HasNumber j (x ∷ others) → GoesBefore e.k x.number f.k j
         at_behind j f lt read reduces (inl here) =

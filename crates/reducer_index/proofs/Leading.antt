@@ -1,11 +1,11 @@
 -- The leads of a list, and the reducer among them.
-use Rattle.std.proofs.Common.{◌≡◌, ℕ, zero, suc, ◌+◌, ◌<◌, ◌≤◌, List, [], ◌∷◌, ◌++◌, length, map, take, refl, sym, ap, subst, ◌∙◌, arith}
+use Rattle.std.proofs.Common.{◌≡◌, ℕ, zero, suc, ◌<◌, List, [], ◌∷◌, ◌++◌, length, map, take, refl, sym, ap, subst, ◌∙◌, arith}
 use Rattle.std.proofs.lemmas.List.{map-append, length-map}
 use Rattle.std.specs.Prelude.{Option, Some, None, slice_get}
 use Rattle.module_vec.specs.declared.places.Place.{Place}
 use Rattle.module_vec.specs.declared.places.Term.{Term}
-use Rattle.module_vec.specs.Reducers.{AreEntries, Entry, Reduces, GoesBefore, IsReducer, FindsReducer}
-use Rattle.reducer_index.specs.Leads.{lead_of, AreLeads, IsFirst, FindsLead}
+use Rattle.module_vec.specs.Reducers.{AreEntries, Entry, FindsReducer}
+use Rattle.reducer_index.specs.Leads.{lead_of, AreLeads, FindsLead}
 
 pub leads_more : (b : List (List Term)) (es : List Term) (e : Term) (g : List Term) → AreLeads b es → AreLeads (b ++ (e ∷ g) ∷ []) (es ++ e ∷ [])
 leads_more b es e g h = ap (λ (l : List Term). l ++ e ∷ []) h ∙ sym (map-append lead_of b ((e ∷ g) ∷ []))
@@ -50,12 +50,15 @@ entry_read (v ∷ b) h (suc i) e read = entry_read b h.1 i e read
 reducer_by : (b : List (List Term)) (p : Place) → AreEntries b → (r : Option ℕ) → FindsLead (map lead_of b) p r → FindsReducer b p r
 reducer_by b p h None none = λ i e g entry reduces. none i e (lead_read b i e g entry) reduces
 reducer_by b p h (Some i) (e, is) =
-    let own = entry_read b h i e is.lead in
-    (e, own.0, record {
-      entry = own.1;
-      reduces = is.reduces;
-      first = λ j f g entry reduces. is.first j f (lead_read b j f g entry) reduces;
-    })
+    let own = entry_read b h i e is.lead in (
+      e,
+      own.0,
+      record {
+        entry = own.1;
+        reduces = is.reduces;
+        first = λ j f g entry reduces. is.first j f (lead_read b j f g entry) reduces;
+      },
+    )
 
 -- what is found among the leads is found among the vectors
 pub reducer_of_leads : (b : List (List Term)) (es : List Term) (front : ℕ) (p : Place) (r : Option ℕ) → AreEntries b → AreLeads b es → FindsLead (take front es) p r → FindsReducer (take front b) p r

@@ -3,12 +3,12 @@ use Rattle.std.proofs.Common.{◌≡◌, ◌≢◌, ℕ, zero, suc, ◌+◌, ◌
 use borrow.Author.Differences.{ints}
 use Rattle.std.proofs.lemmas.Bool.Decides.{nat_tests}
 use Rattle.std.proofs.lemmas.List.{take_more, take_all, take-append-drop}
-use Rattle.std.specs.Prelude.{◌<ℤ◌, ◌≤ℤ◌, int_le, Option, Some, None, slice_get}
+use Rattle.std.specs.Prelude.{◌<ℤ◌, ◌≤ℤ◌, int_le, Some, slice_get}
 use Rattle.std.specs.List.{AllByRecursion, insert}
 use Rattle.std.specs.List.Sorted.{IsPartitionedBy}
 use Rattle.module_vec.specs.declared.places.Place.{Place}
 use Rattle.module_vec.specs.declared.places.Term.{Term}
-use Rattle.module_vec.specs.Reducers.{Reduces, GoesBefore}
+use Rattle.module_vec.specs.Reducers.{GoesBefore}
 use Rattle.module_vec.proofs.FallingTerms.{drop_read}
 use Rattle.module_vec.proofs.Lookups.{all_read}
 use Rattle.reducer_index.specs.declared.candidates.Candidate.{Candidate}
@@ -252,7 +252,7 @@ module _ (es : List Term) (front : ℕ) (p : Place) (xs : List Candidate) (i : �
       let own : p.c ≤ x.component = above.0 in
       let others : AllByRecursion (IsPassed es front p) (drop (i + 1) xs) =
       all_both (IsCandidateOf es) (Precedes x) (IsPassed es front p) (drop (i + 1) xs)
-          (λ y c before. other_component es front p y c (λ e. other (back x.component y.component p.c own (component_rises x y before) e))) candidates.1 (behind_x order) in
+      (λ y c before. other_component es front p y c (λ e. other (back x.component y.component p.c own (component_rises x y before) e))) candidates.1 (behind_x order) in
       subst (AllByRecursion (IsPassed es front p)) (sym split_here)
       (all_append (IsPassed es front p) (take i xs) (x ∷ drop (i + 1) xs) passed (other_component es front p x candidates.0 other, others))
     where

@@ -1,13 +1,13 @@
-use Rattle.std.proofs.Common.{rules, arith, ◌≡◌, ◌+◌, ◌∷◌, [], ◌++◌, List, length, map, length-append, append_assoc, sym, ap, subst, ◌∙◌}
+use Rattle.std.proofs.Common.{rules, arith, ◌≡◌, ◌∷◌, [], ◌++◌, List, length, map, length-append, append_assoc, sym, ap, subst, ◌∙◌}
 use Rattle.std.proofs.lemmas.List.{map-append}
 use Rattle.std.specs.Arc.{arc_value}
-use Rattle.std.specs.Vec.Iter.{into_iter_items, into_iter_len}
+use Rattle.std.specs.Vec.Iter.{into_iter_items}
 use Rattle.presentation.specs.Presented.{Presented, IsPresented}
 use Rattle.module_vec.specs.declared.places.Term.{Term}
 use Rattle.fox_calculus.specs.Generators.{AreGenerators}
 use Rattle.basis_entry.specs.Base.{IsOfGenerator}
 use Rattle.basis_entry.specs.Entries.{BasisEntry}
-use Rattle.basis_entry.proofs.Growing.{AreOfGenerators, of_none, of_more, next_some, next_member, next_few, all_taken}
+use Rattle.basis_entry.proofs.Growing.{AreOfGenerators, of_more, next_some, next_member, next_few, all_taken}
 use Rattle.basis_entry.proofs.base.generator_entries.Goals as goal
 
 pub generator_entry-requires-clause-some : goal.generator_entry-requires-clause-some

@@ -1,6 +1,6 @@
-use Rattle.std.proofs.Common.{◌≡◌, Bool, true, sym, ◌∙◌, rules}
+use Rattle.std.proofs.Common.{◌≡◌, true, rules}
 use Rattle.basis_entry.specs.Base.{has_negative_lead}
-use Rattle.basis_entry.proofs.Vectors.{turned_entry, positive_entry}
+use Rattle.basis_entry.proofs.Vectors.{turned_entry}
 use Rattle.basis_entry.proofs.base.with_positive_lead.Goals as goal
 
 pub returns-clause-entry : goal.returns-clause-entry

@@ -2,7 +2,7 @@ use Rattle.std.proofs.Common.{arith, rules, ◌≡◌, ◌≢◌, get_or, pos}
 use Rattle.std.proofs.lemmas.Bool.Decides.{nat_tests}
 use Rattle.reducer_index.specs.declared.candidates.Candidate.{Candidate}
 use Rattle.reducer_index.specs.Candidates.{IsReducing}
-use Rattle.reducer_index.proofs.Searching.{any_default, all_passed, found_here, pass_more}
+use Rattle.reducer_index.proofs.Searching.{any_default, all_passed, found_here}
 use Rattle.reducer_index.proofs.search.first_reducer.Goals as goal
 
 -- the candidate that the code reads past the end

@@ -1,4 +1,4 @@
-use Rattle.std.proofs.Common.{arith, rules, ◌≡◌, bit_and}
+use Rattle.std.proofs.Common.{arith, ◌≡◌, bit_and}
 use Rattle.std.proofs.lemmas.Bool.Decides.{nat_tests}
 use Rattle.reducer_index.proofs.Searching.{mask_passes}
 use Rattle.reducer_index.proofs.candidates.Candidate.reduces.Goals as goal

@@ -1,4 +1,4 @@
-use Rattle.std.proofs.Common.{List, ◌≡◌, ◌≤◌, ◌∙◌, length, take, sym, ap, subst}
+use Rattle.std.proofs.Common.{List, ◌≡◌, ◌≤◌, ◌∙◌, length, take, sym, subst}
 use Rattle.module_vec.specs.declared.places.Term.{Term}
 use Rattle.reducer_index.specs.declared.candidates.Candidate.{Candidate}
 use Rattle.reducer_index.specs.Candidates.{IsIndex}

@@ -1,0 +1,31 @@
+use Rattle.std.proofs.Common.{rules, ◌≡◌, ℕ, pos, List, [], ◌∷◌, ◌++◌, sym, ap, subst, ◌∙◌}
+use Rattle.std.proofs.lemmas.Option.{get_or_from_slice_get}
+use Rattle.std.specs.List.{AllByRecursion}
+use Rattle.std.specs.Prelude.{Some, slice_get}
+use Rattle.formal_sums.specs.FormalSum.{coefficient}
+use Rattle.laurent_terms.specs.Monomials.{one}
+use Rattle.module_vec.specs.declared.places.Place.{Place}
+use Rattle.module_vec.specs.declared.places.Term.{Term}
+use Rattle.module_vec.specs.declared.steps.Step.{Step}
+use Rattle.module_vec.specs.Modules.{steps_at}
+use Rattle.module_vec.specs.Places.{same_place}
+use Rattle.module_vec.specs.Vectors.{coefficient_at, multiple, IsTerm}
+use Rattle.basis_entry.specs.Entries.{vectors_of}
+use Rattle.basis_entry.proofs.Generators.{once}
+use Rattle.basis_entry.proofs.tests.once.Goals as goal
+
+once_is : (b : List (List Term)) (at : ℕ) (v : List Term) (steps : List Step) → slice_get b at ≡ Some v → steps ≡ record { q = pos 1; t = one; by = at } ∷ [] → AllByRecursion IsTerm v
+    → (x : Place) → coefficient_at v x ≡ steps_at b steps x
+once_is b at v steps read is terms x =
+    once v terms x
+    ∙ ap (λ (w : List Term). coefficient same_place (multiple (pos 1) one w ++ []) x) (sym (get_or_from_slice_get b at v [] read))
+    ∙ ap (λ (ss : List Step). steps_at b ss x) (sym is)
+
+pub sum-requires-clause-value : goal.sum-requires-clause-value
+sum-requires-clause-value c =
+    let v : List Term = c.vector.result.now in
+    let same : c.of_falling-vector.result ≡ v = search rules in
+    let is : c.of.result ≡ record { q = pos 1; t = one; by = c.args.at } ∷ [] = search rules in
+    let terms : AllByRecursion IsTerm v = search rules in
+    subst (λ (w : List Term). (x : Place) → coefficient_at w x ≡ steps_at (vectors_of c.args.list.now) c.of.result x) (sym same)
+    (once_is (vectors_of c.args.list.now) c.args.at v c.of.result c.vector.ensures.is is terms)
