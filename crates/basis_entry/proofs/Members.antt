@@ -12,12 +12,14 @@ use Rattle.laurent_terms.proofs.Division.{product_assoc}
 use Rattle.module_vec.specs.declared.places.Place.{Place}
 use Rattle.module_vec.specs.declared.places.Term.{Term}
 use Rattle.module_vec.specs.declared.steps.Step.{Step}
-use Rattle.module_vec.specs.Modules.{vector_at, sum_of_steps, steps_at, AreSteps}
+use Rattle.module_vec.specs.Modules.{vector_at, sum_of_steps, steps_at, AreSteps, InModule}
 use Rattle.module_vec.specs.Places.{same_place, moved}
 use Rattle.module_vec.specs.Results.{Has}
-use Rattle.module_vec.specs.Vectors.{sum_of, multiple}
+use Rattle.module_vec.specs.Vectors.{sum_of, coefficient_at, multiple}
 use Rattle.module_vec.proofs.Order.{test}
+use Rattle.fox_calculus.specs.Generators.{AreGenerators}
 use Rattle.fox_calculus.specs.Module.{IsGenerator, HasVariables, IsMember}
+use Rattle.fox_calculus.proofs.Members.{member_listed}
 use Rattle.basis_entry.specs.Entries.{BasisEntry, IsBasisEntry, AreOf, vectors_of}
 
 length-product : (s t : List ℕ) → length s ≡ VARIABLES → length t ≡ VARIABLES → length (product s t) ≡ VARIABLES
@@ -50,3 +52,8 @@ module _ (p : Presented) where
   value_member es b ss v are all of steps is =
       let each : (i : ℕ) → i < length b → IsMember p (sum_of (vector_at b i)) = subst (λ (w : List (List Term)). (i : ℕ) → i < length w → IsMember p (sum_of (vector_at w i))) (sym are) (entry_member es all of) in
       spanned_same same_place moved HasVariables (IsGenerator p) (sum_of v) (sum_of_steps b ss) is (sum_member b each ss steps)
+
+-- the vectors of entries over the list of generators
+pub entries_listed : (p : Presented) (gens : List (List Term)) (es : List BasisEntry) → AreGenerators p gens → AllByRecursion IsBasisEntry es → AreOf p es
+    → (j : ℕ) → j < length (vectors_of es) → InModule gens (coefficient_at (vector_at (vectors_of es) j))
+entries_listed p gens es are all of j lt = member_listed p gens (sum_of (vector_at (vectors_of es) j)) are (entry_member p es all of j lt)

@@ -1,4 +1,14 @@
-//! Laws, as functions that do nothing.
+//! Laws, as functions that do nothing: what each says is its contract.
+
+ghost use Rattle.std.specs.List.{AllByRecursion};
+ghost use Rattle.std.specs.Prelude.{ℕ, ◌<◌, List, length};
+ghost use Rattle.presentation.specs.Presented.{Presented};
+ghost use Rattle.module_vec.specs.declared.places.Term.{Term};
+ghost use Rattle.module_vec.specs.Modules.{vector_at, InModule};
+ghost use Rattle.module_vec.specs.Reducers.{AreEntries};
+ghost use Rattle.module_vec.specs.Vectors.{coefficient_at};
+ghost use Rattle.fox_calculus.specs.Generators.{AreGenerators};
+ghost use Rattle.basis_entry.specs.Entries.{BasisEntry, IsBasisEntry, AreOf, vectors_of};
 
 use crate::{Entry, EntryList, Sealed};
 use presentation::Presentation;
@@ -10,5 +20,15 @@ pub fn entries_are_shared_by_threads() {
     is_shared::<EntryList>();
     is_shared::<Sealed>();
 }
+
+/// The vectors of entries have positive lead coefficients, and those of entries of one presentation are sums of multiples
+/// of its listed generators.
+#[tactic(auto, using(crate::proofs::Vectors::are_entries, crate::proofs::Members::entries_listed))]
+pub fn entries_lie_in_their_module()
+    ensures positive { (es : List BasisEntry) → AllByRecursion IsBasisEntry es → AreEntries (vectors_of es) }
+    ensures sums { (p : Presented) (gens : List (List Term)) (es : List BasisEntry) → AreGenerators p gens →
+        AllByRecursion IsBasisEntry es → AreOf p es → (j : ℕ) → j < length (vectors_of es) →
+        InModule gens (coefficient_at (vector_at (vectors_of es) j)) }
+{}
 
 fn is_shared<T: Send + Sync>() {}
