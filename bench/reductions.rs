@@ -344,7 +344,11 @@ fn main() {
         }
         let a = Term { at: Place { m: Mono::powers(&[(0, 1)]), c: 0 }, k: 1 };
         let b = Term { at: Place { m: Mono::powers(&[(2, 1)]), c: 0 }, k: -1 };
-        let high = (0..333).map(|k| Term { at: Place { m: Mono::powers(&[(0, 300), (4, k)]), c: 0 }, k: 1 });
-        time(reduce, &[vec![a, b]], &vector(high.collect()), 1);
+        for beside in [0, 200] {
+            let high = (0..333).map(|k| Mono::powers(&[(0, 300), (4, k)]));
+            let low = (0..beside).flat_map(|i| (0..beside).map(move |j| Mono::powers(&[(4, i), (6, j)])));
+            let all = high.chain(low).map(|m| Term { at: Place { m, c: 0 }, k: 1 });
+            time(reduce, &[vec![a, b]], &vector(all.collect()), 1);
+        }
     }
 }
