@@ -1,5 +1,6 @@
-//! The cases of reductions.rattle in plain Rust, by an ordered map of the whole vector that each step changes in place,
-//! and by a sorted vector that each step merges with the multiple anew.
+//! The cases of reductions.rattle in plain Rust: as the crate does it, by an ordered map of the changed places beside the
+//! terms that were given; by an ordered map of the whole vector, which each step changes in place; and by a sorted vector,
+//! which each step merges with the multiple anew.
 
 use std::cmp::Ordering;
 use std::collections::BTreeMap;
@@ -108,6 +109,72 @@ fn due(list: &[Vec<Term>], top: &Term) -> Option<Step> {
         return None;
     }
     Some(Step { q, t: top.at.m.quotient(&lead.at.m), by })
+}
+
+/// The coefficient at the place among terms that fall.
+fn coefficient(terms: &[Term], at: &Place) -> i128 {
+    match terms.binary_search_by(|t| at.cmp(&t.at)) {
+        Ok(i) => terms[i].k,
+        Err(_) => 0,
+    }
+}
+
+/// The greatest place that is given or changed, with its coefficient.
+fn pop<'a>(given: &mut &'a [Term], changed: &mut BTreeMap<Place, i128>) -> Option<Term> {
+    if let Some((first, others)) = given.split_first() {
+        if changed.last_key_value().is_none_or(|(last, _)| first.at > *last) {
+            *given = others;
+            return Some(*first);
+        }
+    }
+    let (at, k) = changed.pop_last()?;
+    if let Some((first, others)) = given.split_first() {
+        if first.at == at {
+            *given = others;
+        }
+    }
+    Some(Term { at, k })
+}
+
+fn by_changes(list: &[Vec<Term>], v: &[Term]) -> Answer {
+    let mut given = v;
+    let mut changed: BTreeMap<Place, i128> = BTreeMap::new();
+    let mut count = v.len();
+    let mut rest = Vec::new();
+    let mut steps = Vec::new();
+    while let Some(top) = pop(&mut given, &mut changed) {
+        if top.k == 0 {
+            continue;
+        }
+        count -= 1;
+        let Some(step) = due(list, &top) else {
+            rest.push(top);
+            continue;
+        };
+        let entry = &list[step.by];
+        let left = checked_difference(top.k, checked_product(step.q, entry[0].k)?)?;
+        let mut changes = Vec::with_capacity(entry.len() - 1);
+        for u in &entry[1..] {
+            let at = Place { m: step.t.product(&u.at.m), c: u.at.c };
+            let before = match changed.get(&at) {
+                Some(k) => *k,
+                None => coefficient(given, &at),
+            };
+            changes.push((at, before, checked_difference(before, checked_product(step.q, u.k)?)?));
+        }
+        for (at, before, after) in changes {
+            changed.insert(at, after);
+            count = count + usize::from(after != 0) - usize::from(before != 0);
+        }
+        if left != 0 {
+            rest.push(Term { at: top.at, k: left });
+        }
+        steps.push(step);
+        if steps.len() > 100_000 || rest.len() + count > 50_000 {
+            return None;
+        }
+    }
+    Some((rest, steps))
 }
 
 fn by_map(list: &[Vec<Term>], v: &[Term]) -> Answer {
@@ -248,18 +315,19 @@ fn time(reduce: fn(&[Vec<Term>], &[Term]) -> Answer, list: &[Vec<Term>], v: &[Te
 /// Entries, their terms and the degree of their leads; terms, their degree, variables and rounds.
 const CASES: [[u32; 7]; 7] = [
     [2, 4, 3, 10, 6, 4, 20_000],
-    [4, 8, 3, 50, 6, 6, 5_000],
+    [4, 8, 3, 100, 6, 6, 2_500],
     [2, 8, 4, 200, 6, 6, 2_000],
-    [4, 8, 3, 500, 7, 8, 500],
+    [4, 8, 3, 1_000, 7, 8, 250],
     [2, 60, 4, 500, 7, 8, 500],
     [2, 8, 4, 2_000, 8, 8, 100],
-    [2, 8, 4, 20_000, 9, 10, 10],
+    [2, 8, 4, 10_000, 9, 10, 20],
 ];
 
 fn main() {
     let reduce = match std::env::args().nth(1).as_deref() {
         Some("merges") => by_merges,
-        _ => by_map,
+        Some("map") => by_map,
+        _ => by_changes,
     };
     for _ in 0..3 {
         for [entries, entry_terms, lead_degree, count, degree, variables, rounds] in CASES {
@@ -276,7 +344,11 @@ fn main() {
         }
         let a = Term { at: Place { m: Mono::powers(&[(0, 1)]), c: 0 }, k: 1 };
         let b = Term { at: Place { m: Mono::powers(&[(2, 1)]), c: 0 }, k: -1 };
-        let high = (0..333).map(|k| Term { at: Place { m: Mono::powers(&[(0, 300), (4, k)]), c: 0 }, k: 1 });
-        time(reduce, &[vec![a, b]], &vector(high.collect()), 1);
+        for beside in [0, 200] {
+            let high = (0..333).map(|k| Mono::powers(&[(0, 300), (4, k)]));
+            let low = (0..beside).flat_map(|i| (0..beside).map(move |j| Mono::powers(&[(4, i), (6, j)])));
+            let all = high.chain(low).map(|m| Term { at: Place { m, c: 0 }, k: 1 });
+            time(reduce, &[vec![a, b]], &vector(all.collect()), 1);
+        }
     }
 }
