@@ -324,7 +324,8 @@ const CASES: [[u32; 7]; 7] = [
 ];
 
 fn main() {
-    let reduce = match std::env::args().nth(1).as_deref() {
+    let form = std::env::args().nth(1);
+    let reduce = match form.as_deref() {
         Some("merges") => by_merges,
         Some("map") => by_map,
         _ => by_changes,
@@ -345,6 +346,11 @@ fn main() {
         let a = Term { at: Place { m: Mono::powers(&[(0, 1)]), c: 0 }, k: 1 };
         let b = Term { at: Place { m: Mono::powers(&[(2, 1)]), c: 0 }, k: -1 };
         for beside in [0, 200] {
+            // Each merge would copy all of the 40,000 terms.
+            if beside > 0 && form.as_deref() == Some("merges") {
+                println!("reduce 0 none");
+                continue;
+            }
             let high = (0..333).map(|k| Mono::powers(&[(0, 300), (4, k)]));
             let low = (0..beside).flat_map(|i| (0..beside).map(move |j| Mono::powers(&[(4, i), (6, j)])));
             let all = high.chain(low).map(|m| Term { at: Place { m, c: 0 }, k: 1 });
