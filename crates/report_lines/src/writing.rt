@@ -2,10 +2,12 @@
 
 ghost use Rattle.std.specs.Prelude.{◌≡◌, ◌++◌, codes, decimal, length, IfOk, OnOk};
 ghost use Rattle.session_text.specs.Questions.{IsQuestion};
+ghost use Rattle.step_text.specs.Spelling.{steps_text};
+ghost use Rattle.step_text.specs.Over.{StepsAreOver};
 ghost use Rattle.vector_text.specs.Over.{VectorIsOver};
 ghost use Rattle.vector_text.specs.Spelling.{vector_text};
-ghost use Rattle.report_lines.specs.Texts.{spaced, coloned, made_text, answer_text, line_text};
-ghost use Rattle.report_lines.specs.Lines.{MadeIsOver, VerdictIsOver, LineIsOver, IsLineOf};
+ghost use Rattle.report_lines.specs.Texts.{spaced, coloned, made_text, end_text, answer_text, line_text};
+ghost use Rattle.report_lines.specs.Lines.{MadeIsOver, EndIsOver, VerdictIsOver, LineIsOver, IsLineOf};
 ghost use Rattle.report_lines.specs.Reading.{IsLineReadBack};
 
 use crate::answers::put_answer;
@@ -13,14 +15,16 @@ use crate::ends::put_end;
 use crate::made::put_made;
 use crate::{Line, Made};
 use module_vec::ModVec;
+use outcomes::{End, Verdict};
 use presentation::Presentation;
+use session_text::Question;
 use spelling::write_number;
 use std::alloc::{AllocError, Global};
+use step_lists::Steps;
 use step_text::put_steps;
 use vector_text::put_vector;
 
 /// The text of the line, without a line end.
-
 pub fn write_line(alloc: Global, p: &Presentation, line: &Line) -> Result<Vec<u8>, AllocError>
     requires { LineIsOver p.now line.now }
     ensures text { IfOk result (λ text. text.items ≡ line_text p.now line.now) }
@@ -61,25 +65,14 @@ pub fn put_line(
             out.extend_from_slice(b" ")?;
             put_answer(alloc, out, p, question, verdict)
         }
-        Line::Proof { subject, steps } => {
-            out.extend_from_slice(b"proof ")?;
-            write_number(out, *subject)?;
-            out.extend_from_slice(b" ")?;
-            put_steps(out, p, steps.steps())
-        }
-        Line::End(end) => {
-            out.extend_from_slice(b"end ")?;
-            put_end(out, p, end)
-        }
+        Line::Proof { subject, steps } => put_proof(out, p, *subject, steps),
+        Line::End(end) => put_ending(out, p, end),
         Line::Close {
             session,
             number,
             question,
             verdict,
-        } => {
-            put_word_and_numbers(out, b"close ", *session, *number)?;
-            put_answer(alloc, out, p, question, verdict)
-        }
+        } => put_closing(alloc, out, p, *session, *number, question, verdict),
         Line::Done => out.extend_from_slice(b"done"),
     }
 }
@@ -101,6 +94,46 @@ fn put_entry(
     put_made(out, p, made)?;
     out.extend_from_slice(b" : ")?;
     put_vector(out, p, vector)
+}
+
+fn put_proof(
+    out: &mut Vec<u8>,
+    p: &Presentation,
+    subject: u32,
+    steps: &Steps,
+) -> Result<(), AllocError>
+    requires { StepsAreOver (length p.now.names) steps.now }
+    ensures { OnOk result (out.new.items ≡ out.old.items ++ (codes "proof " ++ spaced (decimal subject) (steps_text p.now.names steps.now))) }
+{
+    out.extend_from_slice(b"proof ")?;
+    write_number(out, subject)?;
+    out.extend_from_slice(b" ")?;
+    put_steps(out, p, steps.steps())
+}
+
+fn put_ending(out: &mut Vec<u8>, p: &Presentation, end: &End) -> Result<(), AllocError>
+    requires { EndIsOver (length p.now.names) end.now }
+    ensures { OnOk result (out.new.items ≡ out.old.items ++ (codes "end " ++ end_text p.now.names end.now)) }
+{
+    out.extend_from_slice(b"end ")?;
+    put_end(out, p, end)
+}
+
+fn put_closing(
+    alloc: Global,
+    out: &mut Vec<u8>,
+    p: &Presentation,
+    session: u32,
+    number: u32,
+    question: &Question,
+    verdict: &Verdict,
+) -> Result<(), AllocError>
+    requires question { IsQuestion p.now question.now }
+    requires verdict { VerdictIsOver (length p.now.names) verdict.now }
+    ensures { OnOk result (out.new.items ≡ out.old.items ++ (codes "close " ++ spaced (decimal session) (spaced (decimal number) (answer_text p.now.names question.now verdict.now)))) }
+{
+    put_word_and_numbers(out, b"close ", session, number)?;
+    put_answer(alloc, out, p, question, verdict)
 }
 
 // A word that ends with a space, and two numbers with a space behind each.
