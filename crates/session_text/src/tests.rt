@@ -4,6 +4,8 @@ ghost use Rattle.std.specs.Prelude.{All};
 ghost use Rattle.session_text.specs.Questions.{IsWrittenQuestion, HasImages};
 
 use crate::fault::SessionFault;
+use crate::images::first_long_image;
+use crate::one_question::read_question;
 use crate::question::{Event, Question};
 use crate::schedule::read_schedule;
 use crate::session::read_session;
@@ -154,6 +156,51 @@ fn long_images(rt: HostRuntime) {
             ),
             _ => panic!(rt; "no fault: {text}"),
         }
+    }
+}
+
+/// Spellings of one question, and the number of the first relator whose image is too long.
+const SPELLINGS: [(&str, Option<u32>); 7] = [
+    ("trivial 1", None),
+    ("equal a^2 b = b^-1", None),
+    ("normal a b a^-1 b^-1", None),
+    ("hom <s | > -> 1", None),
+    ("hom <s, u | s u s^-1 u^-1> -> a^-1, b", None),
+    ("hom <s | s^8192> -> a^4", None),
+    ("hom <s | s, s^8193, s^8194> -> a^4", Some(2)),
+];
+
+/// Texts that aren't the spelling of a question.
+const OTHERS: [&str; 13] = [
+    "",
+    "trivial",
+    "trivial a a",
+    "trivial  a",
+    " trivial a",
+    "trivial a ",
+    "trivial a\n",
+    "trivial a\ntrivial b",
+    "equal a=b",
+    "hom <s|> -> a",
+    "hom <s | > -> a, b",
+    "hom <s | > modulus 3 -> a",
+    "trivial c",
+];
+
+#[test]
+fn one_question(rt: HostRuntime) {
+    let alloc = rt.alloc();
+    let p = free(&rt, alloc);
+    for (text, long) in SPELLINGS {
+        let read = read_question(alloc, &p, text.as_bytes()).expect(&rt, "memory");
+        let question = read.expect(&rt, "a question");
+        assert_eq!(rt; first_long_image(&question), long, "{text}");
+        let out = write_question(alloc, &p, &question).expect(&rt, "memory");
+        assert_eq!(rt; out.as_slice(), text.as_bytes(), "{text}");
+    }
+    for text in OTHERS {
+        let read = read_question(alloc, &p, text.as_bytes()).expect(&rt, "memory");
+        assert!(rt; read.is_none(), "{text}");
     }
 }
 

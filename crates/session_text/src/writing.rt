@@ -1,10 +1,13 @@
 //! The one form in which questions are written.
 
-ghost use Rattle.std.specs.Prelude.{◌≡◌, ◌++◌, length, map, codes, IfOk, OnOk};
+ghost use Rattle.std.specs.Prelude.{◌≡◌, ◌++◌, [], length, map, codes, IfOk, OnOk};
 ghost use Rattle.std.specs.List.{AllByRecursion};
 ghost use Rattle.free_words.specs.Words.{IsOver};
 ghost use Rattle.presentation.specs.Writing.{joined, written_presentation, written_word};
-ghost use Rattle.session_text.specs.Questions.{IsQuestion};
+ghost use Rattle.word_text.specs.Scan.{after_blanks};
+ghost use Rattle.word_text.specs.Machine.{finding};
+ghost use Rattle.session_text.specs.Grammar.{QuestionAt};
+ghost use Rattle.session_text.specs.Questions.{IsQuestion, IsWritable};
 ghost use Rattle.session_text.specs.Writing.{written_question};
 
 use crate::question::Question;
@@ -14,10 +17,14 @@ use std::alloc::{AllocError, Global};
 
 /// The question as its keyword and what is asked about: `trivial a b`, `equal a = b`, `normal a^2`, or
 /// `hom <s | s^2> -> a b`.
+#[tactic(auto, using(crate::proofs::QuestionBack::written_stands))]
 pub fn write_question(alloc: Global, p: &Presentation, q: &Question) -> Result<Vec<u8>, AllocError>
     requires { IsQuestion p.now q.now }
     ensures text { IfOk result (λ v. v.items ≡ written_question p.now.names q.now) }
+    // What is written of a question within the limits is a line of the grammar with that question, and of no other.
+    ensures spelled { IsWritable p.now q.now → IfOk result (λ v. QuestionAt (finding p.now.names) v.items q.now (after_blanks [])) }
 {
+    p.known();
     let mut out = Vec::new(alloc);
     match q {
         Question::Trivial(w) => {
