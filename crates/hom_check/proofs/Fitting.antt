@@ -4,7 +4,7 @@ use Rattle.std.specs.List.{AllByRecursion}
 use Rattle.std.proofs.lemmas.List.{length-map, length-reverse, get_or_default}
 use Rattle.std.proofs.lemmas.List.Elements.{All-from_recursion, recursion_from_All}
 use Rattle.free_words.specs.declared.letter.Letter.{Letter}
-use Rattle.free_words.specs.declared.TheConstants.{COMPOSED, WRITTEN}
+use Rattle.free_words.specs.declared.TheConstants.{COMPOSED}
 use Rattle.free_words.specs.Words.{IsOver, flipped, inverse, word_image}
 use Rattle.free_words.proofs.OverLemmas.{IsOver-append, IsOver-inverse, IsOver-word_image}
 use Rattle.presentation.specs.Presented.{Presented, IsWritten}

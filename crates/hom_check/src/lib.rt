@@ -13,3 +13,6 @@ mod subjects;
 pub use first::first_unshown;
 pub use shown::Shown;
 pub use subjects::{subject, subject_count};
+
+#[cfg(test)]
+mod tests;

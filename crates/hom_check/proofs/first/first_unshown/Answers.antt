@@ -1,5 +1,4 @@
-use Rattle.std.proofs.Common.{rules, arith, ◌≡◌, ◌≤◌, ◌<◌, ◌+◌, ℕ, List, length, take, sym, subst}
-use Rattle.free_words.specs.declared.letter.Letter.{Letter}
+use Rattle.std.proofs.Common.{rules, arith, ◌≤◌, ◌<◌, ◌+◌, List, length, take, sym, subst}
 use Rattle.module_vec.specs.declared.places.Term.{Term}
 use Rattle.session_text.specs.Questions.{subjects}
 use Rattle.hom_check.specs.Subjects.{subject_at}
