@@ -8,6 +8,8 @@
 mod base;
 mod entries;
 mod fronts;
+mod indexed;
+pub mod laws;
 mod lists;
 mod recipes;
 mod seals;
@@ -21,3 +23,6 @@ pub use seals::Sealed;
 /// The most generator entries of a presentation: one for each of 64 relators; for each relator, and for each of 24
 /// generators, one in each of 24 components; and one more in each component.
 pub const BASE: u32 = 2_200;
+
+#[cfg(test)]
+mod tests;

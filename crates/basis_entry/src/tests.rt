@@ -1,0 +1,101 @@
+//! Entries of small presentations, worked out by hand.
+
+ghost use Rattle.std.specs.Prelude.{◌<◌, length, IfOk};
+ghost use Rattle.std.specs.Arc.{arc_value};
+ghost use Rattle.basis_entry.specs.Entries.{AreOf, vectors_of};
+
+use crate::{Entry, EntryList, Front, Recipe};
+use laurent_terms::Mono;
+use module_vec::{ModVec, Step, VecList};
+use presentation::{Presentation, read_presentation};
+use std::alloc::Global;
+use std::sync::Arc;
+use std::test::Fail;
+use step_lists::Steps;
+
+fn presentation(alloc: Global, text: &str) -> Result<Arc<Presentation>, Fail> {
+    match read_presentation(alloc, text.as_bytes()) {
+        Ok(p) => Ok(Arc::new(alloc, p)?),
+        Err(_) => Err(Fail::from("no presentation")),
+    }
+}
+
+/// Whether the entry has the recipe of this generator, so many terms, and this lead component.
+fn is(entry: &Entry, number: u32, negated: bool, terms: usize, component: u8) -> bool {
+    let Some(lead) = entry.vector().lead() else {
+        return false;
+    };
+    lead.k == 1
+        && lead.at.c == component
+        && entry.vector().terms().len() == terms
+        && entry.recipe().same(&Recipe::Gen { number, negated })
+}
+
+#[test]
+fn generators_have_their_entries(rt: HostRuntime) -> Result<(), Fail> {
+    let alloc = rt.alloc();
+    let rows: [(&str, &[(bool, usize, u8)]); 3] = [
+        ("<a|>", &[(false, 2, 0)]),
+        (
+            "<a,t | t a t^-1 a^-2>",
+            &[
+                (true, 5, 1),
+                (false, 2, 0),
+                (false, 2, 1),
+                (false, 2, 0),
+                (false, 2, 1),
+                (false, 2, 0),
+                (false, 2, 1),
+            ],
+        ),
+        (
+            "<a,b | , a>",
+            &[
+                (false, 1, 0),
+                (false, 2, 0),
+                (false, 2, 1),
+                (false, 2, 0),
+                (false, 2, 1),
+                (false, 2, 0),
+                (false, 2, 1),
+            ],
+        ),
+    ];
+    for (text, wanted) in rows {
+        let p = presentation(alloc, text)?;
+        let made = Entry::base(alloc, &p)?;
+        assert_eq!(rt; made.len(), wanted.len());
+        for (number, (entry, row)) in made.iter().zip(wanted).enumerate() {
+            let (negated, terms, component) = *row;
+            assert!(rt; is(entry, number as u32, negated, terms, component));
+            assert!(rt; entry.presentation().same(&p));
+            assert!(rt; entry.same(entry));
+        }
+    }
+    Ok(())
+}
+
+/// The list of the generators' entries.
+fn list(alloc: Global, p: &Arc<Presentation>) -> Result<EntryList, Fail> {
+    let mut list = EntryList::new(alloc);
+    for entry in &Entry::base(alloc, p)? {
+        if list.count() > 100 {
+            return Err(Fail::from("too many"));
+        }
+        list.push(Arc::try_clone(entry)?)?;
+    }
+    Ok(list)
+}
+
+#[test]
+fn a_list_shows_its_entries(rt: HostRuntime) -> Result<(), Fail> {
+    let alloc = rt.alloc();
+    let list = list(alloc, &presentation(alloc, "<a,b|>")?)?;
+    assert_eq!(rt; list.count(), 4);
+    assert_eq!(rt; list.front(), 4);
+    assert!(rt; list.sealed().is_none());
+    assert!(rt; list.entry(3).same(&list.entries()[3]));
+    assert!(rt; !list.entry(3).same(list.entry(1)));
+    assert!(rt; list.vector(2).terms() == list.entry(2).vector().terms());
+    Ok(())
+}

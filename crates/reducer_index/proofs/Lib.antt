@@ -1,0 +1,4 @@
+pub mod Leading
+pub mod Masking
+pub mod Searching
+pub mod Indexing
