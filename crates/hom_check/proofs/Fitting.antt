@@ -1,5 +1,5 @@
 -- The subjects of a question within the limits: words over its presentation, within the limit on composed words.
-use Rattle.std.proofs.Common.{◌≡◌, ℕ, ◌+◌, ◌-◌, ◌<◌, ◌≤◌, List, [], ◌∷◌, ◌++◌, length, map, reverse, slice_index_or, length-append, ap, subst, ◌∙◌, arith}
+use Rattle.std.proofs.Common.{◌≡◌, ◌≢◌, ℕ, ◌+◌, ◌-◌, ◌<◌, ◌≤◌, List, [], ◌∷◌, ◌++◌, length, map, reverse, slice_index_or, length-append, ap, subst, ◌∙◌, arith}
 use Rattle.std.specs.List.{AllByRecursion}
 use Rattle.std.proofs.lemmas.List.{length-map, length-reverse, get_or_default}
 use Rattle.std.proofs.lemmas.List.Elements.{All-from_recursion, recursion_from_All}
@@ -51,3 +51,7 @@ at_all P q each = recursion_from_All P (subjects q)
 
 pub subject_fits : (p : Presented) (q : Question) (j : ℕ) → IsWrittenQuestion p q → HasImages q → 1 ≤ j → j ≤ length (subjects q) → Fits (length p.names) (subject_at q j)
 subject_fits p q j h images first last = all_at (Fits (length p.names)) q j (subjects_fit p q h images) first last
+
+-- the last subject of a question that has one
+pub last_fits : (p : Presented) (q : Question) (n : ℕ) → IsWrittenQuestion p q → HasImages q → n ≡ length (subjects q) → n ≢ 0 → length (subject_at q n) ≤ COMPOSED
+last_fits p q n h images is some = let fits = subject_fits p q n h images (omega (arith, some)) (omega (arith, is)) in fits.1

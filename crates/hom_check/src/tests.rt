@@ -1,5 +1,8 @@
 //! Subjects that small lists show, and the first that they don't, worked out by hand.
 
+ghost use Rattle.std.specs.Prelude.{IfSome};
+ghost use Rattle.session_text.specs.Questions.{IsWrittenQuestion, HasImages};
+
 use crate::{Shown, first_unshown, subject, subject_count};
 use fox_calculus::generators;
 use module_vec::{Entries, VecList};
@@ -19,17 +22,21 @@ fn entries(alloc: Global, p: &Presentation) -> Result<Entries, AllocError> {
     Ok(list)
 }
 
-fn read(alloc: Global, p: &Presentation, text: &str) -> Option<Question> {
-    read_question(alloc, p, text.as_bytes()).ok()?
+/// The question of this text, where it is within all limits.
+fn read(alloc: Global, p: &Presentation, text: &str) -> Option<Question>
+    ensures { IfSome result (λ q. IsWrittenQuestion p.now q × HasImages q) }
+{
+    let q = read_question(alloc, p, text.as_bytes()).ok()??;
+    if first_long_image(&q).is_some() {
+        return None;
+    }
+    Some(q)
 }
 
 /// What the generators of a presentation show of the subjects of a question.
 fn shown(alloc: Global, p: &str, text: &str) -> Option<Shown> {
     let p = read_presentation(alloc, p.as_bytes()).ok()?;
     let q = read(alloc, &p, text)?;
-    if first_long_image(&q).is_some() {
-        return None;
-    }
     let list = entries(alloc, &p).ok()?;
     first_unshown(alloc, &p, &list, list.count(), &q).ok()
 }
@@ -61,12 +68,10 @@ fn first_subjects_that_are_not_shown(rt: HostRuntime) {
 }
 
 /// How many subjects a question over a free group has, and the length of the last of them.
+#[tactic(auto, using(crate::proofs::Fitting::last_fits))]
 fn last(alloc: Global, text: &str) -> Option<(u32, u32)> {
     let p = read_presentation(alloc, b"<a, b | >").ok()?;
     let q = read(alloc, &p, text)?;
-    if first_long_image(&q).is_some() {
-        return None;
-    }
     let count = subject_count(&q);
     if count == 0 {
         return Some((0, 0));

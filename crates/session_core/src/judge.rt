@@ -1,7 +1,8 @@
 //! The verdict on a question.
 
-ghost use Rattle.std.specs.Prelude.{◌≡◌, ◌↔◌, IsTrue, IfOk};
+ghost use Rattle.std.specs.Prelude.{◌≡◌, ◌↔◌, List, Option, IsTrue, IfOk};
 ghost use Rattle.presentation.specs.Presented.{Presented};
+ghost use Rattle.module_vec.specs.declared.places.Term.{Term};
 ghost use Rattle.session_text.specs.declared.question.Question.{Question};
 ghost use Rattle.hom_check.specs.declared.shown.Shown.TheVariants as shows;
 ghost use Rattle.hom_check.specs.Shown.{Shows};
@@ -40,11 +41,19 @@ pub fn verdict<F: Front>(
     let _ = list.front();
     p.known();
     let sealed = is_sealed_for(list, p);
-    Ok(match first_unshown(alloc, p, list, list.count(), q)? {
+    let shown = first_unshown(alloc, p, list, list.count(), q)?;
+    Ok(on_shown(sealed, q, shown))
+}
+
+/// The verdict on what is shown of the subjects.
+fn on_shown(sealed: bool, q: &Question, shown: Shown) -> Verdict
+    ensures { (p : Presented) (b : List (List Term)) (seal : Option Seal) → (IsTrue sealed ↔ IsSealedFor p seal) → Shows b q.now shown → IsVerdict p b seal q.now result }
+{
+    match shown {
         Shown::All => on_all(q),
         Shown::Stopped { subject, stop } => Verdict::Stop { subject, stop },
         Shown::Rest { subject, rest } => on_rest(sealed, q, subject, rest),
-    })
+    }
 }
 
 /// Whether the items end with a seal of this presentation.
@@ -59,7 +68,7 @@ fn is_sealed_for<F: Front>(list: &F, p: &Presentation) -> bool
 
 /// The verdict where all subjects are shown.
 fn on_all(q: &Question) -> Verdict
-    ensures { (p : Presented) (b : _) (seal : _) → Shows b q.now shows.All → IsVerdict p b seal q.now result }
+    ensures { (p : Presented) (b : List (List Term)) (seal : Option Seal) → Shows b q.now shows.All → IsVerdict p b seal q.now result }
 {
     match q {
         Question::Trivial(_) | Question::Equal(_, _) | Question::Normal(_) => Verdict::Trivial,
@@ -69,7 +78,7 @@ fn on_all(q: &Question) -> Verdict
 
 /// The verdict where this subject is the first that isn't shown, and leaves this rest.
 fn on_rest(sealed: bool, q: &Question, subject: u32, rest: ModVec) -> Verdict
-    ensures { (p : Presented) (b : _) (seal : _) → (IsTrue sealed ↔ IsSealedFor p seal) → Shows b q.now (shows.Rest subject rest) → IsVerdict p b seal q.now result }
+    ensures { (p : Presented) (b : List (List Term)) (seal : Option Seal) → (IsTrue sealed ↔ IsSealedFor p seal) → Shows b q.now (shows.Rest subject rest) → IsVerdict p b seal q.now result }
 {
     if !sealed {
         return Verdict::Unknown { subject };

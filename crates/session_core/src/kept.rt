@@ -45,3 +45,15 @@ impl Tag {
         }
     }
 }
+
+impl Kept {
+    /// What is kept of this verdict by so many items.
+    pub(crate) fn of(front: u32, verdict: &Verdict) -> Kept
+        ensures { result ≡ record { front = front; tag = tag_of verdict.now } }
+    {
+        Kept {
+            front,
+            tag: Tag::of(verdict),
+        }
+    }
+}

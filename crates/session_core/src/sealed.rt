@@ -46,6 +46,16 @@ struct SealedItems<'a> {
     seal: &'a Sealed,
 }
 
+impl<'a> SealedItems<'a> {
+    /// The entry with this number.
+    fn get(&self, at: u32) -> &Arc<Entry>
+        requires { at < length self.now.seal.now.entries }
+        ensures { slice_get self.now.seal.now.entries at ≡ Some (arc_value result.now) }
+    {
+        &self.seal.entries()[at as usize]
+    }
+}
+
 impl<'a> VecList for SealedItems<'a> {
     ghost vectors = { λ l. vectors_of l.seal.now.entries };
 
@@ -54,7 +64,7 @@ impl<'a> VecList for SealedItems<'a> {
     }
 
     fn vector(&self, at: u32) -> &ModVec {
-        self.seal.entries()[at as usize].vector()
+        self.get(at).vector()
     }
 }
 
@@ -76,6 +86,6 @@ impl<'a> Front for SealedItems<'a> {
     }
 
     fn entry(&self, at: u32) -> &Arc<Entry> {
-        &self.seal.entries()[at as usize]
+        self.get(at)
     }
 }

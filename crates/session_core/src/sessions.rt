@@ -12,8 +12,8 @@ ghost use Rattle.session_core.specs.Meaning.{AllAreTrivial, MapExtends};
 ghost use Rattle.session_core.specs.Replies.{IsReply};
 ghost use Rattle.session_core.specs.Sessions.{SessionState, IsSession, last_front, next_question};
 
+use crate::Kept;
 use crate::judge::verdict;
-use crate::{Kept, Tag};
 use basis_entry::Front;
 use presentation::Presentation;
 use session_text::Question;
@@ -93,12 +93,9 @@ impl Session {
         ensures extends { IfOk result (λ k. (q : Question) → slice_get self.old.questions (length self.old.kept) ≡ Some q → k.tag ≡ tags.Extends → MapExtends p.now q) }
     {
         let verdict = verdict(alloc, p, list, &self.questions[self.replies.len()])?;
-        let kept = Kept {
-            front: list.front(),
-            tag: Tag::of(&verdict),
-        };
-        self.replies.push_reserved(kept);
-        Ok(kept)
+        let front = list.front();
+        self.replies.push_reserved(Kept::of(front, &verdict));
+        Ok(Kept::of(front, &verdict))
     }
 
     /// The session's number.

@@ -1,0 +1,35 @@
+-- The rule of verdicts, case by case.
+use Rattle.std.proofs.Common.{◌≡◌, ◌↔◌, ℕ, ◌-◌, ◌≤◌, Bool, true, false, IsTrue, List, [], ◌∷◌, length, Option, Some, None, Result, Ok, Err, IfOk, refl, sym, ap, subst, ◌∙◌, inl, inr, arith, slice_get}
+use Rattle.std.specs.declared.alloc.AllocError.{AllocError}
+use Rattle.presentation.specs.Presented.{Presented}
+use Rattle.module_vec.specs.declared.places.Term.{Term}
+use Rattle.free_words.specs.declared.letter.Letter.{Letter}
+use Rattle.session_text.specs.declared.question.Question.{Question}
+use Rattle.session_text.specs.Questions.{subjects}
+use Rattle.hom_check.specs.Shown.{LeavesRest, IsFirstUnshown}
+use Rattle.basis_entry.specs.Seals.{Seal}
+use Rattle.outcomes.specs.declared.verdicts.Verdict.{Verdict}
+use Rattle.session_core.specs.declared.kept.Kept.{Kept}
+use Rattle.session_core.specs.Verdicts.{LeavesSome, IsSealedFor}
+use Rattle.session_core.specs.Sessions.{front_after}
+
+-- a rest that isn't empty is some rest
+pub some_rest : (b : List (List Term)) (q : Question) (j : ℕ) (rest : List Term) → IsFirstUnshown b q j (LeavesRest b rest) → IsFirstUnshown b q j (LeavesSome b)
+some_rest b q j rest first = record { number = first.number; within = first.within; goes = (rest, first.goes); before = first.before }
+
+-- of a question with one subject that is the first one
+pub only_one : (b : List (List Term)) (q : Question) (j : ℕ) (Goes : List Letter → Type 0) → length (subjects q) ≡ 1 → IsFirstUnshown b q j Goes → IsFirstUnshown b q 1 Goes
+only_one b q j Goes one first =
+    let low = first.number in
+    let high = first.within in
+    let is : j ≡ 1 = omega (arith, one, low, high) in
+    subst (λ (i : ℕ). IsFirstUnshown b q i Goes) is first
+
+pub not_sealed : (t : Bool) (p : Presented) (seal : Option Seal) → t ≡ false → (IsTrue t ↔ IsSealedFor p seal) → IsSealedFor p seal → ⊥
+not_sealed t p seal no same yes = let e : true ≡ false = sym (same.1 yes) ∙ no in absurd (cc)
+
+-- the front of the last reply
+pub front_of_last : (base : ℕ) (ks : List Kept) (k : Kept) → slice_get ks (length ks - 1) ≡ Some k → front_after base ks ≡ k.front
+front_of_last base [] k last = absurd (cc)
+front_of_last base (a ∷ []) k last = let e : a ≡ k = cc in ap (λ (r : Kept). r.front) e
+front_of_last base (a ∷ b ∷ ks) k last = front_of_last a.front (b ∷ ks) k last
