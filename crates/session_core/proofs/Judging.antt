@@ -5,13 +5,13 @@ use Rattle.presentation.specs.Presented.{Presented}
 use Rattle.module_vec.specs.declared.places.Term.{Term}
 use Rattle.free_words.specs.declared.letter.Letter.{Letter}
 use Rattle.session_text.specs.declared.question.Question.{Question}
+use Rattle.session_text.specs.declared.question.Question.TheVariants as questions
 use Rattle.session_text.specs.Questions.{subjects}
 use Rattle.hom_check.specs.Shown.{LeavesRest, IsFirstUnshown}
 use Rattle.basis_entry.specs.Seals.{Seal}
 use Rattle.outcomes.specs.declared.verdicts.Verdict.{Verdict}
-use Rattle.session_core.specs.declared.kept.Kept.{Kept}
+use Rattle.session_core.specs.Questions.{AsksWhetherTrivial}
 use Rattle.session_core.specs.Verdicts.{LeavesSome, IsSealedFor}
-use Rattle.session_core.specs.Sessions.{front_after}
 
 -- a rest that isn't empty is some rest
 pub some_rest : (b : List (List Term)) (q : Question) (j : ℕ) (rest : List Term) → IsFirstUnshown b q j (LeavesRest b rest) → IsFirstUnshown b q j (LeavesSome b)
@@ -26,10 +26,11 @@ only_one b q j Goes one first =
     subst (λ (i : ℕ). IsFirstUnshown b q i Goes) is first
 
 pub not_sealed : (t : Bool) (p : Presented) (seal : Option Seal) → t ≡ false → (IsTrue t ↔ IsSealedFor p seal) → IsSealedFor p seal → ⊥
-not_sealed t p seal no same yes = let e : true ≡ false = sym (same.1 yes) ∙ no in absurd (cc)
+not_sealed t p seal off same sealed = let e : true ≡ false = sym (same.1 sealed) ∙ off in absurd (cc)
 
--- the front of the last reply
-pub front_of_last : (base : ℕ) (ks : List Kept) (k : Kept) → slice_get ks (length ks - 1) ≡ Some k → front_after base ks ≡ k.front
-front_of_last base [] k last = absurd (cc)
-front_of_last base (a ∷ []) k last = let e : a ≡ k = cc in ap (λ (r : Kept). r.front) e
-front_of_last base (a ∷ b ∷ ks) k last = front_of_last a.front (b ∷ ks) k last
+-- a question that asks whether a word is trivial has one subject
+pub one_subject : (q : Question) → AsksWhetherTrivial q → length (subjects q) ≡ 1
+one_subject (questions.Trivial w) asks = refl
+one_subject (questions.Equal u v) asks = refl
+one_subject (questions.Normal w) asks = absurd asks
+one_subject (questions.Hom source images) asks = absurd asks

@@ -1,3 +1,4 @@
 pub mod Judging
 pub mod Exactness
-pub mod Proving
+pub mod StepSums
+pub mod Keeping

@@ -17,3 +17,6 @@ pub use outcomes::Verdict;
 pub use proving::proof;
 pub use sealed::ask_sealed;
 pub use sessions::Session;
+
+#[cfg(test)]
+mod tests;

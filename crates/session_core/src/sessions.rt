@@ -92,10 +92,18 @@ impl Session {
         ensures trivial { IfOk result (λ k. (q : Question) → slice_get self.old.questions (length self.old.kept) ≡ Some q → k.tag ≡ tags.Trivial → AllAreTrivial p.now q) }
         ensures extends { IfOk result (λ k. (q : Question) → slice_get self.old.questions (length self.old.kept) ≡ Some q → k.tag ≡ tags.Extends → MapExtends p.now q) }
     {
-        let verdict = verdict(alloc, p, list, &self.questions[self.replies.len()])?;
+        let verdict = verdict(alloc, p, list, self.asked())?;
         let front = list.front();
         self.replies.push_reserved(Kept::of(front, &verdict));
         Ok(Kept::of(front, &verdict))
+    }
+
+    /// The question that is next.
+    fn asked(&self) -> &Question
+        requires { length self.now.kept < length self.now.questions }
+        ensures { slice_get self.now.questions (length self.now.kept) ≡ Some result.now }
+    {
+        &self.questions[self.replies.len()]
     }
 
     /// The session's number.

@@ -8,7 +8,7 @@ use Rattle.hom_check.specs.Subjects.{subject_at}
 use Rattle.hom_check.specs.Shown.{fox_at}
 use Rattle.hom_check.proofs.Fitting.{Fits, subject_fits}
 use Rattle.session_core.specs.Proofs.{AreStepsOf}
-use Rattle.session_core.proofs.Proving.{steps_of, fails_of, steps_add_up}
+use Rattle.session_core.proofs.StepSums.{steps_of, fails_of, steps_add_up}
 use Rattle.session_core.proofs.proving.proof.Goals as goal
 
 pub subject-requires-clause-short : goal.subject-requires-clause-short
