@@ -73,8 +73,16 @@ fn verdicts_without_a_seal(rt: HostRuntime) -> Result<(), Fail> {
         ("<a | a^2>", "trivial a", Tag::Unknown { subject: 1 }),
         ("<a | a^2>", "normal a^3", Tag::Unknown { subject: 1 }),
         ("<a | a^2>", "hom <s | s^2> -> a", Tag::Extends),
-        ("<a | a^2>", "hom <s, u | s^2, u> -> a, a", Tag::Unknown { subject: 2 }),
-        ("<a, b | >", "trivial a b a^-1 b^-1", Tag::Unknown { subject: 1 }),
+        (
+            "<a | a^2>",
+            "hom <s, u | s^2, u> -> a, a",
+            Tag::Unknown { subject: 2 },
+        ),
+        (
+            "<a, b | >",
+            "trivial a b a^-1 b^-1",
+            Tag::Unknown { subject: 1 },
+        ),
     ] {
         assert!(rt; tag(alloc, p, text)? == want, "{text}");
     }
