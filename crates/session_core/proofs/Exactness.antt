@@ -1,5 +1,5 @@
 -- What verdicts say of words.
-use Rattle.std.proofs.Common.{◌≡◌, ◌≢◌, ◌↔◌, ℕ, zero, suc, ◌+◌, ◌-◌, ◌<◌, ◌≤◌, ℤ, pos, List, [], ◌∷◌, length, map, Option, Some, None, Result, Ok, Err, IfOk, Contains, slice_index_or, inl, inr, refl, sym, ap, subst, ◌∙◌, arith}
+use Rattle.std.proofs.Common.{◌≡◌, ◌↔◌, ℕ, List, [], ◌∷◌, length, map, Option, Some, Result, Ok, Err, IfOk, slice_index_or, refl, sym, ap, subst, arith}
 use Rattle.std.specs.List.{AllByRecursion}
 use Rattle.std.specs.declared.alloc.AllocError.{AllocError}
 use Rattle.std.proofs.lemmas.List.Elements.{All-from_recursion, recursion_from_All, All-contains, Contains-get_or}
@@ -12,7 +12,7 @@ use Rattle.module_vec.specs.declared.places.Place.{Place}
 use Rattle.module_vec.specs.declared.places.Term.{Term}
 use Rattle.module_vec.specs.declared.steps.Step.{Step}
 use Rattle.module_vec.specs.Reducers.{AreEntries}
-use Rattle.module_vec.specs.Modules.{steps_at, InModule, IsReduced}
+use Rattle.module_vec.specs.Modules.{steps_at, InModule}
 use Rattle.module_vec.specs.Vectors.{sum_of, coefficient_at}
 use Rattle.module_vec.specs.Places.{same_place}
 use Rattle.module_vec.proofs.Determined.{runs_are_chains}

@@ -1,6 +1,5 @@
 -- The rule of verdicts, case by case.
-use Rattle.std.proofs.Common.{◌≡◌, ◌↔◌, ℕ, ◌-◌, ◌≤◌, Bool, true, false, IsTrue, List, [], ◌∷◌, length, Option, Some, None, Result, Ok, Err, IfOk, refl, sym, ap, subst, ◌∙◌, inl, inr, arith, slice_get}
-use Rattle.std.specs.declared.alloc.AllocError.{AllocError}
+use Rattle.std.proofs.Common.{◌≡◌, ◌↔◌, ℕ, Bool, true, false, IsTrue, List, length, Option, refl, sym, subst, ◌∙◌, arith}
 use Rattle.presentation.specs.Presented.{Presented}
 use Rattle.module_vec.specs.declared.places.Term.{Term}
 use Rattle.free_words.specs.declared.letter.Letter.{Letter}
@@ -9,7 +8,6 @@ use Rattle.session_text.specs.declared.question.Question.TheVariants as question
 use Rattle.session_text.specs.Questions.{subjects}
 use Rattle.hom_check.specs.Shown.{LeavesRest, IsFirstUnshown}
 use Rattle.basis_entry.specs.Seals.{Seal}
-use Rattle.outcomes.specs.declared.verdicts.Verdict.{Verdict}
 use Rattle.session_core.specs.Questions.{AsksWhetherTrivial}
 use Rattle.session_core.specs.Verdicts.{LeavesSome, IsSealedFor}
 

@@ -1,5 +1,5 @@
 -- The steps of a subject's chain.
-use Rattle.std.proofs.Common.{◌≡◌, ℕ, pos, ◌+ℤ◌, List, [], subst}
+use Rattle.std.proofs.Common.{◌≡◌, pos, List, [], subst}
 use borrow.Author.Differences.{ints}
 use Rattle.std.proofs.Common.{arith}
 use Rattle.free_words.specs.declared.letter.Letter.{Letter}

@@ -1,5 +1,5 @@
 -- Sessions as contracts see them.
-use Rattle.std.specs.Prelude.{◌≡◌, ℕ, ◌+◌, ◌≤◌, nat_lt, List, [], ◌∷◌, length, Option, Some, None, if◌then◌else◌}
+use Rattle.std.specs.Prelude.{ℕ, ◌+◌, ◌≤◌, nat_lt, List, [], ◌∷◌, length, Option, Some, None, if◌then◌else◌}
 use Rattle.session_text.specs.declared.TheConstants.{QUESTIONS}
 use Rattle.session_text.specs.declared.question.Question.{Question}
 use Rattle.session_core.specs.declared.kept.Kept.{Kept}

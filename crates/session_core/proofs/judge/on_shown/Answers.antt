@@ -1,4 +1,4 @@
-use Rattle.std.proofs.Common.{sym, subst}
+use Rattle.std.proofs.Common.{subst}
 use Rattle.hom_check.specs.declared.shown.Shown.{Shown}
 use Rattle.hom_check.specs.Shown.{Shows}
 use Rattle.session_core.proofs.judge.on_shown.Goals as goal

@@ -1,4 +1,4 @@
-use Rattle.std.proofs.Common.{rules, ◌≡◌, length, take, List, subst}
+use Rattle.std.proofs.Common.{rules, ◌≡◌, take, List, subst}
 use Rattle.std.proofs.lemmas.List.{take_all}
 use Rattle.module_vec.specs.declared.places.Term.{Term}
 use Rattle.hom_check.specs.Shown.{Shows}

@@ -1,6 +1,5 @@
 use Rattle.std.proofs.Common.{rules, ◌≡◌, ◌<◌, ◌≤◌, length, sym, ap, subst, ◌∙◌}
 use Rattle.basis_entry.specs.Seals.{item_count}
-use Rattle.session_text.specs.declared.question.Question.{Question}
 use Rattle.session_core.specs.Questions.{CanBeAsked}
 use Rattle.session_core.specs.Meaning.{AllAreTrivial, MapExtends}
 use Rattle.session_core.specs.declared.kept.Kept.{Kept}
