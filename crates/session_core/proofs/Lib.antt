@@ -1,0 +1,4 @@
+pub mod Judging
+pub mod Exactness
+pub mod StepSums
+pub mod Keeping
