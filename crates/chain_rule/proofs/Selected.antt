@@ -1,5 +1,5 @@
 -- Lists of the pairs that pass a test.
-use Rattle.std.proofs.Common.{◌≡◌, ℕ, zero, suc, ◌<◌, ◌≤◌, Bool, true, false, if◌then◌else◌, List, [], ◌∷◌, ◌++◌, length, slice_index_or, ◌⊎◌, inl, inr, ◌↔◌, IsTrue, refl, sym, ap, subst, ◌∙◌, arith}
+use Rattle.std.proofs.Common.{◌≡◌, ℕ, zero, suc, ◌<◌, Bool, true, false, if◌then◌else◌, List, [], ◌∷◌, ◌++◌, ◌⊎◌, inl, inr, ◌↔◌, IsTrue, refl, sym, ap, subst, ◌∙◌, arith}
 use Rattle.std.specs.List.{AllByRecursion, Contains}
 use Rattle.std.proofs.lemmas.List.Elements.{Contains-append_left, Contains-append_right}
 use Rattle.chain_rule.specs.ClosedPairs.{pairs_with, pairs_where}
@@ -43,11 +43,11 @@ module _ (test : ℕ → ℕ → Bool) where
 
   where_contains : (i j n : ℕ) → i < j → j < n → test i j ≡ true → Contains (pairs_where test n) (i, j)
   where_contains i j zero h l e = absurd (omega (arith, l))
-  where_contains i j (suc n) h l e = by (last_or_below j n l)
+  where_contains i j (suc n) h l e = by (last_or_below j n l) (λ k. where_contains i j n h k e)
     where
-      by : (j ≡ n) ⊎ (j < n) → Contains (pairs_where test (suc n)) (i, j)
-      by (inl s) = Contains-append_left (pairs_with test n n) (pairs_where test n) (i, j) (subst (λ m. Contains (pairs_with test m m) (i, j)) s (with_contains i j j h e))
-      by (inr k) = Contains-append_right (pairs_with test n n) (pairs_where test n) (i, j) (where_contains i j n h k e)
+      by : (j ≡ n) ⊎ (j < n) → (j < n → Contains (pairs_where test n) (i, j)) → Contains (pairs_where test (suc n)) (i, j)
+      by (inl s) others = Contains-append_left (pairs_with test n n) (pairs_where test n) (i, j) (subst (λ m. Contains (pairs_with test m m) (i, j)) s (with_contains i j j h e))
+      by (inr k) others = Contains-append_right (pairs_with test n n) (pairs_where test n) (i, j) (others k)
 
   pub selected : (n i j : ℕ) → Contains (pairs_where test n) (i, j) ↔ ((i < j) × (j < n) × IsTrue (test i j))
   selected n i j = (

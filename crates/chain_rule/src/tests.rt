@@ -1,9 +1,6 @@
 //! A pair that is closed through a third entry, and each way in which it isn't. The entries have one term each, so all
 //! their S-vectors are empty, and any of their pairs can be closed.
 
-ghost use Rattle.std.specs.Prelude.{◌≡◌, IfOk};
-ghost use Rattle.strong_pairs.specs.Pairs.{IsPair};
-
 mod closing;
 
 use crate::{chained, laws};
@@ -48,16 +45,14 @@ fn through(
     for (first, second) in pairs {
         closed = closed.with(alloc, *first, *second)?;
     }
-    if !is_pair(&closed.entries, i, j) {
+    if !is_pair(closed.entries(), i, j) {
         return Err(Fail::from("no pair"));
     }
-    Ok(chained(&closed.entries, &closed, i, j, by))
+    Ok(chained(closed.entries(), &closed, i, j, by))
 }
 
 #[test]
-fn pairs_are_closed_through_divisors_of_their_common_multiple(
-    rt: HostRuntime,
-) -> Result<(), Fail> {
+fn pairs_are_closed_through_divisors_of_their_common_multiple(rt: HostRuntime) -> Result<(), Fail> {
     let alloc = rt.alloc();
     let rows: [(Lead, bool); 8] = [
         // The least common multiple of the leads is 12·x_0^2·x_1^2.
@@ -80,6 +75,38 @@ fn pairs_are_closed_through_divisors_of_their_common_multiple(
         assert!(rt; middle == answer);
         let first = through(alloc, &[by, one, two], &[(0, 1), (0, 2)], (1, 2), 0)?;
         assert!(rt; first == answer);
+    }
+    Ok(())
+}
+
+#[test]
+fn both_tasks_of_a_third_entry_are_needed(rt: HostRuntime) -> Result<(), Fail> {
+    let alloc = rt.alloc();
+    let leads = [(4, 2, 1, 0), (6, 1, 2, 0), (3, 1, 1, 0)];
+    let rows: [(&[(u32, u32)], u32, bool); 8] = [
+        (&[(0, 2), (1, 2)], 2, true),
+        (&[(0, 2)], 2, false),
+        (&[(1, 2)], 2, false),
+        (&[(0, 1)], 2, false),
+        (&[(0, 1), (0, 2), (1, 2)], 0, false),
+        (&[(0, 1), (0, 2), (1, 2)], 1, false),
+        (&[(0, 1), (0, 2), (1, 2)], 3, false),
+        (&[(0, 1), (0, 2), (1, 2)], u32::MAX, false),
+    ];
+    for (pairs, by, answer) in rows {
+        assert!(rt; through(alloc, &leads, pairs, (0, 1), by)? == answer);
+    }
+    laws::chains_close_tasks();
+    laws::tests_select_pairs();
+    Ok(())
+}
+
+#[test]
+fn common_multiples_end_at_degree_60000(rt: HostRuntime) -> Result<(), Fail> {
+    let alloc = rt.alloc();
+    for (degree, answer) in [(30_000, true), (30_001, false)] {
+        let leads = [(1, 30_000, 0, 0), (1, 0, degree, 0), (1, 1, 1, 0)];
+        assert!(rt; through(alloc, &leads, &[(0, 2), (1, 2)], (0, 1), 2)? == answer);
     }
     Ok(())
 }

@@ -2,7 +2,7 @@
 
 mod plain;
 
-use crate::{ReduceFault, Step, VecList, reduce, reducer};
+use crate::{ReduceFault, Step, VecList, laws, reduce, reducer};
 use laurent_terms::Mono;
 use module_vec::{Entries, ModVec, Place, STEPS, Stop, TERMS, Term};
 use std::alloc::Global;
@@ -102,6 +102,8 @@ fn coefficients_are_divided_downwards(rt: HostRuntime) -> Result<(), Fail> {
     assert!(rt; reducer(&list, list.count(), &place([3, 1, 0], 0)?) == Some(0));
     assert!(rt; reducer(&list, list.count(), &place([3, 1, 0], 1)?) == None);
     assert!(rt; reducer(&list, 0, &place([3, 1, 0], 0)?) == None);
+    laws::chains_add_up();
+    laws::answers_are_determined();
     Ok(())
 }
 
@@ -191,19 +193,25 @@ fn wide_products_are_named_at_their_greatest_place(rt: HostRuntime) -> Result<()
     Ok(())
 }
 
+/// The terms a^p·b^q·c^k for each k from 1 to `count`.
+fn powers(alloc: Global, [p, q]: [i32; 2], count: i32) -> Result<Vec<Term>, Fail> {
+    let mut terms = Vec::new(alloc);
+    for k in 1..=count {
+        terms.push(Term {
+            at: place([p, q, k], 0)?,
+            k: 1,
+        })?;
+    }
+    Ok(terms)
+}
+
 /// The sum of a^high·c^k for each k from 1 to `count`, and the term a^first.
 fn tower(alloc: Global, high: i32, count: i32, first: i32) -> Result<ModVec, Fail> {
-    let mut terms = Vec::new(alloc);
+    let mut terms = powers(alloc, [high, 0], count)?;
     terms.push(Term {
         at: place([first, 0, 0], 0)?,
         k: 1,
     })?;
-    for k in 1..=count {
-        terms.push(Term {
-            at: place([high, 0, k], 0)?,
-            k: 1,
-        })?;
-    }
     sum(alloc, terms.as_slice())
 }
 
@@ -211,18 +219,21 @@ fn tower(alloc: Global, high: i32, count: i32, first: i32) -> Result<ModVec, Fai
 fn reductions_end_after_100000_steps(rt: HostRuntime) -> Result<(), Fail> {
     let alloc = rt.alloc();
     let list = list(alloc, &[&[([1, 0, 0], 0, 1), ([0, 1, 0], 0, -1)]])?;
-    // Each term makes 300 steps, and the one beside them `beside`.
-    for (beside, count) in [(0, 99_900), (100, STEPS as usize)] {
-        let (w, steps) = rest(alloc, &list, &tower(alloc, 300, 333, beside)?)?;
-        assert_eq!(rt; steps.len(), count);
-        assert_eq!(rt; w.terms().len(), 334);
-        for term in w.terms() {
-            assert_eq!(rt; term.k, 1);
-            assert_eq!(rt; term.at.m.exp(0), 0);
-        }
-    }
-    let v = tower(alloc, 300, 333, 101)?;
-    assert!(rt; fault(alloc, &list, &v) == Some(ReduceFault::Stop(Stop::Deep)));
+    // Each term makes 300 steps, and the one beside them 0, 100 or 101.
+    let (w, steps) = rest(alloc, &list, &tower(alloc, 300, 333, 0)?)?;
+    let mut wanted = powers(alloc, [0, 300], 333)?;
+    wanted.push(Term {
+        at: place([0, 0, 0], 0)?,
+        k: 1,
+    })?;
+    assert!(rt; w.terms() == sum(alloc, wanted.as_slice())?.terms());
+    assert_eq!(rt; steps.len(), 99_900);
+    let (_, steps) = rest(alloc, &list, &tower(alloc, 300, 333, 100)?)?;
+    assert_eq!(rt; steps.len(), STEPS as usize);
+    let deep = Some(ReduceFault::Stop(Stop::Deep));
+    assert!(rt; fault(alloc, &list, &tower(alloc, 300, 333, 101)?) == deep);
+    let v = sum(alloc, powers(alloc, [300, 0], 400)?.as_slice())?;
+    assert!(rt; fault(alloc, &list, &v) == deep);
     Ok(())
 }
 
