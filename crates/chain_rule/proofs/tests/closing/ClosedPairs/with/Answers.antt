@@ -2,7 +2,7 @@ use Rattle.std.proofs.Common.{◌≡◌, ℕ, List, [], ◌∷◌, length, refl,
 use Rattle.module_vec.specs.declared.places.Term.{Term}
 use Rattle.module_vec.specs.Reducers.{AreEntries}
 use Rattle.module_vec.specs.Vectors.{coefficient_at}
-use Rattle.strong_pairs.specs.declared.kinds.PairKind.TheVariants.{S}
+use Rattle.outcomes.specs.declared.kinds.PairKind.TheVariants.{S}
 use Rattle.strong_pairs.specs.Pairs.{IsPair}
 use Rattle.strong_pairs.specs.Results.{IsPairVector}
 use Rattle.strong_pairs.proofs.Chaining.{closed_by_chain}
