@@ -1,7 +1,6 @@
 -- A book as its callers see it.
 use Rattle.std.specs.List.{AllByRecursion}
 use Rattle.std.specs.Prelude.{◌≡◌, ◌⊎◌, ℕ, ◌+◌, ◌<◌, ◌≤◌, List, Bool, true, false, Option, Some, None, length, count_by, Result, Ok, Err}
-use Rattle.std.specs.Arc.{arc_value}
 use Rattle.presentation.specs.Presented.{Presented}
 use Rattle.outcomes.specs.declared.tasks.Task.{Task}
 use Rattle.module_vec.specs.declared.places.Term.{Term}
@@ -13,7 +12,7 @@ use Rattle.task_table.specs.declared.states.Reopened.{Reopened}
 use Rattle.task_table.specs.declared.states.Wanted.TheVariants.{Unclosed}
 use Rattle.task_table.specs.Tasks.{IsTask, is_taken, is_unclosed, is_never, is_closed_later}
 use Rattle.task_table.specs.Tables.{Table, IsTable, Takes, NoneIs, IsLeast, FindsLeast, state_of, put, reopen, reopened_count, empty}
-use Rattle.task_table.specs.Rows.{settled_of}
+use Rattle.task_table.specs.Rows.{settled_of, first_state}
 use Rattle.basis_entry.specs.Entries.{BasisEntry, vectors_of}
 use Rattle.basis_entry.specs.Base.{AreBase}
 use Rattle.basis_entry.specs.Seals.{Seal}
@@ -35,6 +34,11 @@ pub record Held : Type 0 where
   pub tasks : Table
   pub commits : ℕ
   pub seal : Option Seal
+
+-- the seal that a cell holds
+abbrev pub seal_value : {A : Type 0} → (A → Seal) → Option A → Option Seal
+seal_value value None = None
+seal_value value (Some s) = Some (value s)
 
 -- how many tasks are closed that were not closed from the start
 abbrev pub closed_later : Table → ℕ
@@ -82,8 +86,29 @@ pub record GivesBack (old : Held) (t : Task) (hard : Bool) (new : Held) : Type 0
   pub taken : IsTaken old t → new ≡ with_state old t (given_state hard)
   pub other : (IsTaken old t → ⊥) → new ≡ old
 
--- the seal is the log's where every task is closed, and the least task is named where one isn't
-abbrev pub Seals : Held → Result Seal SealFault → Held → Type 0
-Seals old (Ok s) new = NoneIs Unclosed old.tasks × (s ≡ record { source = old.source; entries = old.entries }) × (new ≡ record old { seal = Some s })
-Seals old (Err (StillOpen t)) new = IsLeast Unclosed (vectors_of old.entries) old.tasks t × (new ≡ old)
-Seals old (Err NoMemory) new = new ≡ old
+-- the book has the seal of all its entries, and every task is closed
+abbrev pub IsSealed : Held → Seal → Held → Type 0
+IsSealed old s new = NoneIs Unclosed old.tasks × (s ≡ record { source = old.source; entries = old.entries }) × (new ≡ record old { seal = Some s })
+
+-- the least task that isn't closed is named
+abbrev pub IsNotSealed : Held → SealFault → Held → Type 0
+IsNotSealed old (StillOpen t) new = IsLeast Unclosed (vectors_of old.entries) old.tasks t × (new ≡ old)
+IsNotSealed old NoMemory new = new ≡ old
+
+-- ---- opening
+
+-- the generator entries of the presentation are within the limits on entries and terms
+abbrev pub AreWithin : Presented → Limits → Type 0
+AreWithin p limits = (es : List BasisEntry) → AreBase p es → (length es ≤ limits.entries) × (terms_of es ≤ limits.terms)
+
+-- each task of the log is as it comes: closed where it is settled, and open otherwise
+pub record AreNew (es : List BasisEntry) (tasks : Table) : Type 0 where
+  pub table : IsTable tasks
+  pub count : tasks.count ≡ length es
+  pub each : (t : Task) → IsTask (length es) t → state_of tasks t ≡ first_state (settled_of t.kind (settled_by (lead_at (vectors_of es) t.i) (lead_at (vectors_of es) t.j)))
+
+-- the book of the generator entries, without commits
+pub record IsOpened (p : Presented) (limits : Limits) (h : Held) : Type 0 where
+  pub base : AreBase p h.entries
+  pub tasks : AreNew h.entries h.tasks
+  pub is : h ≡ record { source = p; limits = limits; base = length h.entries; entries = h.entries; tasks = h.tasks; commits = 0; seal = None }

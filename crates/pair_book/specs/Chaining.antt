@@ -42,7 +42,7 @@ IsDue h a b u = (is_waiting (state_of h.tasks u) ≡ true) × (IsChainedBy h a b
 -- each such task is closed, and nothing else changes
 pub record AfterChains (mid : Held) (a b : ℕ) (new : Held) : Type 0 where
   pub rest : new ≡ record mid { tasks = record mid.tasks { states = new.tasks.states } }
-  pub length : length new.tasks.states ≡ length mid.tasks.states
+  pub long : length new.tasks.states ≡ length mid.tasks.states
   pub closed : (u : Task) → IsTask (length mid.entries) u → IsDue mid a b u → state_of new.tasks u ≡ Closed
   pub same : (u : Task) → IsTask (length mid.entries) u → (IsDue mid a b u → ⊥) → state_of new.tasks u ≡ state_of mid.tasks u
 

@@ -5,5 +5,6 @@ pub mod Outcomes
 pub mod Works
 pub mod LogEntries
 pub mod Books
+pub mod Inner
 pub mod Commits
 pub mod Chaining

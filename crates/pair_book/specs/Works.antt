@@ -34,10 +34,10 @@ abbrev pub recipe_of : Step → Step → List Step → List Step
 recipe_of first second steps = first ∷ (second ∷ map turned steps)
 
 -- e is the entry of the rest w with this recipe: all signs are turned where the lead coefficient of w is negative
-pub record IsOfRest (p : Presented) (w : List Term) (recipe : List Step) (e : BasisEntry) : Type 0 where
+pub record IsOfRest (p : Presented) (w : List Term) (steps : List Step) (e : BasisEntry) : Type 0 where
   pub source : e.source ≡ p
   pub vector : MatchBool (has_negative_lead w) (sum_of e.vector ≡ scale (negsuc 0) (sum_of w)) (e.vector ≡ w)
-  pub recipe : MatchBool (has_negative_lead w) (e.recipe ≡ Sum (map turned recipe)) (e.recipe ≡ Sum recipe)
+  pub recipe : MatchBool (has_negative_lead w) (e.recipe ≡ Sum (map turned steps)) (e.recipe ≡ Sum steps)
 
 -- the chain of the pair's vector ends in w
 pub record Reduces (b : List (List Term)) (t : Task) (steps : List Step) (w : List Term) : Type 0 where

@@ -19,6 +19,7 @@ mod refusals;
 mod used;
 
 
+pub use book::Book;
 pub use faults::{CommitFault, Committed, SealFault, WorkFault};
 pub use limits::Limits;
 pub use outcome::{Close, Outcome};

@@ -9,7 +9,7 @@ ghost use Rattle.pair_book.specs.LogEntries.{IsLogged};
 
 use basis_entry::{Entry, Front, Sealed};
 use module_vec::{ModVec, VecList};
-use std::alloc::AllocError;
+use std::alloc::{AllocError, Global};
 use std::marker::Model;
 use std::sync::Arc;
 
@@ -33,19 +33,15 @@ impl Model for Log {
 }
 
 impl Log {
-    /// The log of these entries, with room for so many.
-    pub fn with_room(base: Vec<Arc<Entry>>, room: u32) -> Result<Log, AllocError>
-        requires base { length base.items ≤ room }
-        requires most { room ≤ MOST }
-        ensures { IfOk result (λ log. log ≡ record { room = room; entries = map arc_value base.items }) }
+    /// The log without entries, with room for so many.
+    pub fn with_room(alloc: Global, room: u32) -> Result<Log, AllocError>
+        requires { room ≤ MOST }
+        ensures { IfOk result (λ log. log ≡ record { room = room; entries = [] }) }
     {
-        let mut entries = base;
-        for entry in &entries {
-            // The proof needs what holds of the entry, and the call says so.
-            let _ = entry.vector();
-        }
-        entries.reserve(room as usize - entries.len())?;
-        Ok(Log { entries, room })
+        Ok(Log {
+            entries: Vec::with_capacity(alloc, room as usize)?,
+            room,
+        })
     }
 
     /// Puts an entry at the end. No memory is taken.
