@@ -1,6 +1,6 @@
 -- A book as its callers see it.
 use Rattle.std.specs.List.{AllByRecursion}
-use Rattle.std.specs.Prelude.{◌≡◌, ◌⊎◌, ℕ, ◌+◌, ◌<◌, ◌≤◌, List, Bool, true, false, Option, Some, None, length, count_by, Result, Ok, Err}
+use Rattle.std.specs.Prelude.{◌≡◌, ◌⊎◌, ℕ, ◌+◌, ◌<◌, ◌≤◌, List, Bool, true, false, Option, Some, None, length, sum_by, cond}
 use Rattle.presentation.specs.Presented.{Presented}
 use Rattle.outcomes.specs.declared.tasks.Task.{Task}
 use Rattle.module_vec.specs.declared.places.Term.{Term}
@@ -41,8 +41,11 @@ seal_value value None = None
 seal_value value (Some s) = Some (value s)
 
 -- how many tasks are closed that were not closed from the start
+abbrev pub closed_once : TaskState → ℕ
+closed_once s = cond (is_closed_later s) 1 0
+
 abbrev pub closed_later : Table → ℕ
-closed_later tasks = count_by is_closed_later tasks.states
+closed_later tasks = sum_by closed_once tasks.states
 
 -- a seal is that of all entries, and then every task is closed
 abbrev pub IsSealedBy : Held → Option Seal → Type 0

@@ -8,7 +8,7 @@ ghost use Rattle.task_table.specs.declared.states.Reopened.TheVariants.{HardOnes
 ghost use Rattle.task_table.specs.Tables.{FindsLeast, reopen, reopened_count};
 ghost use Rattle.basis_entry.specs.Base.{AreBase};
 ghost use Rattle.basis_entry.specs.Entries.{vectors_of};
-ghost use Rattle.pair_book.specs.Books.{IsBook, AreWithin, IsOpened, IsTaken, TakesTask, GivesBack, IsSealed, IsNotSealed};
+ghost use Rattle.pair_book.specs.Books.{IsBook, AreWithin, IsOpened, IsTaken, TakesTask, GivesBack, given_state, IsSealed, IsNotSealed};
 
 use crate::log::Log;
 use crate::newcomers::enter;
@@ -51,8 +51,7 @@ impl Model for Book {
 impl Book {
     /// Takes the least open task. `None` is answered exactly where no task is open.
     pub fn take(&mut self) -> Option<Task>
-        ensures takes { TakesTask self.old result self.new }
-        ensures book { IsBook self.new }
+        ensures { TakesTask self.old result self.new }
     {
         self.tasks.take(&self.log)
     }
@@ -68,21 +67,18 @@ impl Book {
 
     /// A taken task becomes hard, or open. For any other task nothing changes.
     pub fn give_back(&mut self, task: Task, hard: bool)
-        ensures gives { GivesBack self.old task hard self.new }
-        ensures book { IsBook self.new }
+        ensures { GivesBack self.old task hard self.new }
     {
         if !self.is_taken(task) {
             return;
         }
-        let state = if hard { TaskState::Hard } else { TaskState::Open };
-        self.tasks.set(task, state);
+        self.tasks.set(task, given(hard));
     }
 
     /// Each hard task becomes open. Answers their number.
     pub fn soften(&mut self) -> u32
         ensures new { self.new ≡ record self.old { tasks = reopen HardOnes (self.old).tasks } }
         ensures count { result ≡ reopened_count HardOnes (self.old).tasks }
-        ensures book { IsBook self.new }
     {
         self.tasks.reopen(Reopened::HardOnes)
     }
@@ -91,7 +87,6 @@ impl Book {
     pub fn release(&mut self) -> u32
         ensures new { self.new ≡ record self.old { tasks = reopen TakenOnes (self.old).tasks } }
         ensures count { result ≡ reopened_count TakenOnes (self.old).tasks }
-        ensures book { IsBook self.new }
     {
         self.tasks.reopen(Reopened::TakenOnes)
     }
@@ -124,6 +119,17 @@ impl Book {
         ensures { FindsLeast Unclosed (vectors_of self.now.entries) self.now.tasks result }
     {
         self.tasks.least(&self.log, Wanted::Unclosed)
+    }
+}
+
+/// The state of a task that is given back.
+fn given(hard: bool) -> TaskState
+    ensures { result ≡ given_state hard }
+{
+    if hard {
+        TaskState::Hard
+    } else {
+        TaskState::Open
     }
 }
 

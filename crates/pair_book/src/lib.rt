@@ -16,6 +16,7 @@ mod log;
 mod newcomers;
 mod outcome;
 mod refusals;
+mod sealing;
 mod used;
 
 
