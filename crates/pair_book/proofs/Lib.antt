@@ -1,3 +1,5 @@
 pub mod Keeping
 pub mod Reading
 pub mod Strength
+pub mod Starting
+pub mod Opened

@@ -14,6 +14,7 @@ pub mod laws;
 mod limits;
 mod log;
 mod newcomers;
+mod opening;
 mod outcome;
 mod refusals;
 mod sealing;

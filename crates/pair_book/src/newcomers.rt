@@ -45,7 +45,7 @@ impl<'a> Row for Newcomer<'a> {
 }
 
 /// Whether a lead coefficient divides another one.
-fn divides(by: i128, k: i128) -> bool
+pub fn divides(by: i128, k: i128) -> bool
     requires by { pos 0 <ℤ by }
     requires k { pos 0 <ℤ k }
     ensures { result ≡ divides_number by k }
