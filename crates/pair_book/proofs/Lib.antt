@@ -3,3 +3,4 @@ pub mod Reading
 pub mod Strength
 pub mod Starting
 pub mod Opened
+pub mod Transport

@@ -1,6 +1,7 @@
 -- The book of the generator entries.
-use Rattle.std.proofs.Common.{ℕ, zero, suc, ◌+◌, ◌<◌, ◌≤◌, ◌≡◌, ◌⊎◌, inl, inr, arith, refl, sym, ap, ◌∙◌, List, [], ◌∷◌, length, map, Bool, true, false, cond, not, ◌||◌, take, Some, None, subst, eqb→eq, eq-eqb}
+use Rattle.std.proofs.Common.{ℕ, zero, suc, ◌+◌, ◌<◌, ◌≤◌, ◌≡◌, ◌⊎◌, inl, inr, arith, refl, sym, ap, ◌∙◌, List, [], ◌∷◌, length, map, Bool, true, false, cond, not, ◌||◌, take, Some, None, subst, eq-eqb}
 use borrow.Author.Differences.{ints}
+use Rattle.std.proofs.lemmas.Bool.{eqb-true}
 use Rattle.std.proofs.lemmas.List.Sums.{sum_by-cons}
 use Rattle.std.proofs.lemmas.List.{length-map}
 use Rattle.std.proofs.lemmas.Option.{slice_get_within}
@@ -41,7 +42,7 @@ lead_positive (v ∷ b) all zero h = subst (λ (w : List Term). pos 0 <ℤ (lead
 lead_positive (v ∷ b) all (suc i) h = lead_positive b all.1 i (omega (arith, h))
 
 pub number_divides : (k l : ℤ) → pos 0 <ℤ k → pos 0 <ℤ l → divides_number k l ≡ true → Divides k l
-number_divides (pos k) (pos l) h g e = (divides_test (pos k) (pos l) h g).0 (ap pos (eqb→eq (l % k) 0 e))
+number_divides (pos k) (pos l) h g e = (divides_test (pos k) (pos l) h g).0 (ap pos (eqb-true (l % k) 0 e))
 number_divides (negsuc k) l h g e = absurd (omega (arith, ints, h))
 number_divides (pos k) (negsuc l) h g e = absurd (omega (arith, ints, g))
 

@@ -1,6 +1,8 @@
 //! The tasks of an entry that is appended.
 
-ghost use Rattle.std.specs.Prelude.{◌≡◌, ◌<◌, ◌++◌, ◌∷◌, [], pos, ◌<ℤ◌, length};
+ghost use Rattle.std.specs.Prelude.{◌≡◌, ◌<◌, ◌↔◌, IsTrue, ◌++◌, ◌∷◌, [], pos, ◌<ℤ◌, length};
+ghost use Rattle.strong_pairs.specs.Covering.{Divides};
+ghost use Rattle.strong_pairs.specs.Pairs.{lead_of};
 ghost use Rattle.std.specs.Arc.{arc_value};
 ghost use Rattle.module_vec.specs.Reducers.{IsEntry};
 ghost use Rattle.task_table.specs.Rows.{grown};
@@ -48,7 +50,8 @@ impl<'a> Row for Newcomer<'a> {
 pub fn divides(by: i128, k: i128) -> bool
     requires by { pos 0 <ℤ by }
     requires k { pos 0 <ℤ k }
-    ensures { result ≡ divides_number by k }
+    ensures test { result ≡ divides_number by k }
+    ensures divides { IsTrue result ↔ Divides by k }
 {
     k % by == 0
 }
@@ -66,6 +69,14 @@ fn settled(first: &Term, second: &Term) -> Settled
     }
 }
 
+/// The lead of an entry.
+pub fn entry_lead(entry: &Entry) -> Term
+    ensures is { result ≡ lead_of (entry.now).vector }
+    ensures positive { pos 0 <ℤ result.k }
+{
+    entry.vector().terms()[0]
+}
+
 /// Appends an entry and its tasks.
 pub fn enter(log: &mut Log, tasks: &mut TaskTable, entry: Arc<Entry>)
     requires count { tasks.old.count ≡ length log.old.entries }
@@ -74,7 +85,7 @@ pub fn enter(log: &mut Log, tasks: &mut TaskTable, entry: Arc<Entry>)
     ensures log { log.new ≡ record log.old { entries = log.old.entries ++ arc_value entry ∷ [] } }
     ensures tasks { tasks.new ≡ grown tasks.old (settled_row log.old.entries (arc_value entry).vector) }
 {
-    let lead = entry.vector().terms()[0];
+    let lead = entry_lead(&entry);
     tasks.push(&Newcomer { log, lead });
     log.push(entry);
 }

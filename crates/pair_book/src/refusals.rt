@@ -10,7 +10,7 @@ ghost use Rattle.pair_book.specs.Outcomes.{used_entry, AllThere, AreRising, IsTh
 ghost use Rattle.strong_pairs.specs.Pairs.{lead_of};
 
 use crate::log::Log;
-use crate::newcomers::divides;
+use crate::newcomers::{divides, entry_lead};
 use crate::{Book, Close, CommitFault, Outcome, Used};
 use basis_entry::{Entry, Recipe};
 use module_vec::{Term, VecList};
@@ -50,7 +50,7 @@ fn divides_lead(d: &Term, e: &Term) -> bool
 fn first_divisor(log: &Log, entry: &Entry) -> Option<u32>
     ensures { MatchOption result (NoneDivides (vectors_of log.now.entries) (lead_of (entry.now).vector)) (λ k. IsLeadDivisor log.now.entries entry.now k) }
 {
-    let e = entry.vector().terms()[0];
+    let e = entry_lead(entry);
     for k in 0..log.count() {
         if divides_lead(&lead(log, k), &e) {
             return Some(k);

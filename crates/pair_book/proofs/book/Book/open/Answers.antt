@@ -25,7 +25,8 @@ invariant_of-result c =
     let order : tasks.order ≡ limits.order = c.in_ok-terms.ensures.same.0 ∙ ap (λ (t : Table). t.order) c.in_ok-tasks.ensures in
     let room : tasks.room ≡ limits.entries = c.in_ok-terms.ensures.same.1 ∙ ap (λ (t : Table). t.room) c.in_ok-tasks.ensures in
     let book = book_new p limits es tasks c.in_ok-base.ensures all fresh within.0 within.1 order room in
-    let n : length es ≡ c.len.result = length-map c.in_ok-base.base.items arc_value ∙ sym c.len.ensures in
+    let long = length-map c.in_ok-base.base.items arc_value in
+    let n : length es ≡ c.len.result = omega (arith, long, c.len.ensures) in
     let source : c.in_ok-try_clone.field-0.value ≡ p = c.in_ok-try_clone.ensures in
     let Q : Presented → ℕ → List BasisEntry → Type 0 = λ s k xs. IsBook (record { source = s; limits = limits; base = k; entries = xs; tasks = tasks; commits = 0; seal = None }) in
     record {
