@@ -4,3 +4,4 @@ pub mod Strength
 pub mod Starting
 pub mod Opened
 pub mod Transport
+pub mod Strangers

@@ -85,6 +85,15 @@ Refuses h w (Some (Stale front now)) = HasBudget h w.task × AllThere h.entries 
 Refuses h w (Some (Full m c)) = OnRest w.close (λ e. IsFresh h w e × NoneDivides (vectors_of h.entries) (lead_of e.vector) × Passes h e m c)
 Refuses h w None = HasBudget h w.task × AllThere h.entries w.used × IfRest w.close (λ e. IsFresh h w e × NoneDivides (vectors_of h.entries) (lead_of e.vector) × Fits h e)
 
+-- the refusal that comes of a rest that is the outcome's, or none, where the refusals before those of rests don't come
+abbrev pub RefusesRest : Held → Worked → BasisEntry → Option CommitFault → Type 0
+RefusesRest h w e (Some NotTaken) = ⊥
+RefusesRest h w e (Some (Spent n)) = ⊥
+RefusesRest h w e (Some (Stranger k)) = ((e.source ≢ h.source) × (k ≡ length h.entries)) ⊎ (IsFresh h w e × IsLeadDivisor h.entries e k)
+RefusesRest h w e (Some (Stale front now)) = (e.source ≡ h.source) × (front ≡ w.front) × (now ≡ length h.entries) × (front < now)
+RefusesRest h w e (Some (Full m c)) = IsFresh h w e × NoneDivides (vectors_of h.entries) (lead_of e.vector) × Passes h e m c
+RefusesRest h w e None = IsFresh h w e × NoneDivides (vectors_of h.entries) (lead_of e.vector) × Fits h e
+
 -- ---- what a commit does
 
 abbrev pub state_after : Bool → TaskState
