@@ -5,3 +5,5 @@ pub mod Starting
 pub mod Opened
 pub mod Transport
 pub mod Strangers
+pub mod Bounds
+pub mod Growing

@@ -1,6 +1,6 @@
 -- Outcomes of work: the entries that were used, and what they show.
 use Rattle.std.specs.List.{AllByRecursion}
-use Rattle.std.specs.Prelude.{◌≡◌, ◌<◌, ◌≤◌, ◌+◌, ℕ, pos, List, map, length, slice_get, Some}
+use Rattle.std.specs.Prelude.{◌≡◌, ◌<◌, ◌≤◌, ◌+◌, ℕ, List, [], ◌∷◌, ◌++◌, map, length, slice_get, Some}
 use Rattle.std.specs.Arc.{arc_value}
 use Rattle.outcomes.specs.declared.kinds.PairKind.{PairKind}
 use Rattle.outcomes.specs.declared.kinds.PairKind.TheVariants.{S, G}
@@ -12,7 +12,7 @@ use Rattle.module_vec.specs.declared.steps.Step.{Step}
 use Rattle.module_vec.specs.Modules.{steps_at}
 use Rattle.strong_pairs.specs.Covering.{Covers}
 use Rattle.strong_pairs.specs.Pairs.{IsPair, pair_place, ArePairSteps, both_at}
-use Rattle.strong_pairs.specs.Tasks.{AreStepsBelow}
+use Rattle.strong_pairs.specs.Tasks.{AreStepsBelow, IsClosed}
 use Rattle.basis_entry.specs.declared.recipes.Recipe.{Recipe}
 use Rattle.basis_entry.specs.declared.recipes.Recipe.TheVariants.{Gen, Sum}
 use Rattle.basis_entry.specs.Entries.{BasisEntry, IsBasisEntry, vectors_of}
@@ -64,11 +64,17 @@ recipe_steps (Sum steps) = length steps
 abbrev pub IsShort : BasisEntry → Type 0
 IsShort e = recipe_steps e.recipe ≤ STEPS + 2
 
+-- e is the rest of a task: it is made from the task's pair, and with it an S task is closed
+pub record IsRestOf (b : List (List Term)) (t : Task) (e : BasisEntry) : Type 0 where
+  pub made : IsMadeFor b t e
+  pub short : IsShort e
+  pub closes : t.kind ≡ S → IsClosed (b ++ e.vector ∷ []) S t.i t.j
+
 -- the close of a task is true of entries with these vectors
 abbrev pub IsTrueOf : List (List Term) → Task → Close → Type 0
 IsTrueOf b t (Covered by) = (t.kind ≡ G) × Covers b t.i t.j by
 IsTrueOf b t (Zero steps) = (t.kind ≡ S) × Zeroes b t.i t.j steps
-IsTrueOf b t (Rest e) = IsMadeFor b t (arc_value e) × IsShort (arc_value e)
+IsTrueOf b t (Rest e) = IsRestOf b t (arc_value e)
 
 -- the pair and its close are true of each list that has the used entries under their numbers
 pub record IsOutcome (w : Worked) : Type 0 where

@@ -79,6 +79,13 @@ impl Outcome {
         &self.close
     }
 
+    /// How its work has ended, for who is done with the outcome.
+    pub(crate) fn into_close(self) -> Close
+        ensures { result ≡ self.close }
+    {
+        self.close
+    }
+
     /// The entries that were used, by rising numbers.
     pub fn used(&self) -> &[Used]
         ensures { map used_entry result.now ≡ self.now.used }
