@@ -7,7 +7,7 @@ use Rattle.std.specs.List.{slice_get, AllByRecursion}
 use Rattle.presentation.specs.Presented.{Presented}
 use Rattle.outcomes.specs.declared.tasks.Task.{Task}
 use Rattle.module_vec.specs.declared.places.Term.{Term}
-use Rattle.strong_pairs.specs.Pairs.{IsPair}
+use Rattle.strong_pairs.specs.Pairs.{IsPair, lead_at, lead_of}
 use Rattle.strong_pairs.specs.Tasks.{IsClosed}
 use Rattle.task_table.specs.declared.states.TaskState.TheVariants.{Open, Closed}
 use Rattle.task_table.specs.Tasks.{IsTask, is_never, is_unclosed, is_taken}
@@ -95,12 +95,12 @@ book_grown h e commits b fresh entry source short next fits more =
             (b.truly u o (sym (ap is_unclosed (state_old h.tasks es e.vector u b.table (task_in h u b o))) ∙ c) old))
         | inr (j, i) ↦
             let s = state_new h.tasks es e.vector u b.table b.count j i in
-            let t = first_shut (settled_of u.kind (settled_by _ _)) (sym (ap is_unclosed s) ∙ c) in
+            let t = first_shut (settled_of u.kind (settled_by (lead_at (vectors_of es) u.i) (lead_of e.vector))) (sym (ap is_unclosed s) ∙ c) in
             settled_closed (vectors_of (es ++ e ∷ [])) (are_entries (es ++ e ∷ []) all) u pair (settled_new es e u j i ∙ t)
       ];
       settled = λ u k. elim (older (length es) u (down u k)) [
         | inl o ↦ ap is_never (state_old h.tasks es e.vector u b.table (task_in h u b o)) ∙ (b.settled u o ∙ sym (settled_old es e u o))
-        | inr (j, i) ↦ ap is_never (state_new h.tasks es e.vector u b.table b.count j i) ∙ (first_never (settled_of u.kind (settled_by _ _)) ∙ sym (settled_new es e u j i))
+        | inr (j, i) ↦ ap is_never (state_new h.tasks es e.vector u b.table b.count j i) ∙ (first_never (settled_of u.kind (settled_by (lead_at (vectors_of es) u.i) (lead_of e.vector))) ∙ sym (settled_new es e u j i))
       ];
       commits = let s = sum_by-append closed_once h.tasks.states (row_states (settled_row es e.vector)) in let o = b.commits in omega (arith, n, s, o, more);
       seal = seal_none new h.seal fresh;

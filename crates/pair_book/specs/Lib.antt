@@ -7,4 +7,3 @@ pub mod LogEntries
 pub mod Books
 pub mod Inner
 pub mod Commits
-pub mod Chaining

@@ -22,6 +22,33 @@ use strong_pairs::covers;
 use task_table::TaskState;
 
 impl Book {
+    /// Commits an outcome of a task that is taken in this book, or hands it back. It takes no memory.
+    ///
+    /// `Closed` comes exactly where the outcome has no rest. Otherwise the rest is appended to the log, with its tasks. The
+    /// refusals come in the order of [`CommitFault`], but that the lead terms of the log are tried after `Stale`.
+    pub fn commit(&mut self, o: Outcome) -> Result<Committed, (CommitFault, Outcome)>
+        ensures { Commits self.old o result self.new }
+    {
+        if let Some(fault) = self.refusal(&o) {
+            return Err((fault, o));
+        }
+        let task = o.task();
+        let number = self.log.count();
+        match o.into_close() {
+            Close::Rest { entry } => {
+                let closed = self.append(task, entry);
+                Ok(Committed::Appended {
+                    entry: number,
+                    closed,
+                })
+            }
+            _ => {
+                self.close(task);
+                Ok(Committed::Closed)
+            }
+        }
+    }
+
     /// Closes a task by a commit.
     fn close(&mut self, task: Task)
         requires may { MayCommit self.old task }

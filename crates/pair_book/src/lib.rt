@@ -7,7 +7,6 @@
 #![tactic(auto)]
 
 mod book;
-mod chains;
 mod commits;
 mod faults;
 pub mod laws;
