@@ -1,6 +1,7 @@
 //! `Book`: what a completion has come to.
 
 ghost use Rattle.std.specs.Prelude.{◌≡◌, ◌≤◌, ◌<◌, ◌↔◌, ◌++◌, ◌∷◌, [], IsTrue, map, length, slice_get, Some, None, MatchOption, MatchResult, IfOk};
+ghost use Rattle.std.proofs.Common.{refl};
 ghost use Rattle.std.specs.Arc.{arc_value};
 ghost use Rattle.task_table.specs.declared.TheConstants.{ENTRIES as MOST};
 ghost use Rattle.task_table.specs.declared.states.Wanted.TheVariants.{Unclosed};
@@ -142,5 +143,29 @@ impl VecList for Book {
 
     fn vector(&self, at: u32) -> &ModVec {
         self.log.vector(at)
+    }
+}
+
+impl Front for Book {
+    ghost entries = { λ b. b.entries };
+
+    ghost seal = { λ b. b.seal };
+
+    ghost vectors_are = { λ b. refl };
+
+    fn front(&self) -> u32 {
+        let count = self.log.count();
+        if self.seal.is_some() { count + 1 } else { count }
+    }
+
+    fn sealed(&self) -> Option<&Sealed> {
+        match &self.seal {
+            Some(seal) => Some(seal),
+            None => None,
+        }
+    }
+
+    fn entry(&self, at: u32) -> &Arc<Entry> {
+        self.log.get(at)
     }
 }
