@@ -6,4 +6,5 @@ pub mod Works
 pub mod LogEntries
 pub mod Books
 pub mod Inner
+pub mod Chaining
 pub mod Commits

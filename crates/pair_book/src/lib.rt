@@ -7,6 +7,7 @@
 #![tactic(auto)]
 
 mod book;
+mod chains;
 mod commits;
 mod faults;
 pub mod laws;
