@@ -7,3 +7,4 @@ pub mod Transport
 pub mod Strangers
 pub mod Bounds
 pub mod Growing
+pub mod Dues

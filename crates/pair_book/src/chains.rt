@@ -25,9 +25,10 @@ impl Shut for Book {
 
     fn shut(&self, i: u32, j: u32) -> bool {
         let task = s_task_of(i, j);
-        task.i < task.j
-            && task.j < self.tasks.count()
-            && self.tasks.state(task) == TaskState::Closed
+        if task.i >= task.j || task.j >= self.tasks.count() {
+            return false;
+        }
+        is_closed_state(self.tasks.state(task))
     }
 }
 
@@ -68,11 +69,19 @@ impl Book {
     {
         let first = self.is_due(a, x, b);
         let second = self.is_due(b, x, a);
-        if first {
-            self.tasks.set(s_task_of(a, x), TaskState::Closed);
-        }
-        if second {
-            self.tasks.set(s_task_of(b, x), TaskState::Closed);
+        self.close_if(first, s_task_of(a, x));
+        self.close_if(second, s_task_of(b, x));
+    }
+
+    /// Closes a task that is open or hard, and truly closed, where it is due.
+    fn close_if(&mut self, due: bool, task: Task)
+        requires task { tasks.IsTask (length self.old.entries) task }
+        requires waiting { IsTrue due → is_waiting (state_of self.old.tasks task) ≡ true }
+        requires closed { IsTrue due → IsClosed (vectors_of self.old.entries) task.kind task.i task.j }
+        ensures { self.new ≡ closed_if due self.old task }
+    {
+        if due {
+            self.tasks.set(task, TaskState::Closed);
         }
     }
 
@@ -96,6 +105,13 @@ fn is_waiting_state(state: TaskState) -> bool
     ensures { result ≡ is_waiting state }
 {
     matches!(state, TaskState::Open | TaskState::Hard)
+}
+
+/// Whether a task in this state was closed by a commit.
+fn is_closed_state(state: TaskState) -> bool
+    ensures { result ≡ tasks.is_closed_later state }
+{
+    matches!(state, TaskState::Closed)
 }
 
 /// The S task of two entries in either order.
