@@ -66,3 +66,6 @@ pub record ChainsWith (old : Held) (a b x : ℕ) (new : Held) : Type 0 where
   pub first_is : (first ≡ true) ↔ IsDueBy old a x b
   pub second_is : (second ≡ true) ↔ IsDueBy old b x a
   pub is : new ≡ closed_if second (closed_if first old (s_task a x)) (s_task b x)
+
+abbrev pub ChainsAt : Held → ℕ → ℕ → ℕ → Held → Type 0
+ChainsAt old a b x new = (((x ≡ a) ⊎ (x ≡ b)) × (new ≡ old)) ⊎ ((x ≢ a) × (x ≢ b) × ChainsWith old a b x new)

@@ -7,7 +7,7 @@ ghost use Rattle.task_table.specs.Tasks as tasks;
 ghost use Rattle.task_table.specs.Tables.{state_of};
 ghost use Rattle.basis_entry.specs.Entries.{vectors_of};
 ghost use Rattle.pair_book.specs.Books.{IsBook};
-ghost use Rattle.pair_book.specs.Chaining.{IsDueBy, ChainsWith, AreChained, ClosesChained, s_task, closed_if, is_waiting};
+ghost use Rattle.pair_book.specs.Chaining.{IsDueBy, ChainsWith, ChainsAt, AreChained, ClosesChained, s_task, closed_if, is_waiting};
 
 use crate::Book;
 use chain_rule::{Shut, chained};
@@ -52,10 +52,25 @@ impl Book {
     {
         let count = self.log.count();
         for x in 0..count {
-            if x != a && x != b {
-                self.chain_with(a, b, x);
-            }
+            self.chain_at(a, b, x);
         }
+    }
+
+    /// Closes what is due with this entry, where it is a third one.
+    fn chain_at(&mut self, a: u32, b: u32, x: u32)
+        requires first { a < length self.old.entries }
+        requires second { b < length self.old.entries }
+        requires third { x < length self.old.entries }
+        requires apart { a ≢ b }
+        ensures chained { ChainsAt self.old a b x self.new }
+        ensures book { IsBook self.old }
+    {
+        // The proof needs what holds of the book.
+        let _ = &self.commits;
+        if x == a || x == b {
+            return;
+        }
+        self.chain_with(a, b, x);
     }
 
     /// Closes what is due with one third entry.
@@ -64,9 +79,10 @@ impl Book {
         requires second { b < length self.old.entries }
         requires third { x < length self.old.entries }
         requires apart { (a ≢ b) × (x ≢ a) × (x ≢ b) }
-        ensures chained { ChainsWith self.old a b x self.new }
-        ensures book { IsBook self.old }
+        ensures { ChainsWith self.old a b x self.new }
     {
+        // The proof needs what holds of the book.
+        let _ = &self.commits;
         let first = self.is_due(a, x, b);
         let second = self.is_due(b, x, a);
         self.close_if(first, s_task_of(a, x));
