@@ -312,8 +312,8 @@ chain_third x mid cur new a b book ab xa xb la lb lx c w = subst (AreChained (x 
   stays : (u : Task) → IsTask (length mid.entries) u → (IsDue (x + 1) mid a b u → ⊥) → state_of two.tasks u ≡ state_of mid.tasks u
   stays u k d =
       let before = c.same u k (λ z. d (due_more x mid a b u z)) in
-      let after = elim (read_if cur w.first ua u book.table (in_cur ua ka) (in_cur u k)) [ inl s ↦ s | inr s ↦ absurd (d (due_here u (inl (s.1, first_from s.0)))) ] in
-      let last = elim (read_if one w.second ub u (table_if cur w.first ua book.table) (in_one ub kb) (in_one u k)) [ inl s ↦ s | inr s ↦ absurd (d (due_here u (inr (s.1, second_from s.0)))) ] in
+      let after : state_of one.tasks u ≡ state_of cur.tasks u = elim (read_if cur w.first ua u book.table (in_cur ua ka) (in_cur u k)) [ inl s ↦ s | inr s ↦ absurd (d (due_here u (inl (s.1, first_from s.0)))) ] in
+      let last : state_of two.tasks u ≡ state_of one.tasks u = elim (read_if one w.second ub u (table_if cur w.first ua book.table) (in_one ub kb) (in_one u k)) [ inl s ↦ s | inr s ↦ absurd (d (due_here u (inr (s.1, second_from s.0)))) ] in
       last ∙ (after ∙ before)
 
   made : AreChained (x + 1) mid a b two

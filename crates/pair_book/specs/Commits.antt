@@ -22,6 +22,7 @@ use Rattle.pair_book.specs.Settled.{settled_row}
 use Rattle.pair_book.specs.Outcomes.{Worked, UsedEntry, IsThere, AllThere, recipe_steps}
 use Rattle.pair_book.specs.LogEntries.{terms_of, steps_of}
 use Rattle.pair_book.specs.Books.{Held, IsTaken, with_state}
+use Rattle.pair_book.specs.Chaining.{ClosesChained}
 
 -- k is the least number of a used entry that isn't the log's
 pub record IsStranger (es : List BasisEntry) (used : List UsedEntry) (k : ℕ) : Type 0 where
@@ -108,6 +109,6 @@ appended_by h t e closed = record h { entries = h.entries ++ e ∷ []; tasks = p
 
 abbrev pub Commits : Held → Worked → Result Committed (CommitFault × Worked) → Held → Type 0
 Commits old w (Err (fault, back)) new = Refuses old w (Some fault) × (back ≡ w) × (new ≡ old)
-Commits old w (Ok done.Closed) new = Refuses old w None × (OnRest w.close (λ e. Unit {0}) → ⊥) × (new ≡ closed_by old w.task)
+Commits old w (Ok done.Closed) new = Refuses old w None × (OnRest w.close (λ e. Unit {0}) → ⊥) × ClosesChained (closed_by old w.task) w.task true new
 Commits old w (Ok (done.Appended k closed)) new = Refuses old w None × (k ≡ length old.entries) × OnRest w.close (λ e. (IsTrue closed ↔ IsClosed (vectors_of (old.entries ++ e ∷ [])) w.task.kind w.task.i w.task.j) ×
-    (new ≡ appended_by old w.task e closed))
+    ClosesChained (appended_by old w.task e closed) w.task closed new)

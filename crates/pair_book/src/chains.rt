@@ -33,11 +33,14 @@ impl Shut for Book {
 }
 
 impl Book {
-    /// Closes what is due behind a task that a commit has closed.
-    pub(crate) fn chain_behind(&mut self, task: Task)
+    /// Closes what is due behind a commit on this task, where the commit has closed it.
+    pub(crate) fn chain_behind(&mut self, task: Task, closed: bool)
         requires task { tasks.IsTask (length self.old.entries) task }
-        ensures { ClosesChained self.old task true self.new }
+        ensures { ClosesChained self.old task closed self.new }
     {
+        if !closed {
+            return;
+        }
         match task.kind {
             PairKind::S => self.chain(task.i, task.j),
             PairKind::G => {}

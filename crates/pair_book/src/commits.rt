@@ -24,8 +24,8 @@ use task_table::TaskState;
 impl Book {
     /// Commits an outcome of a task that is taken in this book, or hands it back. It takes no memory.
     ///
-    /// `Closed` comes exactly where the outcome has no rest. Otherwise the rest is appended to the log, with its tasks. The
-    /// refusals come in the order of [`CommitFault`], but that the lead terms of the log are tried after `Stale`.
+    /// `Closed` comes exactly where the outcome has no rest. Otherwise the rest is appended to the log, with its tasks. Where
+    /// an S task is closed so, the open and hard S tasks that the chain rule then shows are closed too. The refusals come in the order of [`CommitFault`], but that the lead terms of the log are tried after `Stale`.
     pub fn commit(&mut self, o: Outcome) -> Result<Committed, (CommitFault, Outcome)>
         ensures { Commits self.old o result self.new }
     {
@@ -37,6 +37,7 @@ impl Book {
         match o.into_close() {
             Close::Rest { entry } => {
                 let closed = self.append(task, entry);
+                self.chain_behind(task, closed);
                 Ok(Committed::Appended {
                     entry: number,
                     closed,
@@ -44,6 +45,7 @@ impl Book {
             }
             _ => {
                 self.close(task);
+                self.chain_behind(task, true);
                 Ok(Committed::Closed)
             }
         }
