@@ -175,10 +175,14 @@ due_carry : (h : Held) (T U : Table) (a x b : ℕ) → a ≢ x → a ≢ b → x
 due_carry h T U a x b ax ab xb e f g d =
     let P = shut_pairs h.entries T in let Q = shut_pairs h.entries U in
     let both : IsAmong Q (s_task a x).i b × IsAmong Q b (s_task a x).j = elim (cases a x ax) [
-      | inl u ↦ (subst (λ (z : Task). IsAmong Q z.i b) (sym u.1) (among_carry h.entries T U a b f (subst (λ (z : Task). IsAmong P z.i b) u.1 d.chained.with_first)),
-        subst (λ (z : Task). IsAmong Q b z.j) (sym u.1) (among_carry h.entries T U b x (turned_state T U x b xb g) (subst (λ (z : Task). IsAmong P b z.j) u.1 d.chained.with_second)))
-      | inr u ↦ (subst (λ (z : Task). IsAmong Q z.i b) (sym u.1) (among_carry h.entries T U x b g (subst (λ (z : Task). IsAmong P z.i b) u.1 d.chained.with_first)),
-        subst (λ (z : Task). IsAmong Q b z.j) (sym u.1) (among_carry h.entries T U b a (turned_state T U a b ab f) (subst (λ (z : Task). IsAmong P b z.j) u.1 d.chained.with_second)))
+      | inl u ↦ (
+        subst (λ (z : Task). IsAmong Q z.i b) (sym u.1) (among_carry h.entries T U a b f (subst (λ (z : Task). IsAmong P z.i b) u.1 d.chained.with_first)),
+        subst (λ (z : Task). IsAmong Q b z.j) (sym u.1) (among_carry h.entries T U b x (turned_state T U x b xb g) (subst (λ (z : Task). IsAmong P b z.j) u.1 d.chained.with_second)),
+      )
+      | inr u ↦ (
+        subst (λ (z : Task). IsAmong Q z.i b) (sym u.1) (among_carry h.entries T U x b g (subst (λ (z : Task). IsAmong P z.i b) u.1 d.chained.with_first)),
+        subst (λ (z : Task). IsAmong Q b z.j) (sym u.1) (among_carry h.entries T U b a (turned_state T U a b ab f) (subst (λ (z : Task). IsAmong P b z.j) u.1 d.chained.with_second)),
+      )
     ] in
     record {
       waiting = sym (ap is_waiting e) ∙ d.waiting;
@@ -191,18 +195,18 @@ due_carry h T U a x b ax ab xb e f g d =
 -- no task of a later third entry is due yet, nor is that of a and b
 later_not_due : (n : ℕ) (mid : Held) (a b x : ℕ) → a ≢ b → x ≢ a → x ≢ b → n ≤ x → (IsDue n mid a b (s_task a x) → ⊥) × (IsDue n mid a b (s_task b x) → ⊥) × (IsDue n mid a b (s_task a b) → ⊥)
 later_not_due n mid a b x ab xa xb le = (
-    (λ d. elim d.either [
-      | inl z ↦ elim (same_tasks a x a d.third (λ y. xa (sym y)) (λ y. d.not_first (sym y)) z.0) [ inl s ↦ let w = d.below in let q = s.1 in omega (arith, w, q, le) | inr s ↦ d.not_first (sym s.0) ]
-      | inr z ↦ elim (same_tasks a x b d.third (λ y. xa (sym y)) (λ y. d.not_second (sym y)) z.0) [ inl s ↦ ab s.0 | inr s ↦ xb s.1 ]
-    ]),
-    (λ d. elim d.either [
-      | inl z ↦ elim (same_tasks b x a d.third (λ y. xb (sym y)) (λ y. d.not_first (sym y)) z.0) [ inl s ↦ ab (sym s.0) | inr s ↦ d.not_second (sym s.0) ]
-      | inr z ↦ elim (same_tasks b x b d.third (λ y. xb (sym y)) (λ y. d.not_second (sym y)) z.0) [ inl s ↦ let w = d.below in let q = s.1 in omega (arith, w, q, le) | inr s ↦ d.not_second (sym s.0) ]
-    ]),
-    (λ d. elim d.either [
-      | inl z ↦ elim (same_tasks a b a d.third ab (λ y. d.not_first (sym y)) z.0) [ inl s ↦ d.not_second (sym s.1) | inr s ↦ d.not_first (sym s.0) ]
-      | inr z ↦ elim (same_tasks a b b d.third ab (λ y. d.not_second (sym y)) z.0) [ inl s ↦ ab s.0 | inr s ↦ d.not_first (sym s.0) ]
-    ]),
+  (λ d. elim d.either [
+    | inl z ↦ elim (same_tasks a x a d.third (λ y. xa (sym y)) (λ y. d.not_first (sym y)) z.0) [ inl s ↦ let w = d.below in let q = s.1 in omega (arith, w, q, le) | inr s ↦ d.not_first (sym s.0) ]
+    | inr z ↦ elim (same_tasks a x b d.third (λ y. xa (sym y)) (λ y. d.not_second (sym y)) z.0) [ inl s ↦ ab s.0 | inr s ↦ xb s.1 ]
+  ]),
+  (λ d. elim d.either [
+    | inl z ↦ elim (same_tasks b x a d.third (λ y. xb (sym y)) (λ y. d.not_first (sym y)) z.0) [ inl s ↦ ab (sym s.0) | inr s ↦ d.not_second (sym s.0) ]
+    | inr z ↦ elim (same_tasks b x b d.third (λ y. xb (sym y)) (λ y. d.not_second (sym y)) z.0) [ inl s ↦ let w = d.below in let q = s.1 in omega (arith, w, q, le) | inr s ↦ d.not_second (sym s.0) ]
+  ]),
+  (λ d. elim d.either [
+    | inl z ↦ elim (same_tasks a b a d.third ab (λ y. d.not_first (sym y)) z.0) [ inl s ↦ d.not_second (sym s.1) | inr s ↦ d.not_first (sym s.0) ]
+    | inr z ↦ elim (same_tasks a b b d.third ab (λ y. d.not_second (sym y)) z.0) [ inl s ↦ ab s.0 | inr s ↦ d.not_first (sym s.0) ]
+  ]),
 )
 
 due_more : (n : ℕ) (mid : Held) (a b : ℕ) (u : Task) → IsDue n mid a b u → IsDue (n + 1) mid a b u

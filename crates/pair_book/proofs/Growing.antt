@@ -30,7 +30,7 @@ use Rattle.pair_book.proofs.Starting.{settled_at, table_grown, state_old, state_
 use Rattle.pair_book.proofs.Strangers.{one_there}
 use Rattle.pair_book.proofs.Transport.{Same, same_left, pair_over, closed_grows}
 
--- LAW: what is lawful stays so where a lawful entry is appended
+-- what is lawful stays so where a lawful entry is appended
 pub lawful_grows : (p : Presented) (base : ℕ) (es : List BasisEntry) (e : BasisEntry) → IsLawful p base es → e.source ≡ p → IsBasisEntry e → IsNextEntry (vectors_of es) e → IsLawful p base (es ++ e ∷ [])
 lawful_grows p base es e l source entry next =
     let n = length-append es (e ∷ []) in

@@ -6,7 +6,7 @@ use Rattle.std.proofs.lemmas.List.Sums.{sum_by-cons}
 use Rattle.std.proofs.lemmas.List.{length-map}
 use Rattle.std.proofs.lemmas.Option.{slice_get_within}
 use Rattle.std.specs.List.{slice_get, AllByRecursion}
-use Rattle.std.specs.Prelude.{ℤ, pos, negsuc, ◌<ℤ◌, nat_eq, unsigned_abs, ◌%◌}
+use Rattle.std.specs.Prelude.{ℤ, pos, negsuc, ◌<ℤ◌, nat_eq, unsigned_abs, ◌%◌, ◌↔◌}
 use Rattle.presentation.specs.Presented.{Presented}
 use Rattle.outcomes.specs.declared.tasks.Task.{Task}
 use Rattle.outcomes.specs.declared.kinds.PairKind.{PairKind}
@@ -130,3 +130,48 @@ book_new p limits es tasks base all fresh few terms order room = record {
   commits = omega arith;
   seal = tt;
 }
+
+or_left : (a b : Bool) → a ≡ true → (a || b) ≡ true
+or_left true b e = refl
+or_left false b e = cc
+
+or_right : (a b : Bool) → b ≡ true → (a || b) ≡ true
+or_right true b e = refl
+or_right false b e = e
+
+-- the test of two leads is right
+pub settled_right : (b : List (List Term)) → AreEntries b → (kind : PairKind) (i j : ℕ) → IsPair b i j → (settled_of kind (settled_by (lead_at b i) (lead_at b j)) ≡ true) ↔ IsClosedFromStart b kind i j
+settled_right b all S i j pair = ((λ e. absurd (not_same (lead_at b i).at.c (lead_at b j).at.c pair.component e)), (λ h. absurd h))
+settled_right b all G i j pair = (forth, back) where
+  first : pos 0 <ℤ (lead_at b i).k
+  first = let o = pair.order in let w = pair.within in lead_positive b all i (omega (arith, o, w))
+
+  second : pos 0 <ℤ (lead_at b j).k
+  second = lead_positive b all j pair.within
+
+  one : Bool
+  one = divides_number (lead_at b i).k (lead_at b j).k
+
+  two : Bool
+  two = divides_number (lead_at b j).k (lead_at b i).k
+
+  apart : Bool
+  apart = not (nat_eq (lead_at b i).at.c (lead_at b j).at.c)
+
+  forth : (apart || (one || two)) ≡ true → IsClosedFromStart b G i j
+  forth e = elim (either_true apart (one || two) e) [
+    | inl x ↦ absurd (not_same (lead_at b i).at.c (lead_at b j).at.c pair.component x)
+    | inr x ↦ elim (either_true one two x) [ inl y ↦ inl (number_divides (lead_at b i).k (lead_at b j).k first second y) | inr y ↦ inr (number_divides (lead_at b j).k (lead_at b i).k second first y) ]
+  ]
+
+  back : IsClosedFromStart b G i j → (apart || (one || two)) ≡ true
+  back (inl d) = or_right apart (one || two) (or_left one two (divides_tested (lead_at b i).k (lead_at b j).k first second d))
+  back (inr d) = or_right apart (one || two) (or_right one two (divides_tested (lead_at b j).k (lead_at b i).k second first d))
+
+differs : (m n : ℕ) (x : Bool) → nat_eq m n ≡ x → (m ≡ n → ⊥) → not (nat_eq m n) ≡ true
+differs m n true p ne = absurd (ne (eqb-true m n p))
+differs m n false p ne = ap not p
+
+pub settled_apart : (d e : Term) (kind : PairKind) → (d.at.c ≡ e.at.c → ⊥) → settled_of kind (settled_by d e) ≡ true
+settled_apart d e S ne = differs d.at.c e.at.c (nat_eq d.at.c e.at.c) refl ne
+settled_apart d e G ne = or_left (not (nat_eq d.at.c e.at.c)) (divides_number d.k e.k || divides_number e.k d.k) (differs d.at.c e.at.c (nat_eq d.at.c e.at.c) refl ne)

@@ -82,13 +82,15 @@ pub adds_over : (b c : List (List Term)) (ss : List Step) (f g : Coefficients) �
 adds_over b c [] f g h a = a
 adds_over b c (s ∷ ss) f g h a =
     let t = taken_same b c s h.0 in
-    let p : plus b f s ≡ plus c f s = λ y x. f x +ℤ t y x in
-    (record {
-      narrow = subst (λ (z : Coefficients). Nowhere (AdditionIsWide f z)) t a.0.narrow;
-      count = a.0.count;
-      terms = subst (λ (z : Coefficients). HasTerms z a.0.count) p a.0.terms;
-      short = a.0.short;
-    }, adds_over b c ss (plus c f s) g h.1 (subst (λ (z : Coefficients). Adds b z ss g) p a.1))
+    let p : plus b f s ≡ plus c f s = λ y x. f x +ℤ t y x in (
+      record {
+        narrow = subst (λ (z : Coefficients). Nowhere (AdditionIsWide f z)) t a.0.narrow;
+        count = a.0.count;
+        terms = subst (λ (z : Coefficients). HasTerms z a.0.count) p a.0.terms;
+        short = a.0.short;
+      },
+      adds_over b c ss (plus c f s) g h.1 (subst (λ (z : Coefficients). Adds b z ss g) p a.1),
+    )
 
 reach_over : (b c : List (List Term)) (ss : List Step) → AllSame b c ss → AllByRecursion (IsInReach b) ss → AllByRecursion (IsInReach c) ss
 reach_over b c [] h a = tt
@@ -98,8 +100,11 @@ pub value_over : (b c : List (List Term)) (ss : List Step) (v : List Term) → A
 value_over b c ss v h a = record { vector = a.vector; nonzero = a.nonzero; reach = reach_over b c ss h a.reach; adds = adds_over b c ss zero_vector (coefficient_at v) h a.adds }
 
 pub covers_over : (b c : List (List Term)) (i j k : ℕ) → Same b c i → Same b c j → Same b c k → Covers b i j k → Covers c i j k
-covers_over b c i j k h l m a = (m.0, subst (λ (t : Term). CoversLeads (lead_at c k) t (lead_at c j)) (lead_same b c i h)
-    (subst (λ (t : Term). CoversLeads (lead_at c k) (lead_at b i) t) (lead_same b c j l) (subst (λ (t : Term). CoversLeads t (lead_at b i) (lead_at b j)) (lead_same b c k m) a.1)))
+covers_over b c i j k h l m a = (
+  m.0,
+  subst (λ (t : Term). CoversLeads (lead_at c k) t (lead_at c j)) (lead_same b c i h)
+      (subst (λ (t : Term). CoversLeads (lead_at c k) (lead_at b i) t) (lead_same b c j l) (subst (λ (t : Term). CoversLeads t (lead_at b i) (lead_at b j)) (lead_same b c k m) a.1)),
+)
 
 -- ---- lists that have grown
 
@@ -112,7 +117,7 @@ pub all_left : (P : Place → Type 0) (b more : List (List Term)) (ss : List Ste
 all_left P b more [] a = tt
 all_left P b more (s ∷ ss) a = (same_left b more s.by a.0.1, all_left P b more ss a.1)
 
--- LAW: what is truly closed stays so
+-- what is truly closed stays so
 pub closed_grows : (b more : List (List Term)) (kind : PairKind) (i j : ℕ) → IsPair b i j → IsClosed b kind i j → IsClosed (b ++ more) kind i j
 closed_grows b more G i j p (k, cover) =
     let o = p.order in let w = p.within in
@@ -123,9 +128,13 @@ closed_grows b more S i j p (first, second, steps, sum) =
     let hi = same_left b more i (omega (arith, o, w)) in
     let hj = same_left b more j w in
     let place = place_same b c i j hi hj in
-    let all = all_left (λ x. IsBelow x (pair_place b i j)) b more sum.steps sum.below in
-    (first, second, pair_steps_over S b c i j first second hi hj steps, record {
-      steps = sum.steps;
-      below = subst (λ (p : Place). AreStepsBelow c p sum.steps) place (stand_over (λ x. IsBelow x (pair_place b i j)) b c sum.steps all sum.below);
-      is = λ x. sym (both_same S b c i j first second hi hj steps x) ∙ (sum.is x ∙ steps_same b c sum.steps all x);
-    })
+    let all = all_left (λ x. IsBelow x (pair_place b i j)) b more sum.steps sum.below in (
+      first,
+      second,
+      pair_steps_over S b c i j first second hi hj steps,
+      record {
+        steps = sum.steps;
+        below = subst (λ (p : Place). AreStepsBelow c p sum.steps) place (stand_over (λ x. IsBelow x (pair_place b i j)) b c sum.steps all sum.below);
+        is = λ x. sym (both_same S b c i j first second hi hj steps x) ∙ (sum.is x ∙ steps_same b c sum.steps all x);
+      },
+    )

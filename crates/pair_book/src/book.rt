@@ -61,9 +61,7 @@ impl Book {
     pub fn is_taken(&self, task: Task) -> bool
         ensures { IsTrue result ↔ IsTaken self.now task }
     {
-        task.i < task.j
-            && task.j < self.tasks.count()
-            && self.tasks.state(task) == TaskState::Taken
+        task.i < task.j && task.j < self.tasks.count() && self.tasks.state(task) == TaskState::Taken
     }
 
     /// A taken task becomes hard, or open. For any other task nothing changes.
@@ -155,7 +153,11 @@ impl Front for Book {
 
     fn front(&self) -> u32 {
         let count = self.log.count();
-        if self.seal.is_some() { count + 1 } else { count }
+        if self.seal.is_some() {
+            count + 1
+        } else {
+            count
+        }
     }
 
     fn sealed(&self) -> Option<&Sealed> {

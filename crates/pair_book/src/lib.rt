@@ -20,7 +20,6 @@ mod refusals;
 mod sealing;
 mod used;
 
-
 pub use book::Book;
 pub use faults::{CommitFault, Committed, SealFault, WorkFault};
 pub use limits::Limits;

@@ -17,11 +17,7 @@ use task_table::TaskTable;
 
 impl Book {
     /// The book of the generator entries, without commits. All room that the limits allow is taken here.
-    pub fn open(
-        alloc: Global,
-        p: &Arc<Presentation>,
-        limits: Limits,
-    ) -> Result<Book, AllocError>
+    pub fn open(alloc: Global, p: &Arc<Presentation>, limits: Limits) -> Result<Book, AllocError>
         requires most { limits.entries ≤ MOST }
         requires within { AreWithin (arc_value p.now) limits }
         ensures { IfOk result (λ book. IsOpened (arc_value p.now) limits book) }
@@ -45,11 +41,7 @@ impl Book {
 }
 
 /// Enters the entries into an empty log and its table, and answers the number of their terms.
-fn enter_all(
-    log: &mut Log,
-    tasks: &mut TaskTable,
-    base: &[Arc<Entry>],
-) -> Result<u32, AllocError>
+fn enter_all(log: &mut Log, tasks: &mut TaskTable, base: &[Arc<Entry>]) -> Result<u32, AllocError>
     requires log { log.old.entries ≡ [] }
     requires tasks { AreNew [] tasks.old }
     requires room { tasks.old.room ≡ log.old.room }

@@ -27,7 +27,7 @@ pub is_closed-closed-requires-clause-s : goal.is_closed-closed-requires-clause-s
 is_closed-closed-requires-clause-s c = λ s.
     let e : BasisEntry = arc_value c.args.entry in
     let grown_by : vectors_of c.enter.new.log.entries ≡ vectors_of c.args.self.now.entries ++ e.vector ∷ [] =
-        ap (λ (l : Logged). vectors_of l.entries) c.enter.ensures.log ∙ (vectors_push c.self.inside.log.entries e ∙ ap (λ (h : Held). vectors_of h.entries ++ e.vector ∷ []) c.self.view_is) in
+    ap (λ (l : Logged). vectors_of l.entries) c.enter.ensures.log ∙ (vectors_push c.self.inside.log.entries e ∙ ap (λ (h : Held). vectors_of h.entries ++ e.vector ∷ []) c.self.view_is) in
     subst (λ (b : List (List Term)). IsClosed b S c.args.task.i c.args.task.j) (sym grown_by) (c.requires.rest.closes s)
 
 pub invariant_of-self : goal.invariant_of-self
@@ -43,9 +43,9 @@ invariant_of-self c =
     let follows = subst (λ (h : Held). IsNextEntry (vectors_of h.entries) e) (sym c.self.view_is) next in
     let entries : c.enter.new.log.entries ≡ old ++ e ∷ [] = ap (λ (l : Logged). l.entries) c.enter.ensures.log in
     let tasks : c.set.new.self ≡ put (grown c.self.inside.tasks (settled_row old e.vector)) c.args.task (state_after closed) =
-        c.set.ensures ∙ (λ k. put (c.enter.ensures.tasks k) c.args.task (c.after.ensures k)) in
+    c.set.ensures ∙ (λ k. put (c.enter.ensures.tasks k) c.args.task (c.after.ensures k)) in
     let shown : closed ≡ true → IsClosed (vectors_of (old ++ e ∷ [])) c.args.task.kind c.args.task.i c.args.task.j =
-        λ z. subst (λ (es : List BasisEntry). IsClosed (vectors_of es) c.args.task.kind c.args.task.i c.args.task.j) entries (c.is_closed-closed.ensures.0 z) in
+    λ z. subst (λ (es : List BasisEntry). IsClosed (vectors_of es) c.args.task.kind c.args.task.i c.args.task.j) entries (c.is_closed-closed.ensures.0 z) in
     let book = book_appended (held_of c.self.inside) c.args.task e closed c.self.invariant.book may entry source c.requires.rest.short follows fits shown in
     let Q : List BasisEntry → Table → Type 0 = λ es ts. IsBook (record (held_of c.self.inside) { entries = es; tasks = ts; commits = c.self.inside.commits + 1 }) in
     let n = length-append old (e ∷ []) in

@@ -14,7 +14,7 @@ loop-x-preserved c =
     let la : c.args.a < length mid.entries = omega (arith, c.requires.order, c.requires.within) in
     let lx : c.loop-x.x < length mid.entries = omega (arith, c.loop-x-test.true, n) in
     let chained : AreChained (c.loop-x.x + 1) mid c.args.a c.args.b c.chain_at.new.self =
-        chain_step c.loop-x.x mid c.loop-x.self c.chain_at.new.self c.args.a c.args.b c.chain_at.ensures.book ab la c.requires.within lx c.loop-x.invariant.chained c.chain_at.ensures.chained in
+    chain_step c.loop-x.x mid c.loop-x.self c.chain_at.new.self c.args.a c.args.b c.chain_at.ensures.book ab la c.requires.within lx c.loop-x.invariant.chained c.chain_at.ensures.chained in
     record { chained = chained; entries = ap length (entries_same (c.loop-x.x + 1) mid c.chain_at.new.self c.args.a c.args.b chained) }
 
 pub returns : goal.returns
