@@ -1,5 +1,5 @@
 -- Counts that stay small.
-use Rattle.std.proofs.Common.{ℕ, ◌+◌, ◌-◌, ◌*◌, ◌<◌, ◌≤◌, ◌≡◌, arith, List, [], ◌∷◌, length}
+use Rattle.std.proofs.Common.{◌*◌, ◌≤◌, arith, List, [], ◌∷◌, length}
 use Rattle.std.proofs.lemmas.List.Sums.{sum_by-cons}
 use Rattle.std.specs.List.{AllByRecursion, sum_by}
 use Rattle.task_table.specs.declared.states.TaskState.{TaskState}
@@ -8,7 +8,7 @@ use Rattle.task_table.proofs.Counting.{tasks_few}
 use Rattle.basis_entry.specs.Entries.{BasisEntry, IsBasisEntry}
 use Rattle.pair_book.specs.Outcomes.{IsShort, recipe_steps}
 use Rattle.pair_book.specs.LogEntries.{terms_of, steps_of}
-use Rattle.pair_book.specs.Books.{Held, IsBook, closed_once, closed_later}
+use Rattle.pair_book.specs.Books.{Held, IsBook, closed_once}
 
 pub terms_small : (es : List BasisEntry) → AllByRecursion IsBasisEntry es → terms_of es ≤ length es * 50000
 terms_small [] all = omega arith

@@ -1,19 +1,18 @@
 -- What the chain rule closes, third entry by third entry.
-use Rattle.std.proofs.Common.{ℕ, suc, ◌+◌, ◌<◌, ◌≤◌, ◌≡◌, ◌≢◌, ◌⊎◌, inl, inr, arith, refl, sym, ap, ◌∙◌, List, length, Bool, true, false, cond, subst}
-use Rattle.std.proofs.lemmas.List.{length-map, length-set}
+use Rattle.std.proofs.Common.{ℕ, ◌+◌, ◌<◌, ◌≤◌, ◌≡◌, ◌≢◌, ◌⊎◌, inl, inr, arith, refl, sym, ap, ◌∙◌, List, length, Bool, true, false, cond, subst}
+use Rattle.std.proofs.lemmas.List.{length-map}
 use Rattle.std.proofs.lemmas.Bool.{eqb-true}
-use Rattle.std.specs.Prelude.{nat_eq, not, nat_lt, ◌↔◌, IsTrue}
-use Rattle.outcomes.specs.declared.kinds.PairKind.TheVariants.{S, G}
+use Rattle.std.specs.Prelude.{nat_eq, not, nat_lt, ◌↔◌}
+use Rattle.outcomes.specs.declared.kinds.PairKind.TheVariants.{S}
 use Rattle.outcomes.specs.declared.tasks.Task.{Task}
 use Rattle.module_vec.specs.declared.places.Term.{Term}
-use Rattle.chain_rule.specs.ClosedPairs.{IsAmong, IsClosedPair, AreClosedPairs, pairs_where}
-use Rattle.chain_rule.specs.Chaining.{IsChained}
+use Rattle.chain_rule.specs.ClosedPairs.{IsAmong, IsClosedPair, AreClosedPairs}
 use Rattle.chain_rule.proofs.Selected.{selected, where_all}
 use Rattle.strong_pairs.specs.Pairs.{IsPair, lead_at}
 use Rattle.strong_pairs.specs.Tasks.{IsClosed}
 use Rattle.task_table.specs.declared.states.TaskState.{TaskState}
 use Rattle.task_table.specs.declared.states.TaskState.TheVariants.{Open, Taken, Hard, Closed, Never}
-use Rattle.task_table.specs.Tasks.{IsTask, number_of, is_closed_later, is_unclosed, is_never}
+use Rattle.task_table.specs.Tasks.{IsTask, is_closed_later, is_unclosed, is_never}
 use Rattle.task_table.specs.Tables.{Table, IsTable, state_of, put}
 use Rattle.task_table.proofs.Ordering.{three}
 use Rattle.task_table.proofs.Putting.{put_same}

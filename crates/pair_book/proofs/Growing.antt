@@ -1,21 +1,21 @@
 -- What a book keeps when an entry is appended.
-use Rattle.std.proofs.Common.{ℕ, zero, suc, ◌+◌, ◌<◌, ◌≤◌, ◌≡◌, ◌⊎◌, inl, inr, arith, refl, sym, ap, ◌∙◌, List, [], ◌∷◌, ◌++◌, length, Bool, true, false, take, Option, Some, None, subst, length-append}
+use Rattle.std.proofs.Common.{ℕ, ◌+◌, ◌<◌, ◌≤◌, ◌≡◌, inl, inr, arith, refl, sym, ap, ◌∙◌, List, [], ◌∷◌, ◌++◌, length, Bool, true, false, take, Option, Some, None, subst, length-append}
 use Rattle.std.proofs.lemmas.List.{map-append, length-map}
 use Rattle.std.proofs.lemmas.List.Sums.{sum_by_push, sum_by-append}
 use Rattle.std.proofs.lemmas.Option.{slice_get_within}
-use Rattle.std.specs.List.{slice_get, AllByRecursion}
+use Rattle.std.specs.List.{slice_get}
 use Rattle.presentation.specs.Presented.{Presented}
 use Rattle.outcomes.specs.declared.tasks.Task.{Task}
 use Rattle.module_vec.specs.declared.places.Term.{Term}
 use Rattle.strong_pairs.specs.Pairs.{IsPair, lead_at, lead_of}
 use Rattle.strong_pairs.specs.Tasks.{IsClosed}
-use Rattle.task_table.specs.declared.states.TaskState.TheVariants.{Open, Closed}
-use Rattle.task_table.specs.Tasks.{IsTask, is_never, is_unclosed, is_taken}
-use Rattle.task_table.specs.Tables.{Table, state_of}
+use Rattle.task_table.specs.declared.states.TaskState.TheVariants.{Closed}
+use Rattle.task_table.specs.Tasks.{IsTask, is_never, is_unclosed}
+use Rattle.task_table.specs.Tables.{state_of}
 use Rattle.task_table.specs.Rows.{grown, row_states, settled_of}
 use Rattle.task_table.proofs.Ordering.{three}
 use Rattle.basis_entry.specs.Base.{AreBase}
-use Rattle.basis_entry.specs.Entries.{BasisEntry, IsBasisEntry, AreOf, vectors_of}
+use Rattle.basis_entry.specs.Entries.{BasisEntry, IsBasisEntry, vectors_of}
 use Rattle.basis_entry.specs.Seals.{Seal}
 use Rattle.basis_entry.proofs.Vectors.{are_entries}
 use Rattle.pair_book.specs.Logs.{IsLawful, IsNextEntry}
@@ -24,11 +24,11 @@ use Rattle.pair_book.specs.Outcomes.{IsShort, recipe_steps}
 use Rattle.pair_book.specs.Books.{Held, IsBook, IsSealedBy, closed_once}
 use Rattle.pair_book.specs.Commits.{Fits, MayCommit, appended_by, closed_by, state_after}
 use Rattle.pair_book.proofs.Reading.{get_back, get_end, take_left, take_whole, all_push}
-use Rattle.pair_book.proofs.Keeping.{task_in, task_out, book_put, taken_unclosed}
+use Rattle.pair_book.proofs.Keeping.{task_in, book_put, taken_unclosed}
 use Rattle.pair_book.proofs.Opened.{settled_closed, first_never, first_shut}
-use Rattle.pair_book.proofs.Starting.{settled_at, table_grown, state_old, state_new, older, settled_old, settled_new}
+use Rattle.pair_book.proofs.Starting.{table_grown, state_old, state_new, older, settled_old, settled_new}
 use Rattle.pair_book.proofs.Strangers.{one_there}
-use Rattle.pair_book.proofs.Transport.{Same, same_left, pair_over, closed_grows}
+use Rattle.pair_book.proofs.Transport.{same_left, pair_over, closed_grows}
 
 -- what is lawful stays so where a lawful entry is appended
 pub lawful_grows : (p : Presented) (base : ℕ) (es : List BasisEntry) (e : BasisEntry) → IsLawful p base es → e.source ≡ p → IsBasisEntry e → IsNextEntry (vectors_of es) e → IsLawful p base (es ++ e ∷ [])

@@ -1,5 +1,5 @@
 -- What a book keeps when states change.
-use Rattle.std.proofs.Common.{ℕ, ◌+◌, ◌<◌, ◌≤◌, ◌≡◌, ◌⊎◌, inl, inr, arith, refl, sym, ap, ◌∙◌, List, [], ◌∷◌, length, map, Bool, true, false, Option, Some, None, subst, sum_by}
+use Rattle.std.proofs.Common.{ℕ, ◌+◌, ◌≤◌, ◌≡◌, ◌⊎◌, inl, inr, arith, refl, sym, ap, ◌∙◌, List, [], ◌∷◌, length, map, Bool, true, false, Option, Some, None, subst, sum_by}
 use Rattle.std.proofs.lemmas.List.{length-set, length-map}
 use Rattle.std.proofs.lemmas.List.Sums.{sum_by-set, sum_by-cons}
 use Rattle.outcomes.specs.declared.tasks.Task.{Task}
@@ -17,7 +17,7 @@ use Rattle.task_table.proofs.Putting.{put_same, put_other}
 use Rattle.task_table.proofs.Hinting.{state_reopened, unclosed_reopened}
 use Rattle.basis_entry.specs.Entries.{vectors_of}
 use Rattle.basis_entry.specs.Seals.{Seal}
-use Rattle.pair_book.specs.Books.{Held, IsBook, IsSealedBy, IsTaken, with_state, closed_once, closed_later, given_state}
+use Rattle.pair_book.specs.Books.{Held, IsBook, IsSealedBy, IsTaken, with_state, closed_once, given_state}
 
 no_true : (b : Bool) → b ≡ true → b ≡ false → ⊥
 no_true b p q = cc

@@ -1,38 +1,34 @@
 -- The book of the generator entries.
-use Rattle.std.proofs.Common.{ℕ, zero, suc, ◌+◌, ◌<◌, ◌≤◌, ◌≡◌, ◌⊎◌, inl, inr, arith, refl, sym, ap, ◌∙◌, List, [], ◌∷◌, length, map, Bool, true, false, cond, not, ◌||◌, take, Some, None, subst, eq-eqb}
+use Rattle.std.proofs.Common.{ℕ, zero, suc, ◌<◌, ◌≤◌, ◌≡◌, ◌⊎◌, inl, inr, arith, refl, sym, ap, ◌∙◌, List, [], ◌∷◌, length, Bool, true, false, not, ◌||◌, Some, None, subst, eq-eqb}
 use borrow.Author.Differences.{ints}
 use Rattle.std.proofs.lemmas.Bool.{eqb-true}
 use Rattle.std.proofs.lemmas.List.Sums.{sum_by-cons}
-use Rattle.std.proofs.lemmas.List.{length-map}
 use Rattle.std.proofs.lemmas.Option.{slice_get_within}
 use Rattle.std.specs.List.{slice_get, AllByRecursion}
-use Rattle.std.specs.Prelude.{ℤ, pos, negsuc, ◌<ℤ◌, nat_eq, unsigned_abs, ◌%◌, ◌↔◌}
+use Rattle.std.specs.Prelude.{ℤ, pos, negsuc, ◌<ℤ◌, nat_eq, ◌%◌, ◌↔◌}
 use Rattle.presentation.specs.Presented.{Presented}
 use Rattle.outcomes.specs.declared.tasks.Task.{Task}
 use Rattle.outcomes.specs.declared.kinds.PairKind.{PairKind}
 use Rattle.outcomes.specs.declared.kinds.PairKind.TheVariants.{S, G}
 use Rattle.module_vec.specs.declared.places.Term.{Term}
-use Rattle.module_vec.specs.Reducers.{IsEntry, AreEntries}
+use Rattle.module_vec.specs.Reducers.{AreEntries}
 use Rattle.strong_pairs.specs.Covering.{Divides}
 use Rattle.strong_pairs.specs.Pairs.{lead_of, lead_at, IsPair}
 use Rattle.strong_pairs.specs.Tasks.{IsClosed, IsClosedFromStart}
 use Rattle.strong_pairs.proofs.CoverTests.{divides_test}
 use Rattle.strong_pairs.proofs.Determination.{closed_from_start}
-use Rattle.task_table.specs.declared.states.TaskState.{TaskState}
-use Rattle.task_table.specs.declared.states.TaskState.TheVariants.{Open, Never}
-use Rattle.task_table.specs.Tasks.{IsTask, is_unclosed, is_never}
-use Rattle.task_table.specs.Tables.{Table, state_of}
+use Rattle.task_table.specs.Tasks.{is_unclosed, is_never}
+use Rattle.task_table.specs.Tables.{Table}
 use Rattle.task_table.specs.Rows.{first_state, settled_of}
 use Rattle.basis_entry.specs.Base.{AreBase}
-use Rattle.basis_entry.specs.Entries.{BasisEntry, IsBasisEntry, AreOf, vectors_of}
-use Rattle.basis_entry.specs.declared.recipes.Recipe.{Recipe}
+use Rattle.basis_entry.specs.Entries.{BasisEntry, IsBasisEntry, vectors_of}
 use Rattle.basis_entry.proofs.Vectors.{are_entries}
 use Rattle.pair_book.specs.declared.limits.Limits.{Limits}
-use Rattle.pair_book.specs.Logs.{IsLawful, IsNextEntry}
+use Rattle.pair_book.specs.Logs.{IsLawful}
 use Rattle.pair_book.specs.Settled.{divides_number, settled_by}
 use Rattle.pair_book.specs.Outcomes.{recipe_steps, IsShort}
 use Rattle.pair_book.specs.LogEntries.{terms_of, steps_of}
-use Rattle.pair_book.specs.Books.{Held, IsBook, AreNew}
+use Rattle.pair_book.specs.Books.{IsBook, AreNew}
 use Rattle.pair_book.proofs.Reading.{all_from, take_whole}
 use Rattle.pair_book.proofs.Starting.{settled_at}
 

@@ -1,13 +1,12 @@
 -- Reading lists.
-use Rattle.std.proofs.Common.{ℕ, zero, suc, ◌+◌, ◌<◌, ◌≤◌, ◌≡◌, arith, refl, sym, ap, ◌∙◌, List, [], ◌∷◌, ◌++◌, length, map, take, Some, subst}
+use Rattle.std.proofs.Common.{ℕ, zero, suc, ◌<◌, ◌≤◌, ◌≡◌, arith, refl, ap, List, [], ◌∷◌, ◌++◌, length, map, take, Some, subst}
 use Rattle.std.specs.List.{slice_get, AllByRecursion}
 use Rattle.std.proofs.lemmas.Option.{slice_get_within}
 use Rattle.module_vec.specs.Modules.{vector_at}
 use Rattle.strong_pairs.specs.Pairs.{lead_of, lead_at}
 use Rattle.module_vec.specs.declared.places.Term.{Term}
-use Rattle.task_table.specs.declared.rows.Settled.{Settled}
 use Rattle.basis_entry.specs.Entries.{BasisEntry, vectors_of}
-use Rattle.pair_book.specs.Settled.{settled_by, settled_row}
+use Rattle.pair_book.specs.Settled.{settled_by}
 
 -- what a row has for an entry
 pub row_read : (es : List BasisEntry) (lead : Term) (i : ℕ) → i < length es → slice_get (map (λ (e : BasisEntry). settled_by (lead_of e.vector) lead) es) i ≡ Some (settled_by (lead_at (vectors_of es) i) lead)

@@ -1,19 +1,12 @@
 -- A new log, and what appending an entry does to tasks.
-use Rattle.std.proofs.Common.{ℕ, zero, suc, ◌+◌, ◌*◌, ◌<◌, ◌≤◌, ◌≡◌, ◌⊎◌, inl, inr, arith, refl, sym, ap, ◌∙◌, List, [], ◌∷◌, ◌++◌, length, map, Bool, true, false, cond, take, Some, subst, length-append, get_or}
+use Rattle.std.proofs.Common.{ℕ, zero, suc, ◌+◌, ◌<◌, ◌≤◌, ◌≡◌, ◌⊎◌, inl, inr, arith, refl, sym, ap, ◌∙◌, List, [], ◌∷◌, ◌++◌, length, map, Bool, take, length-append, get_or}
 use Rattle.std.proofs.lemmas.List.{length-map, get_or_append_left, get_or-append-add, take_more, map-append}
-use Rattle.std.proofs.lemmas.List.Sums.{sum_by-cons}
-use Rattle.std.proofs.lemmas.Option.{slice_get_within, slice_get_past}
-use Rattle.std.specs.List.{slice_get, AllByRecursion, sum_by}
-use Rattle.presentation.specs.Presented.{Presented}
 use Rattle.outcomes.specs.declared.tasks.Task.{Task}
 use Rattle.outcomes.specs.declared.kinds.PairKind.{PairKind}
 use Rattle.outcomes.specs.declared.kinds.PairKind.TheVariants.{S, G}
 use Rattle.module_vec.specs.declared.places.Term.{Term}
-use Rattle.module_vec.specs.Modules.{vector_at}
 use Rattle.strong_pairs.specs.Pairs.{lead_of, lead_at}
-use Rattle.task_table.specs.declared.states.TaskState.{TaskState}
-use Rattle.task_table.specs.declared.states.TaskState.TheVariants.{Open, Never}
-use Rattle.task_table.specs.declared.rows.Settled.{Settled}
+use Rattle.task_table.specs.declared.states.TaskState.TheVariants.{Never}
 use Rattle.task_table.specs.Tasks.{IsTask, tasks_below, number_of, kind_number}
 use Rattle.task_table.specs.Tables.{Table, IsTable, state_at, state_of}
 use Rattle.task_table.specs.Rows.{grown, row_states, first_state, settled_of}
@@ -22,7 +15,6 @@ use Rattle.task_table.proofs.Pushing.{row_length}
 use Rattle.basis_entry.specs.Entries.{BasisEntry, vectors_of}
 use Rattle.pair_book.specs.Settled.{settled_by, settled_row}
 use Rattle.pair_book.specs.Books.{AreNew}
-use Rattle.pair_book.specs.LogEntries.{terms_of}
 use Rattle.pair_book.proofs.Reading.{vector_of, some_at, get_left, get_end}
 
 -- what is known of a task of two vectors

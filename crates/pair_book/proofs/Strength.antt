@@ -1,25 +1,23 @@
 -- A log whose tasks are all closed is a strong basis.
-use Rattle.std.proofs.Common.{ℕ, zero, suc, ◌+◌, ◌<◌, ◌≤◌, ◌≡◌, ◌⊎◌, inl, inr, arith, refl, sym, ap, ◌∙◌, List, [], ◌∷◌, length, Bool, true, false, take, Some, subst}
+use Rattle.std.proofs.Common.{ℕ, zero, suc, ◌<◌, ◌≡◌, inl, inr, arith, sym, List, [], ◌∷◌, length, Bool, true, false, take, subst}
 use Rattle.std.proofs.lemmas.List.{length-map}
-use Rattle.std.specs.List.{slice_get, AllByRecursion}
+use Rattle.std.specs.List.{AllByRecursion}
 use Rattle.std.proofs.lemmas.Option.{slice_get_within}
-use Rattle.std.specs.Prelude.{MatchBool, pos, negsuc}
+use Rattle.std.specs.Prelude.{MatchBool, negsuc}
 use Rattle.formal_sums.specs.FormalSum.{scale}
 use Rattle.presentation.specs.Presented.{Presented}
-use Rattle.outcomes.specs.declared.kinds.PairKind.{PairKind}
 use Rattle.module_vec.specs.declared.places.Term.{Term}
-use Rattle.module_vec.specs.Modules.{vector_at, InModule}
-use Rattle.module_vec.specs.Vectors.{sum_of, coefficient_at}
+use Rattle.module_vec.specs.Modules.{vector_at}
+use Rattle.module_vec.specs.Vectors.{sum_of}
 use Rattle.fox_calculus.specs.Module.{IsMember}
 use Rattle.fox_calculus.proofs.Members.{member_listed}
 use Rattle.reduce_cofactor.proofs.Resting.{get_take}
-use Rattle.strong_pairs.specs.Generating.{IsUpToSign, Holds, IsGenerating}
-use Rattle.strong_pairs.specs.Pairs.{IsPair}
+use Rattle.strong_pairs.specs.Generating.{IsUpToSign, IsGenerating}
 use Rattle.strong_pairs.specs.Tasks.{AllClosed}
 use Rattle.strong_pairs.proofs.Criterion.{criterion}
 use Rattle.task_table.specs.declared.states.Wanted.TheVariants.{Unclosed}
 use Rattle.task_table.specs.Tables.{NoneIs}
-use Rattle.basis_entry.specs.Base.{AreBase, has_negative_lead}
+use Rattle.basis_entry.specs.Base.{has_negative_lead}
 use Rattle.basis_entry.specs.Entries.{BasisEntry, IsBasisEntry, AreOf, vectors_of}
 use Rattle.basis_entry.specs.Seals.{IsStrongBasis}
 use Rattle.basis_entry.proofs.Vectors.{are_entries}

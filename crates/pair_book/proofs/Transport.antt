@@ -1,13 +1,11 @@
 -- What is said of vectors of one list holds in another list that has these vectors under the same numbers.
-use Rattle.std.proofs.Common.{ℕ, zero, suc, ◌+◌, ◌<◌, ◌≤◌, ◌≡◌, ◌⊎◌, inl, inr, arith, refl, sym, ap, ◌∙◌, List, [], ◌∷◌, ◌++◌, length, map, subst, length-append}
+use Rattle.std.proofs.Common.{ℕ, zero, suc, ◌<◌, ◌≡◌, arith, refl, sym, ap, ◌∙◌, List, [], ◌∷◌, ◌++◌, length, subst, length-append}
 use Rattle.std.specs.List.{AllByRecursion}
-use Rattle.std.specs.Prelude.{ℤ, pos, ◌+ℤ◌, ◌≢◌}
+use Rattle.std.specs.Prelude.{◌+ℤ◌}
 use Rattle.outcomes.specs.declared.kinds.PairKind.{PairKind}
 use Rattle.outcomes.specs.declared.kinds.PairKind.TheVariants.{S, G}
 use Rattle.laurent_terms.specs.Monomials.{quotient}
-use Rattle.laurent_terms.specs.declared.TheConstants.{VARIABLES}
-use Rattle.formal_sums.specs.FormalSum.{FormalSum, Falling, coefficient}
-use Rattle.module_vec.specs.declared.TheConstants.{TERMS}
+use Rattle.formal_sums.specs.FormalSum.{FormalSum, coefficient}
 use Rattle.module_vec.specs.declared.places.Place.{Place}
 use Rattle.module_vec.specs.declared.places.Term.{Term}
 use Rattle.module_vec.specs.declared.steps.Step.{Step}
@@ -16,11 +14,10 @@ use Rattle.module_vec.specs.Modules.{vector_at, steps_at, sum_of_steps}
 use Rattle.module_vec.specs.Places.{IsBelow, moved, same_place}
 use Rattle.module_vec.specs.Results.{Nowhere, HasTerms}
 use Rattle.module_vec.specs.Vectors.{Coefficients, coefficient_at, multiple, multiple_at, HasRoom}
-use Rattle.step_lists.specs.Sums.{AdditionIsWide, plus, CanBeAdded, Adds, IsInReach, IsValue, zero_vector}
+use Rattle.step_lists.specs.Sums.{AdditionIsWide, plus, Adds, IsInReach, IsValue, zero_vector}
 use Rattle.strong_pairs.specs.Covering.{Covers, CoversLeads}
 use Rattle.strong_pairs.specs.Pairs.{lead_of, lead_at, IsPair, pair_place, meeting_place, AreFactors, ArePairSteps, both_at}
-use Rattle.strong_pairs.specs.Tasks.{step_place, step_places, AreStepsAt, AreStepsBelow, IsClosed, IsSumBelow}
-use Rattle.pair_book.specs.Logs.{StandsFor, IsPairRecipe}
+use Rattle.strong_pairs.specs.Tasks.{step_place, step_places, AreStepsAt, AreStepsBelow, IsClosed}
 
 -- c has under this number what b has
 abbrev pub Same : List (List Term) → List (List Term) → ℕ → Type 0

@@ -1,17 +1,15 @@
 -- A book as its callers see it.
 use Rattle.std.specs.List.{AllByRecursion}
-use Rattle.std.specs.Prelude.{◌≡◌, ◌⊎◌, ℕ, ◌+◌, ◌<◌, ◌≤◌, List, Bool, true, false, Option, Some, None, length, sum_by, cond}
+use Rattle.std.specs.Prelude.{◌≡◌, ℕ, ◌+◌, ◌≤◌, List, Bool, true, false, Option, Some, None, length, sum_by, cond}
 use Rattle.presentation.specs.Presented.{Presented}
 use Rattle.outcomes.specs.declared.tasks.Task.{Task}
-use Rattle.module_vec.specs.declared.places.Term.{Term}
 use Rattle.strong_pairs.specs.Pairs.{lead_at, IsPair}
 use Rattle.strong_pairs.specs.Tasks.{IsClosed}
 use Rattle.task_table.specs.declared.states.TaskState.{TaskState}
 use Rattle.task_table.specs.declared.states.TaskState.TheVariants.{Open, Hard}
-use Rattle.task_table.specs.declared.states.Reopened.{Reopened}
 use Rattle.task_table.specs.declared.states.Wanted.TheVariants.{Unclosed}
 use Rattle.task_table.specs.Tasks.{IsTask, is_taken, is_unclosed, is_never, is_closed_later}
-use Rattle.task_table.specs.Tables.{Table, IsTable, Takes, NoneIs, IsLeast, FindsLeast, state_of, put, reopen, reopened_count, empty}
+use Rattle.task_table.specs.Tables.{Table, IsTable, Takes, NoneIs, IsLeast, state_of, put}
 use Rattle.task_table.specs.Rows.{settled_of, first_state}
 use Rattle.basis_entry.specs.Entries.{BasisEntry, vectors_of}
 use Rattle.basis_entry.specs.Base.{AreBase}

@@ -1,8 +1,6 @@
 -- Outcomes of work: the entries that were used, and what they show.
-use Rattle.std.specs.List.{AllByRecursion}
-use Rattle.std.specs.Prelude.{◌≡◌, ◌<◌, ◌≤◌, ◌+◌, ℕ, List, [], ◌∷◌, ◌++◌, map, length, slice_get, Some}
+use Rattle.std.specs.Prelude.{◌≡◌, ◌<◌, ◌≤◌, ◌+◌, ℕ, List, [], ◌∷◌, ◌++◌, length, slice_get, Some}
 use Rattle.std.specs.Arc.{arc_value}
-use Rattle.outcomes.specs.declared.kinds.PairKind.{PairKind}
 use Rattle.outcomes.specs.declared.kinds.PairKind.TheVariants.{S, G}
 use Rattle.outcomes.specs.declared.tasks.Task.{Task}
 use Rattle.module_vec.specs.declared.TheConstants.{STEPS}
@@ -15,7 +13,7 @@ use Rattle.strong_pairs.specs.Pairs.{IsPair, pair_place, ArePairSteps, both_at}
 use Rattle.strong_pairs.specs.Tasks.{AreStepsBelow, IsClosed}
 use Rattle.basis_entry.specs.declared.recipes.Recipe.{Recipe}
 use Rattle.basis_entry.specs.declared.recipes.Recipe.TheVariants.{Gen, Sum}
-use Rattle.basis_entry.specs.Entries.{BasisEntry, IsBasisEntry, vectors_of}
+use Rattle.basis_entry.specs.Entries.{BasisEntry, vectors_of}
 use Rattle.pair_book.specs.declared.outcome.Close.{Close}
 use Rattle.pair_book.specs.declared.outcome.Close.TheVariants.{Covered, Zero, Rest}
 use Rattle.pair_book.specs.declared.used.Used.{Used}

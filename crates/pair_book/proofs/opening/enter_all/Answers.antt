@@ -1,4 +1,4 @@
-use Rattle.std.proofs.Common.{arith, sym, ap, ◌∙◌, ◌≡◌, ◌<◌, ◌≤◌, ◌+◌, ◌++◌, ◌∷◌, [], length, map, take, subst, List}
+use Rattle.std.proofs.Common.{arith, sym, ap, ◌∙◌, ◌≡◌, ◌<◌, ◌+◌, ◌++◌, ◌∷◌, [], length, map, take, subst, List}
 use Rattle.std.proofs.lemmas.List.{length-map, length-take-le}
 use Rattle.std.proofs.lemmas.List.Sums.{sum_by_push}
 use Rattle.std.specs.Arc.{arc_value}
@@ -7,7 +7,7 @@ use Rattle.task_table.specs.Rows.{grown}
 use Rattle.basis_entry.specs.Entries.{BasisEntry}
 use Rattle.pair_book.specs.Settled.{settled_row}
 use Rattle.pair_book.specs.Books.{AreNew}
-use Rattle.pair_book.specs.LogEntries.{Logged, terms_of}
+use Rattle.pair_book.specs.LogEntries.{terms_of}
 use Rattle.pair_book.proofs.Starting.{map_take_more, one_new}
 use Rattle.pair_book.proofs.opening.enter_all.Goals as goal
 

@@ -1,6 +1,5 @@
 use Rattle.std.proofs.Common.{◌≡◌, ◌≤◌, ◌*◌, map, take}
 use Rattle.std.specs.Arc.{arc_value}
-use Rattle.task_table.specs.declared.TheConstants.{ENTRIES}
 use Rattle.pair_book.specs.Books.{AreNew}
 use Rattle.pair_book.specs.LogEntries.{terms_of}
 use Rattle.pair_book.proofs.opening.enter_all.Given as goal

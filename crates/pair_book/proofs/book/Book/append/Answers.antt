@@ -1,14 +1,13 @@
-use Rattle.std.proofs.Common.{arith, sym, ap, ◌∙◌, ◌≡◌, ◌≤◌, ◌+◌, ◌++◌, ◌∷◌, [], length, subst, List, true, length-append}
+use Rattle.std.proofs.Common.{arith, sym, ap, ◌∙◌, ◌≡◌, ◌+◌, ◌++◌, ◌∷◌, [], length, subst, List, true, length-append}
 use Rattle.std.proofs.lemmas.List.Sums.{sum_by_push}
 use Rattle.std.specs.Arc.{arc_value}
 use Rattle.outcomes.specs.declared.kinds.PairKind.TheVariants.{S}
 use Rattle.module_vec.specs.declared.places.Term.{Term}
-use Rattle.strong_pairs.specs.Pairs.{lead_of}
 use Rattle.strong_pairs.specs.Tasks.{IsClosed}
 use Rattle.task_table.specs.Tables.{Table, put}
 use Rattle.task_table.specs.Rows.{grown}
 use Rattle.basis_entry.specs.Entries.{BasisEntry, IsBasisEntry, vectors_of}
-use Rattle.pair_book.specs.Logs.{IsNextEntry, NoneDivides}
+use Rattle.pair_book.specs.Logs.{IsNextEntry}
 use Rattle.pair_book.specs.Settled.{settled_row}
 use Rattle.pair_book.specs.Outcomes.{recipe_steps}
 use Rattle.pair_book.specs.Books.{Held, IsBook}

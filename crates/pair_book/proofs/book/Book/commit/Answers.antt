@@ -1,4 +1,4 @@
-use Rattle.std.proofs.Common.{sym, ap, ◌∙◌, ◌≡◌, ◌++◌, ◌∷◌, [], length, subst}
+use Rattle.std.proofs.Common.{sym, ap, ◌∙◌, ◌++◌, ◌∷◌, [], length, subst}
 use Rattle.std.specs.Prelude.{◌↔◌, IsTrue}
 use Rattle.std.proofs.lemmas.List.{length-map}
 use Rattle.std.specs.Arc.{arc_value}
@@ -6,7 +6,6 @@ use Rattle.outcomes.specs.declared.tasks.Task.{Task}
 use Rattle.strong_pairs.specs.Tasks.{IsClosed}
 use Rattle.basis_entry.specs.Entries.{BasisEntry, vectors_of}
 use Rattle.pair_book.specs.declared.outcome.Close.{Close}
-use Rattle.pair_book.specs.declared.outcome.Close.TheVariants.{Rest}
 use Rattle.pair_book.specs.Outcomes.{IsTrueOf, IsRestOf}
 use Rattle.pair_book.specs.Books.{Held}
 use Rattle.pair_book.specs.Chaining.{ClosesChained}
