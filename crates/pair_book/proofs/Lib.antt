@@ -1,0 +1,10 @@
+pub mod Keeping
+pub mod Reading
+pub mod Strength
+pub mod Starting
+pub mod Opened
+pub mod Transport
+pub mod Strangers
+pub mod Bounds
+pub mod Growing
+pub mod Dues

@@ -1,0 +1,9 @@
+pub mod Faults
+pub mod Logs
+pub mod Settled
+pub mod Outcomes
+pub mod LogEntries
+pub mod Books
+pub mod Inner
+pub mod Chaining
+pub mod Commits

@@ -1,0 +1,146 @@
+//! What the chain rule closes behind a commit.
+
+ghost use Rattle.std.specs.Prelude.{◌≡◌, ◌≢◌, ◌<◌, ◌↔◌, IsTrue, true, length};
+ghost use Rattle.outcomes.specs.declared.kinds.PairKind.TheVariants.{S};
+ghost use Rattle.strong_pairs.specs.Tasks.{IsClosed};
+ghost use Rattle.task_table.specs.Tasks as tasks;
+ghost use Rattle.task_table.specs.Tables.{state_of};
+ghost use Rattle.basis_entry.specs.Entries.{vectors_of};
+ghost use Rattle.pair_book.specs.Books.{IsBook};
+ghost use Rattle.pair_book.specs.Chaining.{IsDueBy, ChainsWith, ChainsAt, AreChained, ClosesChained, s_task, closed_if, is_waiting};
+
+use crate::Book;
+use chain_rule::{Shut, chained};
+use module_vec::VecList;
+use outcomes::{PairKind, Task};
+use strong_pairs::is_pair;
+use task_table::TaskState;
+
+impl Shut for Book {
+    ghost use Rattle.pair_book.specs.Chaining.{shut_pairs};
+
+    ghost vectors = { λ b. vectors_of b.entries };
+
+    ghost pairs = { λ b. shut_pairs b.entries b.tasks };
+
+    fn shut(&self, i: u32, j: u32) -> bool {
+        let task = s_task_of(i, j);
+        if task.i >= task.j || task.j >= self.tasks.count() {
+            return false;
+        }
+        is_closed_state(self.tasks.state(task))
+    }
+}
+
+impl Book {
+    /// Closes what is due behind a commit on this task, where the commit has closed it.
+    pub(crate) fn chain_behind(&mut self, task: Task, closed: bool)
+        requires task { tasks.IsTask (length self.old.entries) task }
+        ensures { ClosesChained self.old task closed self.new }
+    {
+        if !closed {
+            return;
+        }
+        match task.kind {
+            PairKind::S => self.chain(task.i, task.j),
+            PairKind::G => {}
+        }
+    }
+
+    /// Closes what is due behind the S task of two entries.
+    fn chain(&mut self, a: u32, b: u32)
+        requires order { a < b }
+        requires within { b < length self.old.entries }
+        ensures { AreChained (length self.old.entries) self.old a b self.new }
+    {
+        let count = self.log.count();
+        for x in 0..count {
+            self.chain_at(a, b, x);
+        }
+    }
+
+    /// Closes what is due with this entry, where it is a third one.
+    fn chain_at(&mut self, a: u32, b: u32, x: u32)
+        requires first { a < length self.old.entries }
+        requires second { b < length self.old.entries }
+        requires third { x < length self.old.entries }
+        requires apart { a ≢ b }
+        ensures chained { ChainsAt self.old a b x self.new }
+        ensures book { IsBook self.old }
+    {
+        // The proof needs what holds of the book.
+        let _ = &self.commits;
+        if x == a || x == b {
+            return;
+        }
+        self.chain_with(a, b, x);
+    }
+
+    /// Closes what is due with one third entry.
+    fn chain_with(&mut self, a: u32, b: u32, x: u32)
+        requires first { a < length self.old.entries }
+        requires second { b < length self.old.entries }
+        requires third { x < length self.old.entries }
+        requires apart { (a ≢ b) × (x ≢ a) × (x ≢ b) }
+        ensures { ChainsWith self.old a b x self.new }
+    {
+        // The proof needs what holds of the book.
+        let _ = &self.commits;
+        let first = self.is_due(a, x, b);
+        let second = self.is_due(b, x, a);
+        self.close_if(first, s_task_of(a, x));
+        self.close_if(second, s_task_of(b, x));
+    }
+
+    /// Closes a task that is open or hard, and truly closed, where it is due.
+    fn close_if(&mut self, due: bool, task: Task)
+        requires task { tasks.IsTask (length self.old.entries) task }
+        requires waiting { IsTrue due → is_waiting (state_of self.old.tasks task) ≡ true }
+        requires closed { IsTrue due → IsClosed (vectors_of self.old.entries) task.kind task.i task.j }
+        ensures { self.new ≡ closed_if due self.old task }
+    {
+        if due {
+            self.tasks.set(task, TaskState::Closed);
+        }
+    }
+
+    /// Whether the S task of a and x is open or hard, and its pair is closed through b.
+    fn is_due(&self, a: u32, x: u32, b: u32) -> bool
+        requires first { a < length self.now.entries }
+        requires third { x < length self.now.entries }
+        requires apart { x ≢ a }
+        ensures is { IsTrue result ↔ IsDueBy self.now a x b }
+        ensures closed { IsTrue result → IsClosed (vectors_of self.now.entries) S (s_task a x).i (s_task a x).j }
+    {
+        let task = s_task_of(a, x);
+        is_waiting_state(self.tasks.state(task))
+            && is_pair(&self.log, task.i, task.j)
+            && chained(&self.log, self, task.i, task.j, b)
+    }
+}
+
+/// Whether the chain rule may close a task in this state.
+fn is_waiting_state(state: TaskState) -> bool
+    ensures { result ≡ is_waiting state }
+{
+    matches!(state, TaskState::Open | TaskState::Hard)
+}
+
+/// Whether a task in this state was closed by a commit.
+fn is_closed_state(state: TaskState) -> bool
+    ensures { result ≡ tasks.is_closed_later state }
+{
+    matches!(state, TaskState::Closed)
+}
+
+/// The S task of two entries in either order.
+fn s_task_of(a: u32, b: u32) -> Task
+    ensures { result ≡ s_task a b }
+{
+    let kind = PairKind::S;
+    if a < b {
+        Task { i: a, j: b, kind }
+    } else {
+        Task { i: b, j: a, kind }
+    }
+}

@@ -1,0 +1,104 @@
+//! `Log`: the entries of a book.
+
+ghost use Rattle.std.specs.Prelude.{◌≡◌, ◌≤◌, ◌<◌, ◌++◌, ◌∷◌, [], List, Some, None, length, map, slice_get, IfOk};
+ghost use Rattle.std.proofs.Common.{refl};
+ghost use Rattle.std.specs.Arc.{arc_value};
+ghost use Rattle.task_table.specs.declared.TheConstants.{ENTRIES as MOST};
+ghost use Rattle.basis_entry.specs.Entries.{BasisEntry, vectors_of};
+ghost use Rattle.pair_book.specs.LogEntries.{IsLogged};
+
+use basis_entry::{Entry, Front, Sealed};
+use module_vec::{ModVec, VecList};
+use std::alloc::{AllocError, Global};
+use std::marker::Model;
+use std::sync::Arc;
+
+/// The entries of a log, with room for further ones.
+#[derive(Drop)]
+pub struct Log {
+    entries: Vec<Arc<Entry>>,
+    room: u32,
+}
+
+impl Model for Log {
+    ghost use Rattle.pair_book.specs.LogEntries.{Logged};
+
+    ghost Value = { Logged };
+
+    ghost use Rattle.pair_book.specs.LogEntries.{logged, IsRoomy};
+
+    ghost view = { logged };
+
+    ghost invariant = { IsRoomy };
+}
+
+impl Log {
+    /// The log without entries, with room for so many.
+    pub fn with_room(alloc: Global, room: u32) -> Result<Log, AllocError>
+        requires { room ≤ MOST }
+        ensures { IfOk result (λ log. log ≡ record { room = room; entries = [] }) }
+    {
+        Ok(Log {
+            entries: Vec::with_capacity(alloc, room as usize)?,
+            room,
+        })
+    }
+
+    /// Puts an entry at the end. No memory is taken.
+    pub fn push(&mut self, entry: Arc<Entry>)
+        requires { length self.old.entries < self.old.room }
+        ensures { self.new ≡ record self.old { entries = self.old.entries ++ arc_value entry ∷ [] } }
+    {
+        // The proof needs what holds of the entry, and the call says so.
+        let _ = entry.vector();
+        self.entries.push_reserved(entry);
+    }
+
+    /// The entries in order.
+    pub fn entries(&self) -> &[Arc<Entry>]
+        ensures is { map arc_value result.now ≡ self.now.entries }
+        ensures log { IsLogged self.now }
+    {
+        &self.entries
+    }
+
+    /// The entry with this number.
+    pub fn get(&self, at: u32) -> &Arc<Entry>
+        requires { at < length self.now.entries }
+        ensures is { slice_get self.now.entries at ≡ Some (arc_value result.now) }
+    {
+        &self.entries[at as usize]
+    }
+}
+
+impl VecList for Log {
+    ghost vectors = { λ l. vectors_of l.entries };
+
+    fn count(&self) -> u32 {
+        self.entries.len() as u32
+    }
+
+    fn vector(&self, at: u32) -> &ModVec {
+        self.get(at).vector()
+    }
+}
+
+impl Front for Log {
+    ghost entries = { λ l. l.entries };
+
+    ghost seal = { λ l. None };
+
+    ghost vectors_are = { λ l. refl };
+
+    fn front(&self) -> u32 {
+        self.entries.len() as u32
+    }
+
+    fn sealed(&self) -> Option<&Sealed> {
+        None
+    }
+
+    fn entry(&self, at: u32) -> &Arc<Entry> {
+        self.get(at)
+    }
+}
