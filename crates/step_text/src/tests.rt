@@ -1,9 +1,24 @@
 //! Steps with their texts, and texts that are none.
 
+ghost use Rattle.std.specs.Prelude.{IfSome, length};
+ghost use Rattle.step_text.specs.Over.{StepsAreOver};
+
 use super::{put_steps, read_steps, write_steps};
-use presentation::read_presentation;
+use presentation::{Presentation, read_presentation};
+use std::alloc::Global;
 use std::test::Fail;
+use step_lists::Steps;
 use vector_text::SpellFault;
+
+/// The steps of the text, which can be written again.
+fn steps_of(alloc: Global, p: &Presentation, text: &[u8]) -> Option<Steps>
+    ensures { IfSome result (λ steps. StepsAreOver (length p.now.names) steps) }
+{
+    match read_steps(alloc, p, text) {
+        Ok(steps) => Some(steps),
+        Err(_) => None,
+    }
+}
 
 /// Lists of steps over a and b, with the number of their steps, and the factor and the entry of the first.
 const LISTS: [(&str, usize, i128, u32); 5] = [
@@ -23,9 +38,7 @@ const LISTS: [(&str, usize, i128, u32); 5] = [
 fn lists(rt: HostRuntime) -> Result<(), Fail> {
     let p = read_presentation(rt.alloc(), b"<a, b | >")?;
     for (text, count, factor, entry) in LISTS {
-        let steps = read_steps(rt.alloc(), &p, text.as_bytes())
-            .ok()
-            .ok_or(text)?;
+        let steps = steps_of(rt.alloc(), &p, text.as_bytes()).ok_or(text)?;
         assert_eq!(rt; steps.steps().len(), count, "{text}");
         if let Some(first) = steps.steps().first() {
             assert_eq!(rt; first.q, factor, "{text}");
@@ -76,9 +89,7 @@ fn no_lists(rt: HostRuntime) -> Result<(), Fail> {
 #[test]
 fn steps_are_appended(rt: HostRuntime) -> Result<(), Fail> {
     let p = read_presentation(rt.alloc(), b"<a, b | >")?;
-    let steps = read_steps(rt.alloc(), &p, b"+1*1@5 -1*b'@8")
-        .ok()
-        .ok_or("steps")?;
+    let steps = steps_of(rt.alloc(), &p, b"+1*1@5 -1*b'@8").ok_or("steps")?;
     let mut out = Vec::new(rt.alloc());
     out.extend_from_slice(b"entry 9 sum ")?;
     put_steps(&mut out, &p, steps.steps())?;
