@@ -7,8 +7,7 @@ use Rattle.free_words.specs.declared.TheConstants.{COMPOSED}
 use Rattle.free_words.specs.Words.{word_image}
 use Rattle.session_text.specs.declared.question.Question.{Question}
 use Rattle.session_text.specs.declared.question.Question.TheVariants.{Trivial, Equal, Normal, Hom}
-use Rattle.session_text.specs.Questions.{HasImages}
-use Rattle.session_text.specs.Reading.{first_long}
+use Rattle.session_text.specs.Questions.{HasImages, first_long}
 
 abbrev pub is_long : List (List Letter) → List Letter → Bool
 is_long images r = nat_lt COMPOSED (length (word_image images r))

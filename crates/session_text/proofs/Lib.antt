@@ -6,3 +6,7 @@ pub mod ImageFits
 pub mod LineTurns
 pub mod QuestionLemmas
 pub mod EventTurns
+pub mod Spelled
+pub mod TextLaws
+pub mod ReadAgain
+pub mod QuestionBack

@@ -1,9 +1,7 @@
 -- Reading a session: the value of each part of a line and what follows it, or the first fault; and then all its lines.
-use Rattle.std.specs.Prelude.{◌≡◌, ℕ, zero, suc, ◌+◌, ◌-◌, nat_le, nat_lt, codes, List, [], ◌∷◌, ◌++◌, length, position, Option, Some, None, Result, Ok, Err, Vec, if◌then◌else◌}
+use Rattle.std.specs.Prelude.{◌≡◌, ℕ, zero, suc, ◌+◌, ◌-◌, nat_le, nat_lt, codes, List, [], ◌∷◌, ◌++◌, length, Option, Some, None, Result, Ok, Err, Vec, if◌then◌else◌}
 use Rattle.std.specs.declared.alloc.Global.{Global}
 use Rattle.free_words.specs.declared.letter.Letter.{Letter}
-use Rattle.free_words.specs.declared.TheConstants.{COMPOSED}
-use Rattle.free_words.specs.Words.{word_image}
 use Rattle.word_text.specs.declared.fault.Fault.{Fault}
 use Rattle.word_text.specs.declared.fault.ReadFault.{ReadFault}
 use Rattle.word_text.specs.declared.fault.ReadFault.TheVariants as reading
@@ -23,7 +21,7 @@ use Rattle.session_text.specs.declared.reading.Form.{Form}
 use Rattle.session_text.specs.declared.reading.Form.TheVariants as forms
 use Rattle.session_text.specs.declared.question.Question.{Question}
 use Rattle.session_text.specs.declared.question.Question.TheVariants.{Trivial, Equal, Normal, Hom}
-use Rattle.session_text.specs.Questions.{question_letters, session_letters}
+use Rattle.session_text.specs.Questions.{question_letters, session_letters, first_long}
 
 -- the keyword at the head of a line
 unfoldable pub form_at : List ℕ → Result (Form × List ℕ) Fault
@@ -101,13 +99,6 @@ question_at find count letters bs = do
   end ← ending_at question.1
   few ← letters_at (letters + question_letters question.0) bs
   Ok (question.0, end.1)
-
--- where the first relator stands whose image is past the limit on composed words
-abbrev pub first_long : Question → Option ℕ
-first_long (Trivial w) = None
-first_long (Equal u v) = None
-first_long (Normal w) = None
-first_long (Hom source images) = position (λ r. nat_lt COMPOSED (length (word_image images r))) source.relators
 
 -- the question of the line of this number, if no relator has too long an image; relators are numbered from 1
 abbrev pub fitting_by : ℕ → Question → Option ℕ → Result Question SessionFault

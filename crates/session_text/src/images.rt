@@ -4,8 +4,7 @@ ghost use Rattle.std.specs.Prelude.{◌≡◌, ◌<◌, length, position, nat_lt
 ghost use Rattle.std.specs.List.{AllByRecursion};
 ghost use Rattle.free_words.specs.declared.TheConstants.{COMPOSED};
 ghost use Rattle.free_words.specs.Words.{IsOver, word_image};
-ghost use Rattle.session_text.specs.Questions.{IsFormed};
-ghost use Rattle.session_text.specs.Reading.{first_long};
+ghost use Rattle.session_text.specs.Questions.{IsFormed, HasImages, first_long, first_long_image};
 
 use crate::question::Question;
 use free_words::{COMPOSED, Word};
@@ -37,4 +36,15 @@ pub fn first_long(q: &Question) -> Option<usize>
         }
         _ => None,
     }
+}
+
+/// The number, counted from 1, of the first relator of a source whose image has more than [`COMPOSED`] letters.
+pub fn first_long_image(q: &Question) -> Option<u32>
+    requires { IsFormed q.now }
+    ensures number { result ≡ first_long_image q.now }
+    // Where there is none, all images are within that limit.
+    ensures fits { result ≡ None → HasImages q.now }
+{
+    let place = first_long(q)?;
+    Some(place as u32 + 1)
 }

@@ -7,6 +7,7 @@ mod images;
 pub mod laws;
 mod letters;
 mod line;
+mod one_question;
 mod question;
 mod reading;
 mod schedule;
@@ -17,6 +18,8 @@ mod words;
 mod writing;
 
 pub use fault::SessionFault;
+pub use images::first_long_image;
+pub use one_question::read_question;
 pub use question::{Event, Question};
 pub use schedule::read_schedule;
 pub use session::read_session;

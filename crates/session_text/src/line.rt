@@ -35,9 +35,9 @@ fn at_keyword(kind: TextKind, line: &[u8], number: u32) -> ReadFault
     ReadFault::Text(on_line(line, number, Fault { kind, left }))
 }
 
-// The question that the line spells, behind those before it.
+/// The question that the line spells, behind those before it.
 #[tactic(auto, unfolding(crate::specs::Reading::question_at, crate::specs::Reading::room_at, crate::specs::Reading::letters_at))]
-fn spelled_question(
+pub fn spelled_question(
     alloc: Global,
     p: &Presentation,
     number: u32,

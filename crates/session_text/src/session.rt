@@ -1,9 +1,11 @@
 //! Sessions as texts: one question a line.
 
-ghost use Rattle.std.specs.Prelude.{◌≡◌, ◌≤◌, ◌==◌, not, length, take_while, take, drop, All, IfOk};
+ghost use Rattle.std.specs.Prelude.{◌≡◌, ◌≤◌, ◌==◌, not, length, take_while, take, drop, All, IfOk, List, Ok};
+ghost use Rattle.session_text.specs.declared.question.Question.{Question};
 ghost use Rattle.std.specs.List.{prefix_len};
 ghost use Rattle.session_text.specs.declared.TheConstants.{QUESTIONS, LETTERS};
 ghost use Rattle.session_text.specs.Questions.{IsWrittenQuestion, HasImages, session_letters};
+ghost use Rattle.session_text.specs.Grammar.{IsSession};
 ghost use Rattle.session_text.specs.Reading.{session_text, ReadsSession};
 
 use crate::asked::Asked;
@@ -58,6 +60,10 @@ pub fn read_session(
     p: &Presentation,
     text: &[u8],
 ) -> Result<Vec<Question>, SessionFault>
+    // The text is a session of the grammar, with these questions.
+    ensures found { IfOk result (λ qs. IsSession p.now text.now qs.items) }
+    // Where the text is a session of the grammar, its questions are read, unless memory runs out.
+    ensures only { (qs : List Question) → IsSession p.now text.now qs → ReadsSession (Ok qs) result }
     // Which questions, or which fault, and where.
     ensures exact { ReadsSession (session_text p.now text.now) result }
     // Words are over the presentation and within the limit on written words; a homomorphism has an image for each

@@ -1,0 +1,16 @@
+//! The lines of a report: a type for each of them, and their one spelling.
+//!
+//! A report says how completion went and what was answered: the entries with their recipes, the answers with their proofs,
+//! and the end. Here a line is taken by itself, without its line end, over the presentation of the report. Which lines may
+//! follow which, and whether they hold, is said elsewhere.
+#![tactic(auto)]
+
+mod heads;
+mod lines;
+mod reading;
+mod writing;
+
+pub use heads::{is_pres_line, is_title};
+pub use lines::{Line, Made};
+pub use reading::read_line;
+pub use writing::put_line;

@@ -1,0 +1,1 @@
+//! Steps with their texts, and texts that are none.
