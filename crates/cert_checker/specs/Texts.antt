@@ -70,9 +70,10 @@ BytesFail p gens s bytes k = FailsIn s.phase p gens s bytes k
 
 -- ---- all lines
 
--- the last line was taken, and nothing stands behind it
+-- the last line was taken, no proof is due, and nothing stands behind
 pub record IsComplete (s : State) (rest : List ℕ) : Type 0 where
   pub finished : s.phase ≡ Finished
+  pub settled : IsSettled s
   pub nothing : rest ≡ []
 
 abbrev pub counts : State → Checked

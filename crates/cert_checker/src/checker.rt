@@ -82,11 +82,11 @@ impl Checker {
         }
     }
 
-    /// Whether the last line was taken, where these bytes stand behind it.
+    /// Whether the last line was taken and no proof is due, where these bytes stand behind.
     pub fn is_complete(&self, rest: &[u8]) -> bool
         ensures { IsTrue result ↔ IsComplete self.now rest.now }
     {
-        self.phase == Phase::Finished && rest.is_empty()
+        self.phase == Phase::Finished && self.is_settled() && rest.is_empty()
     }
 
     /// How much was checked.

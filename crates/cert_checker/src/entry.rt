@@ -77,12 +77,20 @@ fn recipe_agrees(
 fn signed(alloc: Global, vector: &ModVec, negated: bool) -> Result<ModVec, AllocError>
     ensures { IfOk result (λ v. (x : Place) → coefficient_at v x ≡ signed negated vector.now x) }
 {
+    let mut made = copied(alloc, vector)?;
+    if !negated {
+        return Ok(made);
+    }
+    made.negate();
+    Ok(made)
+}
+
+/// The same vector once more.
+fn copied(alloc: Global, vector: &ModVec) -> Result<ModVec, AllocError>
+    ensures { IfOk result (λ v. v ≡ vector.now) }
+{
     let terms = vector.terms();
     let mut copy = Vec::with_capacity(alloc, terms.len())?;
     copy.extend_from_slice(terms)?;
-    let mut made = ModVec::of_falling(copy);
-    if negated {
-        made.negate();
-    }
-    Ok(made)
+    Ok(ModVec::of_falling(copy))
 }

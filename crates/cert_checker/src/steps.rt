@@ -1,8 +1,9 @@
 //! Steps over the entries, one after another.
 
-ghost use Rattle.std.specs.Prelude.{◌≡◌, ◌↔◌, IsTrue};
+ghost use Rattle.std.specs.Prelude.{◌≡◌, ◌↔◌, ◌<◌, ◌≤◌, length, IsTrue, MatchOption};
 ghost use Rattle.std.specs.List.{AllByRecursion};
 ghost use Rattle.module_vec.specs.Vectors.{coefficient_at, InRange};
+ghost use Rattle.module_vec.specs.Modules.{vector_at};
 ghost use Rattle.cert_checker.specs.States.{IsNear, AreNear};
 ghost use Rattle.cert_checker.specs.Checking.{StepsLead, StepsFail, Outcome};
 
@@ -27,7 +28,7 @@ pub fn pass<'a>(
 {
     let mut sum = sum;
     for step in steps {
-        let Some(entry) = entries.get(step.by as usize) else {
+        let Some(entry) = named(entries, step) else {
             return Err(LineFault::Fails(CertKind::NoEntry));
         };
         sum = sum.pass(alloc, way, step, entry)?;
@@ -51,8 +52,15 @@ pub fn are_near(entries: &[ModVec], steps: &[Step]) -> bool
 fn is_near(entries: &[ModVec], step: &Step) -> bool
     ensures { IsTrue result ↔ IsNear entries.now step.now }
 {
-    match entries.get(step.by as usize) {
+    match named(entries, step) {
         Some(entry) => entry.has_room(&step.t),
         None => true,
     }
+}
+
+/// The entry that the step names, if it is there.
+fn named<'a>(entries: &'a [ModVec], step: &Step) -> Option<&'a ModVec>
+    ensures { MatchOption result (length entries.now ≤ step.now.by) (λ g. (step.now.by < length entries.now) × (g.now ≡ vector_at entries.now step.now.by)) }
+{
+    entries.get(step.by as usize)
 }

@@ -1,6 +1,6 @@
 //! The words that are to be shown trivial for a yes.
 
-ghost use Rattle.std.specs.Prelude.{◌≡◌, ◌≤◌, List, map, length, IfOk};
+ghost use Rattle.std.specs.Prelude.{◌≡◌, ◌≤◌, List, [], ◌∷◌, map, length, IfOk};
 ghost use Rattle.std.specs.List.{AllByRecursion};
 ghost use Rattle.free_words.specs.declared.TheConstants.{COMPOSED};
 ghost use Rattle.free_words.specs.declared.letter.Letter.{Letter};
