@@ -1,11 +1,12 @@
 -- What the checker's yes says. It goes backwards through the lines: a yes is true because the lines behind it show its
 -- subjects.
-use Rattle.std.proofs.Common.{◌≡◌, ℕ, ◌+◌, ◌<◌, ◌≤◌, List, [], ◌∷◌, ◌++◌, length, drop, get_or, map, Contains, refl, sym, ap, ◌∙◌, subst, arith, append-assoc}
+use Rattle.std.proofs.Common.{◌≡◌, ℕ, ◌+◌, ◌<◌, ◌≤◌, List, [], ◌∷◌, ◌++◌, length, drop, get_or, map, Contains, refl, sym, ap, ◌∙◌, subst, arith, append_assoc}
 use Rattle.std.specs.Prelude.{Some, None, Result, Ok, Err, IfOk}
 use Rattle.std.specs.List.{AllByRecursion}
 use Rattle.std.proofs.lemmas.List.{drop_all, drop_more}
 use Rattle.std.proofs.lemmas.List.Elements.{All-from_recursion, All-contains}
 use Rattle.spelling.specs.Spelling.{cut}
+use Rattle.word_text.specs.Place.{capped}
 use Rattle.spelling.proofs.Cuts.{cut_joins}
 use Rattle.free_words.specs.declared.letter.Letter.{Letter}
 use Rattle.free_words.specs.Words.{IsOver, word_image}
@@ -108,7 +109,7 @@ module _ (p : Presented) (ok : IsPresented p) (gens : List (List Term)) (are : A
     due : DueHold p s
 
   -- the head was taken
-  IsBehindHead : Phase → Type 0
+  abbrev IsBehindHead : Phase → Type 0
   IsBehindHead Title = ⊥
   IsBehindHead Presentation = ⊥
   IsBehindHead Entries = Unit {0}
@@ -141,7 +142,7 @@ module _ (p : Presented) (ok : IsPresented p) (gens : List (List Term)) (are : A
       let held = sound.due body.due in record {
         ls = b.line ∷ body.ls;
         valid = (b.valid, body.valid);
-        spelled = (λ i. b.spelled i ++ 10 ∷ body.spelled i) ∙ sym (append-assoc (line_text p b.line) (10 ∷ []) (lines_text p body.ls));
+        spelled = (λ i. b.spelled i ++ 10 ∷ body.spelled i) ∙ sym (append_assoc (line_text p b.line) (10 ∷ []) (lines_text p body.ls));
         true_lines = (held.1, body.true_lines);
         due = held.0;
       }
@@ -154,7 +155,7 @@ module _ (p : Presented) (ok : IsPresented p) (gens : List (List Term)) (are : A
       let b : BodyHolds p gens s line taken = as_body s.phase s taken line behind holds in
       let on : IsBehindHead taken.phase = subst (λ (t : State). IsBehindHead t.phase) (sym b.holds.is) (stays_behind s b.line behind) in
       subst (Body s) (sym (cut_joins 10 text line others cuts))
-      (line_body s taken line others all words b (λ more. told_body _ taken others r c later e on more (taken_words p gens s taken line holds words)))
+      (line_body s taken line others all words b (λ more. told_body (capped (n + 1)) taken others r c later e on more (taken_words p gens s taken line holds words)))
 
   -- the second line, and the lines behind it
   told_second : (n : ℕ) (s : State) (text : List ℕ) (r : Result Checked CertFault) (c : Checked) → Tells p gens n s text r → r ≡ Ok c → s ≡ record start { phase = Presentation }
@@ -164,7 +165,7 @@ module _ (p : Presented) (ok : IsPresented p) (gens : List (List Term)) (are : A
   told_second n s text _ c (Tells.fails _ _ _ line others k cuts f) e is = absurd cc
   told_second n s text r c (Tells.goes_on _ _ taken _ line others _ cuts holds later) e is =
       let h : (line ≡ pres_line p) × (taken ≡ record start { phase = Entries }) = subst (λ (t : State). BytesHold p gens t line taken) is holds in
-      let body : Body (record start { phase = Entries }) others = told_body _ _ others r c (subst (λ (t : State). Tells p gens _ t others r) h.1 later) e tt tt tt in
+      let body : Body (record start { phase = Entries }) others = told_body (capped (n + 1)) (record start { phase = Entries }) others r c (subst (λ (t : State). Tells p gens (capped (n + 1)) t others r) h.1 later) e tt tt tt in
       (body.ls, body.valid, cut_joins 10 text line others cuts ∙ (λ i. h.0 i ++ 10 ∷ body.spelled i), body.true_lines)
 
   told_first : (n : ℕ) (s : State) (text : List ℕ) (r : Result Checked CertFault) (c : Checked) → Tells p gens n s text r → r ≡ Ok c → s ≡ start → IsTrueReport p text
@@ -173,7 +174,7 @@ module _ (p : Presented) (ok : IsPresented p) (gens : List (List Term)) (are : A
   told_first n s text _ c (Tells.fails _ _ _ line others k cuts f) e is = absurd cc
   told_first n s text r c (Tells.goes_on _ _ taken _ line others _ cuts holds later) e is =
       let h : (line ≡ title) × (taken ≡ record start { phase = Presentation }) = subst (λ (t : State). BytesHold p gens t line taken) is holds in
-      let rest = told_second _ taken others r c later e h.1 in record {
+      let rest = told_second (capped (n + 1)) taken others r c later e h.1 in record {
         lines = rest.0;
         valid = rest.1;
         spelled = cut_joins 10 text line others cuts ∙ (λ i. h.0 i ++ 10 ∷ rest.2 i);

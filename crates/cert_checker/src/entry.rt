@@ -30,9 +30,7 @@ pub fn entry_agrees(
     ensures { Outcome (λ _. IsMadeOf generators.now entries.now made.now (coefficient_at vector.now)) (EntryFails generators.now entries.now made.now vector.now) result }
 {
     match made {
-        Made::Gen { negated } => {
-            generator_agrees(alloc, generators, entries, *negated, vector)
-        }
+        Made::Gen { negated } => { generator_agrees(alloc, generators, entries, *negated, vector) }
         Made::Sum { steps } => recipe_agrees(alloc, entries, steps.steps(), vector),
     }
 }

@@ -4,7 +4,6 @@
 //! a report is believed for what it says, whoever wrote it.
 #![tactic(auto)]
 
-mod report;
 mod checked;
 mod checker;
 mod entry;
@@ -12,10 +11,11 @@ mod faults;
 mod order;
 mod phase;
 mod proof;
+mod report;
 mod steps;
 mod subjects;
 mod taking;
 
-pub use report::check;
 pub use checked::Checked;
 pub use faults::{CertFault, CertKind};
+pub use report::check;

@@ -27,7 +27,9 @@ impl Checker {
             Line::Entry { number, made, .. } => self.entry_may_follow(generators, *number, made),
             Line::Seal => self.seal_may_follow(generators),
             Line::Live {
-                front, question, ..
+                front,
+                question,
+                ..
             } => self.answer_may_follow(generators, *front, question),
             Line::Proof { subject, steps } => self.proof_may_follow(*subject, steps.steps()),
             Line::End(_) => self.end_may_follow(generators),

@@ -7,8 +7,8 @@ ghost use Rattle.module_vec.specs.Modules.{vector_at};
 ghost use Rattle.cert_checker.specs.States.{IsNear, AreNear};
 ghost use Rattle.cert_checker.specs.Checking.{StepsLead, StepsFail, Outcome};
 
-use crate::faults::LineFault;
 use crate::CertKind;
+use crate::faults::LineFault;
 use module_vec::{ModVec, Step};
 use std::alloc::Global;
 use step_lists::{Sum, Way};

@@ -75,5 +75,6 @@ fn image_of(alloc: Global, word: &Word, images: &[Word]) -> Result<Word, AllocEr
     ensures { IfOk result (λ made. made ≡ word_image images.now word.now) }
 {
     // It isn't too long, so memory ran out.
-    word.substitute(alloc, images, COMPOSED).map_err(|_| AllocError)
+    word.substitute(alloc, images, COMPOSED)
+        .map_err(|_| AllocError)
 }

@@ -128,10 +128,14 @@ impl Checker {
         match line {
             Line::Entry { vector, .. } => self.with_entry(vector),
             Line::Live {
-                question, verdict, ..
+                question,
+                verdict,
+                ..
             } => self.with_answer(alloc, question, &verdict),
             Line::Close {
-                question, verdict, ..
+                question,
+                verdict,
+                ..
             } => self.with_answer(alloc, question, &verdict),
             Line::Proof { .. } => Ok(self.with_proof()),
             Line::Seal => Ok(self.with_phase(Phase::Sealed)),
