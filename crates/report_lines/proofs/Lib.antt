@@ -1,0 +1,11 @@
+pub mod Pairs
+pub mod Numbers
+pub mod QuestionTexts
+pub mod TaskTexts
+pub mod StopTexts
+pub mod EndTexts
+pub mod VerdictTexts
+pub mod MadeTexts
+pub mod AnswerTexts
+pub mod LineTexts
+pub mod ReadingBack

@@ -1,3 +1,4 @@
-pub mod Questions
+pub mod Parts
 pub mod Texts
 pub mod Lines
+pub mod Reading

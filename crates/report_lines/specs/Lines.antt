@@ -1,9 +1,11 @@
 -- What a line of a report over a presentation is.
-use Rattle.std.specs.Prelude.{ℕ, ◌<◌, ◌≤◌, List, length}
+use Rattle.std.specs.Prelude.{ℕ, ◌<◌, ◌≤◌, length}
 use Rattle.spelling.specs.Spelling.{IsSmall}
 use Rattle.presentation.specs.Presented.{Presented}
 use Rattle.module_vec.specs.declared.faults.Stop.{Stop}
 use Rattle.module_vec.specs.declared.faults.Stop.TheVariants.{Wide, Long, Deep, Steep}
+use Rattle.outcomes.specs.declared.kinds.PairKind.{PairKind}
+use Rattle.outcomes.specs.declared.ends.Measure.{Measure}
 use Rattle.outcomes.specs.declared.tasks.Task.{Task}
 use Rattle.outcomes.specs.declared.ends.End.{End}
 use Rattle.outcomes.specs.declared.ends.End.TheVariants as ends
@@ -11,10 +13,9 @@ use Rattle.outcomes.specs.declared.verdicts.Verdict.{Verdict}
 use Rattle.outcomes.specs.declared.verdicts.Verdict.TheVariants as verdicts
 use Rattle.session_text.specs.declared.question.Question.{Question}
 use Rattle.session_text.specs.declared.question.Question.TheVariants as questions
-use Rattle.session_text.specs.Questions.{IsQuestion}
+use Rattle.session_text.specs.Questions.{IsQuestion, IsWritable}
 use Rattle.vector_text.specs.Over.{PlaceIsOver, VectorIsOver, IsPlaceOf, IsVectorOf}
 use Rattle.step_text.specs.Over.{StepsAreOver, AreStepsOf}
-use Rattle.report_lines.specs.Questions.{IsWritable}
 use Rattle.report_lines.specs.declared.lines.Made.{Made}
 use Rattle.report_lines.specs.declared.lines.Made.TheVariants.{Gen, Sum}
 use Rattle.report_lines.specs.declared.lines.Line.{Line}
@@ -127,6 +128,13 @@ abbrev pub IsMadeOf : ℕ → Made → Type 0
 IsMadeOf n (Gen negated) = Unit {0}
 IsMadeOf n (Sum steps) = AreStepsOf n steps
 
+-- each kind, and each measure
+abbrev pub IsKind : PairKind → Type 0
+IsKind kind = Unit {0}
+
+abbrev pub IsMeasure : Measure → Type 0
+IsMeasure measure = Unit {0}
+
 pub record IsTask (t : Task) : Type 0 where
   pub i : IsSmall t.i
   pub j : IsSmall t.j
@@ -154,10 +162,10 @@ pub record IsAnswer (p : Presented) (q : Question) (v : Verdict) : Type 0 where
 
 -- a line of a report over p; that the images of a homomorphism are short is another rule
 abbrev pub IsLineOf : Presented → Line → Type 0
-IsLineOf p (lines.Entry number made vector) = IsSmall number × IsMadeOf (length p.names) made × IsVectorOf (length p.names) vector
+IsLineOf p (lines.Entry number made vector) = IsSmall number × (IsMadeOf (length p.names) made × IsVectorOf (length p.names) vector)
 IsLineOf p lines.Seal = Unit {0}
-IsLineOf p (lines.Live session number front question verdict) = IsSmall session × IsSmall number × IsSmall front × IsAnswer p question verdict
+IsLineOf p (lines.Live session number front question verdict) = IsSmall session × (IsSmall number × (IsSmall front × IsAnswer p question verdict))
 IsLineOf p (lines.Proof subject steps) = IsSmall subject × AreStepsOf (length p.names) steps
 IsLineOf p (lines.End end) = IsEndOf (length p.names) end
-IsLineOf p (lines.Close session number question verdict) = IsSmall session × IsSmall number × IsAnswer p question verdict
+IsLineOf p (lines.Close session number question verdict) = IsSmall session × (IsSmall number × IsAnswer p question verdict)
 IsLineOf p lines.Done = Unit {0}

@@ -1,5 +1,5 @@
 -- The one spelling of the lines of a report, without their line ends, over the names of generators.
-use Rattle.std.specs.Prelude.{ℕ, Bool, if◌then◌else◌, codes, decimal, List, ◌++◌}
+use Rattle.std.specs.Prelude.{ℕ, if◌then◌else◌, codes, decimal, List, ◌++◌}
 use Rattle.presentation.specs.Presented.{Presented}
 use Rattle.presentation.specs.Writing.{written_presentation}
 use Rattle.module_vec.specs.declared.faults.Stop.{Stop}

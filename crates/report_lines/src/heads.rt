@@ -3,6 +3,7 @@
 ghost use Rattle.std.specs.Prelude.{◌≡◌, ◌↔◌, IsTrue, IfOk};
 ghost use Rattle.report_lines.specs.Texts.{title, pres_line};
 
+use crate::parts::behind;
 use presentation::{Presentation, write_presentation};
 use std::alloc::{AllocError, Global};
 
@@ -17,7 +18,7 @@ pub fn is_title(text: &[u8]) -> bool
 pub fn is_pres_line(alloc: Global, p: &Presentation, text: &[u8]) -> Result<bool, AllocError>
     ensures { IfOk result (λ same. IsTrue same ↔ (text.now ≡ pres_line p.now)) }
 {
-    let Some(rest) = text.strip_prefix(b"pres ") else {
+    let Some(rest) = behind(text, b"pres ") else {
         return Ok(false);
     };
     let written = write_presentation(alloc, p)?;

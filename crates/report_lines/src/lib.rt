@@ -5,12 +5,23 @@
 //! follow which, and whether they hold, is said elsewhere.
 #![tactic(auto)]
 
+mod answers;
+mod ends;
 mod heads;
+pub mod laws;
 mod lines;
+mod made;
+mod parts;
 mod reading;
+mod stops;
+mod tasks;
+mod verdicts;
 mod writing;
 
 pub use heads::{is_pres_line, is_title};
 pub use lines::{Line, Made};
 pub use reading::read_line;
-pub use writing::put_line;
+pub use writing::{put_line, write_line};
+
+#[cfg(test)]
+mod tests;

@@ -1,0 +1,43 @@
+//! The texts of how entries were made.
+
+ghost use Rattle.std.specs.Prelude.{◌≡◌, ◌++◌, length, OnOk};
+ghost use Rattle.vector_text.specs.Reading.{Reads};
+ghost use Rattle.report_lines.specs.Texts.{made_text};
+ghost use Rattle.report_lines.specs.Lines.{MadeIsOver, IsMadeOf};
+
+use crate::Made;
+use crate::parts::behind;
+use presentation::Presentation;
+use std::alloc::{AllocError, Global};
+use step_text::{put_steps, read_steps};
+use vector_text::SpellFault;
+
+/// How an entry was made, as the text spells it.
+pub fn read_made(alloc: Global, p: &Presentation, text: &[u8]) -> Result<Made, SpellFault>
+    ensures { Reads (made_text p.now.names) (IsMadeOf (length p.now.names)) text.now result }
+{
+    if text == b"gen +".as_slice() {
+        return Ok(Made::Gen { negated: false });
+    }
+    if text == b"gen -".as_slice() {
+        return Ok(Made::Gen { negated: true });
+    }
+    let rest = behind(text, b"sum ").ok_or(SpellFault::Spelling)?;
+    let steps = read_steps(alloc, p, rest)?;
+    Ok(Made::Sum { steps })
+}
+
+/// Appends the text of how an entry was made.
+pub fn put_made(out: &mut Vec<u8>, p: &Presentation, made: &Made) -> Result<(), AllocError>
+    requires { MadeIsOver (length p.now.names) made.now }
+    ensures { OnOk result (out.new.items ≡ out.old.items ++ made_text p.now.names made.now) }
+{
+    match made {
+        Made::Gen { negated: true } => out.extend_from_slice(b"gen -"),
+        Made::Gen { negated: false } => out.extend_from_slice(b"gen +"),
+        Made::Sum { steps } => {
+            out.extend_from_slice(b"sum ")?;
+            put_steps(out, p, steps.steps())
+        }
+    }
+}
