@@ -19,3 +19,6 @@ mod taking;
 pub use checked::Checked;
 pub use faults::{CertFault, CertKind};
 pub use report::check;
+
+#[cfg(test)]
+mod tests;
