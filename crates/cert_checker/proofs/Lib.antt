@@ -7,3 +7,4 @@ pub mod ShortWords
 pub mod Telling
 pub mod Members
 pub mod Soundness
+pub mod Named

@@ -80,13 +80,13 @@ module _ (p : Presented) (ok : IsPresented p) (gens : List (List Term)) (are : A
 
   line_sound : (s : State) (l : Line) → AllByRecursion (Lies p) s.entries → AreWords p s.subjects → IsLineOf p l → MayFollow gens s l → Agrees gens s l → Sound s l (next s l)
   line_sound s (lines.Entry number made vector) all words valid follows agrees =
-      let own : Lies p vector = entry_lies p gens s.entries made (length p.names) vector are all valid.1 follows.3 agrees in record {
+      let own : Lies p vector = entry_lies p gens s.entries made (length p.names) vector are all valid.1.0 follows.3 agrees in record {
         entries = all_join (Lies p) s.entries (vector ∷ []) all (own, tt);
         due = λ h. (h, own);
       }
   line_sound s lines.Seal all words valid follows agrees = record { entries = all; due = λ h. (h, tt) }
   line_sound s (lines.Live session number front question verdict) all words valid follows agrees =
-      record { entries = all; due = λ h. (settled_holds p s follows.1, verdict_holds p question verdict valid.3.question h) }
+      record { entries = all; due = λ h. (settled_holds p s follows.1, verdict_holds p question verdict valid.1.1.1.question h) }
   line_sound s (lines.Proof subject steps) all words valid follows agrees =
       let word = all_at (λ w. IsOver (length p.names) w × (length w ≤ 32768)) s.subjects s.shown [] words follows.0 in
       let trivial : Trivial p (due s) = proven_trivial p s.entries (length p.names) (due s) steps ok word.0 all valid.1 agrees in record {
@@ -95,7 +95,7 @@ module _ (p : Presented) (ok : IsPresented p) (gens : List (List Term)) (are : A
       }
   line_sound s (lines.End end) all words valid follows agrees = record { entries = all; due = λ h. (h, tt) }
   line_sound s (lines.Close session number question verdict) all words valid follows agrees =
-      record { entries = all; due = λ h. (settled_holds p s follows.1, verdict_holds p question verdict valid.2.question h) }
+      record { entries = all; due = λ h. (settled_holds p s follows.1, verdict_holds p question verdict valid.1.1.question h) }
   line_sound s lines.Done all words valid follows agrees = record { entries = all; due = λ h. (h, tt) }
 
   -- ---- texts

@@ -32,10 +32,10 @@ use Rattle.cert_checker.proofs.ShortWords.{asked_words}
 next_words : (p : Presented) (gens : List (List Term)) (s : State) (l : Line) → IsLineOf p l → MayFollow gens s l → AreWords p s.subjects → AreWords p (next s l).subjects
 next_words p gens s (lines.Entry number made vector) valid follows h = h
 next_words p gens s lines.Seal valid follows h = h
-next_words p gens s (lines.Live session number front question verdict) valid follows h = asked_words p question verdict valid.3.question follows.4
+next_words p gens s (lines.Live session number front question verdict) valid follows h = asked_words p question verdict valid.1.1.1.question follows.4
 next_words p gens s (lines.Proof subject steps) valid follows h = h
 next_words p gens s (lines.End end) valid follows h = h
-next_words p gens s (lines.Close session number question verdict) valid follows h = asked_words p question verdict valid.2.question follows.2
+next_words p gens s (lines.Close session number question verdict) valid follows h = asked_words p question verdict valid.1.1.question follows.2
 next_words p gens s lines.Done valid follows h = h
 
 body_words : (p : Presented) (gens : List (List Term)) (s taken : State) (bytes : List ℕ) → BodyHolds p gens s bytes taken → AreWords p s.subjects → AreWords p taken.subjects

@@ -1,7 +1,7 @@
 //! Checking a whole text.
 
-ghost use Rattle.std.specs.Prelude.{IfOk};
-ghost use Rattle.cert_checker.specs.Faults.{OfLine};
+ghost use Rattle.std.specs.Prelude.{length, IfOk, IfErr};
+ghost use Rattle.cert_checker.specs.Faults.{OfLine, FaultIsOver};
 ghost use Rattle.cert_checker.specs.Texts.{Answers};
 ghost use Rattle.cert_checker.specs.Truth.{IsTrueReport};
 
@@ -23,6 +23,8 @@ use std::alloc::Global;
 pub fn check(alloc: Global, p: &Presentation, text: &[u8]) -> Result<Checked, CertFault>
     ensures exact { Answers p.now text.now result }
     ensures sound { IfOk result (λ _. IsTrueReport p.now text.now) }
+    // A place that is named is over the presentation's generators, so it can be written.
+    ensures over { IfErr result (FaultIsOver (length p.now.names)) }
 {
     p.known();
     checked(alloc, p, text)
