@@ -27,7 +27,7 @@ cert_text names Long = codes "long"
 
 -- the report holds
 abbrev pub holds : Checked → Answer
-holds c = record { status = Done; text = codes "holds entries " ++ decimal c.entries ++ codes " proofs " ++ decimal c.proofs ++ codes "\n" }
+holds c = record { status = Done; text = codes "holds entries " ++ (decimal c.entries ++ (codes " proofs " ++ (decimal c.proofs ++ codes "\n"))) }
 
 -- this line is the first that fails
 abbrev pub fails : List (List ℕ) → ℕ → CertKind → Answer
