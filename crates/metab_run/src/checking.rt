@@ -46,7 +46,12 @@ fn put_kind(out: &mut Vec<u8>, p: &Presentation, kind: &CertKind) -> Result<(), 
 }
 
 // The answer where a line fails.
-fn failing(alloc: Global, p: &Presentation, line: u32, kind: &CertKind) -> Result<Answer, AllocError>
+fn failing(
+    alloc: Global,
+    p: &Presentation,
+    line: u32,
+    kind: &CertKind,
+) -> Result<Answer, AllocError>
     requires { KindIsOver (length p.now.names) kind.now }
     ensures { IfOk result (λ a. a ≡ fails p.now.names line kind.now) }
 {

@@ -216,15 +216,30 @@ done
 fn reports_are_checked(rt: HostRuntime) -> Result<(), Fail> {
     let alloc = rt.alloc();
     for (p, report, text, wanted) in [
-        ("<a,b | [a,b]>", REPORT, "holds entries 5 proofs 1\n", Status::Done),
-        ("<a,b | [b,a]>", REPORT, "fails line 2 text\n", Status::Fails),
+        (
+            "<a,b | [a,b]>",
+            REPORT,
+            "holds entries 5 proofs 1\n",
+            Status::Done,
+        ),
+        (
+            "<a,b | [b,a]>",
+            REPORT,
+            "fails line 2 text\n",
+            Status::Fails,
+        ),
         (
             "<a,b | [a,b]>",
             "metab report 1\npres <a, b | a b a^-1 b^-1>\nentry 0 gen - : +1*a@b -1*b@a -1*1@b +1*1@a\n",
             "fails line 3 not-equal a@b\n",
             Status::Fails,
         ),
-        ("<a,b", REPORT, "refused p line 1 column 5 expected\n", Status::TextRefused),
+        (
+            "<a,b",
+            REPORT,
+            "refused p line 1 column 5 expected\n",
+            Status::TextRefused,
+        ),
     ] {
         let words = words(alloc, &["check", "p", "d"])?;
         let mut shelf = shelf(alloc, p.as_bytes(), report.as_bytes(), &[])?;
