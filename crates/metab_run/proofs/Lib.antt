@@ -1,3 +1,4 @@
 pub mod Ending
 pub mod Leading
 pub mod Wording
+pub mod Reports

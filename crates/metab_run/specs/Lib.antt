@@ -4,4 +4,5 @@ pub mod Files
 pub mod Ends
 pub mod Steps
 pub mod FoxAnswers
+pub mod CheckAnswers
 pub mod Top

@@ -5,6 +5,7 @@ use denote.Bor.{Bor}
 use Rattle.word_text.specs.Scan.{first_is}
 use Rattle.metab_run.specs.declared.words.StepsWords.{StepsWords}
 use Rattle.metab_run.specs.declared.words.FoxWords.{FoxWords}
+use Rattle.metab_run.specs.declared.words.CheckWords.{CheckWords}
 use Rattle.metab_run.specs.declared.words.Command.{Command}
 use Rattle.metab_run.specs.declared.words.Command.TheVariants as commands
 
@@ -36,10 +37,16 @@ pub record FoxAsked : Type 0 where
   pub presentation : List ℕ
   pub word : List ℕ
 
+-- what `check` is asked: the names of a presentation and of a report
+pub record CheckAsked : Type 0 where
+  pub presentation : List ℕ
+  pub report : List ℕ
+
 -- a command with what it is asked
 pub data Asked : Type 0 where
   Steps : StepsAsked → Asked
   Fox : FoxAsked → Asked
+  Check : CheckAsked → Asked
 
 abbrev pub three : List (List ℕ) → Option StepsAsked
 three (p ∷ w ∷ d ∷ []) = Some (record { presentation = p; word = w; derivation = d })
@@ -49,11 +56,16 @@ abbrev pub two : List (List ℕ) → Option FoxAsked
 two (p ∷ w ∷ []) = Some (record { presentation = p; word = w })
 two _ = None
 
+abbrev pub two_names : List (List ℕ) → Option CheckAsked
+two_names (p ∷ r ∷ []) = Some (record { presentation = p; report = r })
+two_names _ = None
+
 -- the command of this name, where its arguments are of its form
 abbrev pub command_of : List ℕ → List (List ℕ) → Option Asked
 command_of name ws =
     if bytes_eq name (codes "steps") then option_map Steps (three ws)
     else if bytes_eq name (codes "fox") then option_map Fox (two ws)
+    else if bytes_eq name (codes "check") then option_map Check (two_names ws)
     else None
 
 -- what the words of the command line ask for: its first word is a command's name
@@ -68,6 +80,10 @@ steps_asked w = record { presentation = w.presentation.now; word = w.word.now; d
 abbrev pub fox_asked : FoxWords → FoxAsked
 fox_asked w = record { presentation = w.presentation.now; word = w.word.now }
 
+abbrev pub check_asked : CheckWords → CheckAsked
+check_asked w = record { presentation = w.presentation.now; report = w.report.now }
+
 abbrev pub asked : Command → Asked
 asked (commands.Steps w) = Steps (steps_asked w)
 asked (commands.Fox w) = Fox (fox_asked w)
+asked (commands.Check w) = Check (check_asked w)

@@ -2,6 +2,7 @@
 #![tactic(auto)]
 
 mod answer;
+mod checking;
 mod files;
 mod fox;
 mod status;
@@ -20,3 +21,6 @@ pub const PRESENTATION_BYTES: u32 = 65_536;
 
 /// A derivation's text has at most so many bytes.
 pub const DERIVATION_BYTES: u32 = 67_108_864;
+
+/// A report has at most so many bytes.
+pub const REPORT_BYTES: u32 = 67_108_864;

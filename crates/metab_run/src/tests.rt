@@ -199,6 +199,58 @@ fn words_have_fox_vectors(rt: HostRuntime) -> Result<(), Fail> {
     Ok(())
 }
 
+const REPORT: &str = "metab report 1
+pres <a, b | a b a^-1 b^-1>
+entry 0 gen + : +1*a@b -1*b@a -1*1@b +1*1@a
+entry 1 gen + : +1*a.a'@a -1*1@a
+entry 2 gen + : +1*a.a'@b -1*1@b
+entry 3 gen + : +1*b.b'@a -1*1@a
+entry 4 gen + : +1*b.b'@b -1*1@b
+live 1 1 5 trivial a b a^-1 b^-1 : trivial
+proof 1 +1*1@0
+end spent 0 0 2 S
+done
+";
+
+#[test]
+fn reports_are_checked(rt: HostRuntime) -> Result<(), Fail> {
+    let alloc = rt.alloc();
+    for (p, report, text, wanted) in [
+        (
+            "<a,b | [a,b]>",
+            REPORT,
+            "holds entries 5 proofs 1\n",
+            Status::Done,
+        ),
+        (
+            "<a,b | [b,a]>",
+            REPORT,
+            "fails line 2 text\n",
+            Status::Fails,
+        ),
+        (
+            "<a,b | [a,b]>",
+            "metab report 1\npres <a, b | a b a^-1 b^-1>\nentry 0 gen - : +1*a@b -1*b@a -1*1@b +1*1@a\n",
+            "fails line 3 not-equal a@b\n",
+            Status::Fails,
+        ),
+        (
+            "<a,b",
+            REPORT,
+            "refused p line 1 column 5 expected\n",
+            Status::TextRefused,
+        ),
+    ] {
+        let words = words(alloc, &["check", "p", "d"])?;
+        let mut shelf = shelf(alloc, p.as_bytes(), report.as_bytes(), &[])?;
+        let mut out = sink(alloc, &[])?;
+        let status = metab_alone(alloc, words.as_slice(), &mut shelf, &mut out);
+        assert!(rt; out.taken() == text.as_bytes(), "{text}");
+        assert!(rt; status == wanted, "{text}");
+    }
+    Ok(())
+}
+
 #[test]
 fn texts_are_refused_at_their_first_fault(rt: HostRuntime) -> Result<(), Fail> {
     let refused = [

@@ -7,6 +7,7 @@ ghost use Rattle.metab_run.specs.Ends.{Ends};
 ghost use Rattle.metab_run.specs.Top.{IsDue, ShownTrivial};
 
 use crate::answer::{Answer, Halt};
+use crate::checking::check;
 use crate::fox::fox;
 use crate::status::Status;
 use crate::steps::steps;
@@ -28,6 +29,7 @@ fn answer<S: Shelf>(alloc: Global, words: &[String], shelf: &mut S) -> Result<An
     let answered = match asked {
         Command::Steps(words) => steps(alloc, shelf, &words),
         Command::Fox(words) => fox(alloc, shelf, &words),
+        Command::Check(words) => check(alloc, shelf, &words),
     };
     match answered {
         Ok(answer) => Ok(answer),
@@ -52,7 +54,7 @@ pub fn metab_alone<S: Shelf, K: Sink>(
     ensures ends { Ends (IsDue (CountRose (S.faults shelf.old) (S.faults shelf.new)) (S.under shelf.old) (map string_bytes words.now))
         (CountRose (K.faults out.old) (K.faults out.new)) (K.taken out.old) (K.taken out.new) result }
 
-    // `steps` says yes only to a word that moves carry to the empty word.
+    // `steps` says yes only to a word that moves carry to the empty word, and `check` only to a report that is true.
     ensures trivial { result ≡ Status.Done → ShownTrivial (S.under shelf.old) (command (map string_bytes words.now)) }
 
     // A read fault is answered only where the shelf has counted one, and a write fault where the sink has.

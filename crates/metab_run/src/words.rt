@@ -1,7 +1,7 @@
 //! The words of the command line.
 
 ghost use Rattle.std.specs.Prelude.{◌≡◌, ◌++◌, map, string_bytes, option_map, IfOk, OnOk};
-ghost use Rattle.metab_run.specs.Words.{is_option, arguments, three, two, command_of, command, shown, steps_asked, fox_asked, asked};
+ghost use Rattle.metab_run.specs.Words.{is_option, arguments, three, two, two_names, command_of, command, shown, steps_asked, fox_asked, check_asked, asked};
 
 use std::alloc::{AllocError, Global};
 
@@ -20,11 +20,19 @@ pub struct FoxWords<'a> {
     pub word: &'a str,
 }
 
+/// What the command `check` is asked: the names of a presentation and of a report.
+#[derive(Clone, Copy)]
+pub struct CheckWords<'a> {
+    pub presentation: &'a str,
+    pub report: &'a str,
+}
+
 /// A command with what it is asked.
 #[derive(Clone, Copy)]
 pub enum Command<'a> {
     Steps(StepsWords<'a>),
     Fox(FoxWords<'a>),
+    Check(CheckWords<'a>),
 }
 
 // Whether the word asks for an option.
@@ -89,6 +97,19 @@ fn two<'a>(words: &[&'a str]) -> Option<FoxWords<'a>>
     }
 }
 
+// Two arguments, as `check` wants them.
+fn two_names<'a>(words: &[&'a str]) -> Option<CheckWords<'a>>
+    ensures { option_map check_asked result ≡ two_names (shown words.now) }
+{
+    match words {
+        [presentation, report] => Some(CheckWords {
+            presentation,
+            report,
+        }),
+        _ => None,
+    }
+}
+
 // The command of this name, if its arguments are of its form.
 fn command_of<'a>(name: &str, words: &[&'a str]) -> Option<Command<'a>>
     ensures { option_map asked result ≡ command_of name.now (shown words.now) }
@@ -97,6 +118,8 @@ fn command_of<'a>(name: &str, words: &[&'a str]) -> Option<Command<'a>>
         Some(Command::Steps(three(words)?))
     } else if name == "fox" {
         Some(Command::Fox(two(words)?))
+    } else if name == "check" {
+        Some(Command::Check(two_names(words)?))
     } else {
         None
     }

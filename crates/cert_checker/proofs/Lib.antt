@@ -1,0 +1,10 @@
+pub mod Lists
+pub mod Passing
+pub mod Images
+pub mod Signs
+pub mod Agreeing
+pub mod ShortWords
+pub mod Telling
+pub mod Members
+pub mod Soundness
+pub mod Named

@@ -1,0 +1,24 @@
+//! The checker of reports: whether the entries and the proofs of a report hold.
+//!
+//! It stands on words, presentations, questions, Fox vectors and the lines of reports, and on nothing that finds answers:
+//! a report is believed for what it says, whoever wrote it.
+#![tactic(auto)]
+
+mod checked;
+mod checker;
+mod entry;
+mod faults;
+mod order;
+mod phase;
+mod proof;
+mod report;
+mod steps;
+mod subjects;
+mod taking;
+
+pub use checked::Checked;
+pub use faults::{CertFault, CertKind};
+pub use report::check;
+
+#[cfg(test)]
+mod tests;

@@ -1,0 +1,29 @@
+-- From a report that was read to the answer that is due.
+use Rattle.std.proofs.Common.{◌≡◌, ℕ, ◌≤◌, List, length, Option, Some, None, Result, Ok, Err, inl, inr, sym, subst}
+use Rattle.std.specs.Prelude.{IfSome, IfOk, IsOk}
+use Rattle.presentation.specs.Presented.{Presented}
+use Rattle.presentation.specs.Reading.{presentation_text}
+use Rattle.cert_checker.specs.declared.checked.Checked.{Checked}
+use Rattle.cert_checker.specs.declared.faults.CertFault.{CertFault}
+use Rattle.cert_checker.specs.Truth.{IsTrueReport}
+use Rattle.metab_run.specs.Answers.{Answer}
+use Rattle.metab_run.specs.Files.{in_lines}
+use Rattle.metab_run.specs.CheckAnswers.{BytesLead}
+
+-- bytes that were read lead to what comes next
+pub bytes_lead : (counted : Type 0) (limit : ℕ) (name : List ℕ) (told : Option (List ℕ)) (items : List ℕ) (next : List ℕ → Answer → Type 0) (a : Answer)
+    → length items ≤ limit → IfSome told (λ bytes. items ≡ bytes) → next items a → BytesLead counted limit name told next a
+bytes_lead counted limit name None items next a le is on = inr tt
+bytes_lead counted limit name (Some bytes) items next a le is on = inr (inr (subst (λ (b : List ℕ). length b ≤ limit) is le, subst (λ (b : List ℕ). next b a) is on))
+
+-- a report that holds is true
+pub found_true : (p : Presented) (text : List ℕ) (found : Result Checked CertFault) → IsOk found → IfOk found (λ _. IsTrueReport p text) → IsTrueReport p text
+found_true p text (Ok c) ok h = h
+found_true p text (Err e) ok h = absurd cc
+
+pub asked_true : (limit : ℕ) (told told' : Option (List ℕ)) (p : Presented) (items : List ℕ)
+    → IfSome told (λ bytes. (length bytes ≤ limit) × (in_lines presentation_text bytes ≡ Ok p)) → IfSome told' (λ bytes. items ≡ bytes) → IsTrueReport p items
+    → IfSome told (λ bytes. IfSome told' (λ report. (p : Presented) × (in_lines presentation_text bytes ≡ Ok p) × IsTrueReport p report))
+asked_true limit None told' p items h is t = tt
+asked_true limit (Some bytes) None p items h is t = tt
+asked_true limit (Some bytes) (Some report) p items h is t = (p, h.1, subst (IsTrueReport p) is t)
