@@ -1,16 +1,13 @@
 -- What entries and proofs come to.
-use Rattle.std.proofs.Common.{◌≡◌, ℕ, Bool, pos, List, [], ◌∷◌, refl, sym, ap, ◌∙◌, subst, ◌⊎◌, inl, inr}
-use Rattle.std.specs.Prelude.{Result, Ok, Err}
+use Rattle.std.proofs.Common.{◌≡◌, List, [], subst}
+use Rattle.std.specs.Prelude.{Err}
 use Rattle.free_words.specs.declared.letter.Letter.{Letter}
-use Rattle.module_vec.specs.declared.places.Place.{Place}
 use Rattle.module_vec.specs.declared.places.Term.{Term}
 use Rattle.module_vec.specs.declared.steps.Step.{Step}
 use Rattle.module_vec.specs.Vectors.{Coefficients, coefficient_at}
-use Rattle.module_vec.specs.Results.{IsGreatest}
 use Rattle.step_lists.specs.declared.way.Way.{Way}
 use Rattle.step_lists.specs.declared.way.Way.TheVariants.{Add, Take}
 use Rattle.step_lists.specs.Sums.{zero_vector}
-use Rattle.step_lists.specs.Partial.{Differ}
 use Rattle.fox_calculus.specs.Fox.{fox}
 use Rattle.fox_calculus.specs.Generators.{IsWritten}
 use Rattle.report_lines.specs.declared.lines.Made.TheVariants as made
@@ -21,7 +18,7 @@ use Rattle.cert_checker.specs.declared.faults.CertKind.TheVariants.{Text, NoEntr
 use Rattle.cert_checker.specs.declared.faults.LineFault.{LineFault}
 use Rattle.cert_checker.specs.declared.faults.LineFault.TheVariants as faults
 use Rattle.cert_checker.specs.States.{State, MayFollow}
-use Rattle.cert_checker.specs.Checking.{StepsLead, StepsFail, Outcome, IsMadeOf, EntryFails, PartAt, fox_at, ProofFails, Disagrees, LineHolds, LineFails, TakesLine}
+use Rattle.cert_checker.specs.Checking.{StepsLead, Outcome, IsMadeOf, EntryFails, fox_at, ProofFails, Disagrees, LineFails, TakesLine}
 use Rattle.cert_checker.proofs.Passing.{Passes, never_text, never_unequal, never_left}
 
 from_zero : (v : List Term) → v ≡ [] → coefficient_at v ≡ zero_vector

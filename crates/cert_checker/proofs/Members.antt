@@ -1,28 +1,28 @@
 -- Entries and subjects in the module.
-use Rattle.std.proofs.Common.{◌≡◌, ℕ, ◌<◌, pos, ◌+ℤ◌, Bool, true, false, neg_ℤ, negsuc, ◌*ℤ◌, List, [], ◌∷◌, ◌++◌, length, append-nil, refl, sym, ap, ◌∙◌, subst, arith}
+use Rattle.std.proofs.Common.{◌≡◌, ℕ, ◌<◌, pos, ◌+ℤ◌, Bool, true, false, neg_ℤ, negsuc, ◌*ℤ◌, List, [], ◌∷◌, length, append-nil, refl, sym, ap, ◌∙◌, arith}
 use Rattle.std.specs.List.{AllByRecursion}
 use borrow.Author.Differences.{ints}
 use Rattle.free_words.specs.declared.letter.Letter.{Letter}
 use Rattle.presentation.specs.Presented.{Presented, IsPresented}
 use Rattle.derivation.specs.Moves.{IsWordOver, Trivial}
-use Rattle.formal_sums.specs.FormalSum.{FormalSum, coefficient, Same, rename, scale}
+use Rattle.formal_sums.specs.FormalSum.{coefficient, rename, scale}
 use Rattle.formal_sums.proofs.Spans.{scale-one}
 use Rattle.formal_sums.proofs.Coefficients.{coefficient-scale}
-use Rattle.laurent_terms.specs.Monomials.{one, product}
+use Rattle.laurent_terms.specs.Monomials.{one}
 use Rattle.laurent_terms.proofs.Division.{product-one}
 use Rattle.module_vec.specs.declared.places.Place.{Place}
 use Rattle.module_vec.specs.declared.places.Term.{Term}
 use Rattle.module_vec.specs.declared.steps.Step.{Step}
 use Rattle.module_vec.specs.Places.{same_place, moved}
-use Rattle.module_vec.specs.Vectors.{Coefficients, sum_of, coefficient_at, multiple, IsTerm}
+use Rattle.module_vec.specs.Vectors.{sum_of, coefficient_at, multiple, IsTerm}
 use Rattle.module_vec.specs.Modules.{vector_at, sum_of_steps, steps_at}
-use Rattle.step_lists.specs.declared.way.Way.TheVariants.{Add, Take}
+use Rattle.step_lists.specs.declared.way.Way.TheVariants.{Take}
 use Rattle.step_lists.specs.Sums.{zero_vector}
 use Rattle.step_lists.proofs.AddingUp.{adding_adds_up, proven_vectors_are_sums}
-use Rattle.step_text.specs.Over.{IsStepOf, AreStepsOf}
+use Rattle.step_text.specs.Over.{AreStepsOf}
 use Rattle.fox_calculus.specs.Fox.{fox}
 use Rattle.fox_calculus.specs.Generators.{candidates, AreGenerators}
-use Rattle.fox_calculus.specs.Module.{IsGenerator, HasVariables, IsMember}
+use Rattle.fox_calculus.specs.Module.{IsGenerator, IsMember}
 use Rattle.fox_calculus.proofs.Listed.{Origin, origin, candidates_are}
 use Rattle.fox_calculus.proofs.Members.{listed_member}
 use Rattle.magnus_laws.proofs.Members.{member_same, member_nothing, member_sum, member_scale, member_multiple}

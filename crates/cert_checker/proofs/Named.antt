@@ -1,5 +1,5 @@
 -- The places that faults name are over the presentation's generators.
-use Rattle.std.proofs.Common.{◌≡◌, ◌≢◌, ℕ, zero, suc, ◌+◌, ◌*◌, ◌<◌, ◌≤◌, ℤ, pos, negsuc, neg_ℤ, ◌+ℤ◌, Bool, true, false, cond, List, [], ◌∷◌, ◌++◌, length, map, Contains, refl, sym, ap, ◌∙◌, subst, arith, ◌⊎◌, inl, inr}
+use Rattle.std.proofs.Common.{◌≡◌, ◌≢◌, ℕ, zero, suc, ◌+◌, ◌*◌, ◌<◌, ◌≤◌, ℤ, pos, negsuc, neg_ℤ, ◌+ℤ◌, Bool, true, false, List, [], ◌∷◌, length, Contains, refl, sym, ap, ◌∙◌, subst, arith, ◌⊎◌, inl, inr}
 use Rattle.std.specs.Prelude.{Result, Ok, Err, IfErr}
 use Rattle.std.specs.List.{AllByRecursion}
 use Rattle.std.proofs.lemmas.List.Elements.{All-from_recursion, All-contains}
@@ -11,7 +11,7 @@ use Rattle.formal_sums.specs.FormalSum.{FormalSum, coefficient}
 use Rattle.module_vec.specs.declared.places.Place.{Place}
 use Rattle.module_vec.specs.declared.places.Term.{Term}
 use Rattle.module_vec.specs.declared.steps.Step.{Step}
-use Rattle.module_vec.specs.Places.{same_place, moved}
+use Rattle.module_vec.specs.Places.{same_place}
 use Rattle.module_vec.specs.Vectors.{sum_of, coefficient_at, multiple}
 use Rattle.module_vec.specs.Modules.{vector_at, sum_of_steps, steps_at}
 use Rattle.module_vec.proofs.Order.{test}
@@ -42,7 +42,7 @@ use Rattle.cert_checker.specs.declared.faults.CertFault.TheVariants as texts
 use Rattle.cert_checker.specs.Faults.{KindIsOver, FaultIsOver}
 use Rattle.cert_checker.specs.States.{State, start, MayFollow, IsInTurn, next, AreWords}
 use Rattle.cert_checker.specs.Checking.{AreThere, IsMadeOf, EntryFails, ProofFails, signed, fox_at, due, Disagrees, LineFails}
-use Rattle.cert_checker.specs.Texts.{SpelledFails, FailsIn, HoldsIn, BytesHold, BodyHolds, BodyFails, Tells, Answers}
+use Rattle.cert_checker.specs.Texts.{FailsIn, HoldsIn, BodyHolds, BodyFails, Tells, Answers}
 use Rattle.cert_checker.proofs.Lists.{all_at}
 use Rattle.cert_checker.proofs.Telling.{taken_words}
 

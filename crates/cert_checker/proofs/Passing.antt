@@ -1,6 +1,6 @@
 -- Steps over the entries, one after another.
-use Rattle.std.proofs.Common.{◌≡◌, ℕ, ◌<◌, ◌≤◌, List, [], ◌∷◌, length, get_or, refl, sym, ap, ◌∙◌, subst, arith, ◌⊎◌, inl, inr}
-use Rattle.std.specs.Prelude.{Option, Some, None, slice_get, Result, Ok, Err}
+use Rattle.std.proofs.Common.{◌≡◌, ◌<◌, ◌≤◌, List, [], ◌∷◌, length, refl, sym, ap, subst, inl, inr}
+use Rattle.std.specs.Prelude.{Result, Ok, Err}
 use Rattle.module_vec.specs.declared.places.Place.{Place}
 use Rattle.module_vec.specs.declared.places.Term.{Term}
 use Rattle.module_vec.specs.declared.steps.Step.{Step}
@@ -13,8 +13,7 @@ use Rattle.step_lists.specs.declared.faults.SumFault.{SumFault}
 use Rattle.step_lists.specs.declared.faults.SumFault.TheVariants as sums
 use Rattle.step_lists.specs.Sums.{combined, passed, IsWideAt, CanPass}
 use Rattle.step_lists.specs.Partial.{Combines}
-use Rattle.cert_checker.specs.declared.faults.CertKind.{CertKind}
-use Rattle.cert_checker.specs.declared.faults.CertKind.TheVariants.{Text, NoEntry, NotEqual, NotZero, Wide, Long}
+use Rattle.cert_checker.specs.declared.faults.CertKind.TheVariants.{Text, NoEntry, NotEqual, NotZero}
 use Rattle.cert_checker.specs.declared.faults.LineFault.{LineFault}
 use Rattle.cert_checker.specs.declared.faults.LineFault.TheVariants as faults
 use Rattle.cert_checker.specs.Faults.{OfSum}

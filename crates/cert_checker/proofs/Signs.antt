@@ -1,5 +1,5 @@
 -- The negative of a vector.
-use Rattle.std.proofs.Common.{◌≡◌, Bool, true, false, not, ℤ, negsuc, neg_ℤ, ◌*ℤ◌, List, sym, ap, ◌∙◌, arith}
+use Rattle.std.proofs.Common.{◌≡◌, Bool, true, false, ℤ, negsuc, neg_ℤ, ◌*ℤ◌, List, ap, ◌∙◌, arith}
 use borrow.Author.Differences.{ints}
 use Rattle.formal_sums.specs.FormalSum.{coefficient, scale}
 use Rattle.formal_sums.proofs.Coefficients.{coefficient-scale}

@@ -1,11 +1,10 @@
 -- What the checker's yes says. It goes backwards through the lines: a yes is true because the lines behind it show its
 -- subjects.
-use Rattle.std.proofs.Common.{◌≡◌, ℕ, ◌+◌, ◌<◌, ◌≤◌, List, [], ◌∷◌, ◌++◌, length, drop, get_or, map, Contains, refl, sym, ap, ◌∙◌, subst, arith, append_assoc}
-use Rattle.std.specs.Prelude.{Some, None, Result, Ok, Err, IfOk}
+use Rattle.std.proofs.Common.{◌≡◌, ℕ, ◌+◌, ◌≤◌, List, [], ◌∷◌, ◌++◌, length, drop, map, refl, sym, ap, ◌∙◌, subst, append_assoc}
+use Rattle.std.specs.Prelude.{Result, Ok, Err, IfOk}
 use Rattle.std.specs.List.{AllByRecursion}
 use Rattle.std.proofs.lemmas.List.{drop_all, drop_more}
 use Rattle.std.proofs.lemmas.List.Elements.{All-from_recursion, All-contains}
-use Rattle.spelling.specs.Spelling.{cut}
 use Rattle.word_text.specs.Place.{capped}
 use Rattle.spelling.proofs.Cuts.{cut_joins}
 use Rattle.free_words.specs.declared.letter.Letter.{Letter}
@@ -14,7 +13,6 @@ use Rattle.presentation.specs.Presented.{Presented, IsPresented}
 use Rattle.derivation.specs.Moves.{Trivial}
 use Rattle.module_vec.specs.declared.places.Term.{Term}
 use Rattle.fox_calculus.specs.Generators.{AreGenerators}
-use Rattle.magnus_laws.specs.Maps.{AreImages, KeepsRelators, Extends}
 use Rattle.magnus_laws.proofs.Homomorphisms.{kept_relators_suffice}
 use Rattle.outcomes.specs.declared.verdicts.Verdict.{Verdict}
 use Rattle.outcomes.specs.declared.verdicts.Verdict.TheVariants as verdicts
@@ -30,9 +28,9 @@ use Rattle.cert_checker.specs.declared.phase.Phase.{Phase}
 use Rattle.cert_checker.specs.declared.phase.Phase.TheVariants.{Title, Presentation, Entries, Sealed, Closing, Finished}
 use Rattle.cert_checker.specs.declared.faults.CertFault.{CertFault}
 use Rattle.cert_checker.specs.States.{State, start, IsSettled, MayFollow, asked, next, AreWords}
-use Rattle.cert_checker.specs.Checking.{Agrees, LineHolds, due}
-use Rattle.cert_checker.specs.Texts.{BodyHolds, HoldsIn, BytesHold, IsComplete, Tells, TellsWhole, Answers}
-use Rattle.cert_checker.specs.Truth.{IsYes, IsTrueVerdict, IsTrueLine, lines_text, report_text, IsTrueReport}
+use Rattle.cert_checker.specs.Checking.{Agrees, due}
+use Rattle.cert_checker.specs.Texts.{BodyHolds, HoldsIn, BytesHold, Tells, TellsWhole, Answers}
+use Rattle.cert_checker.specs.Truth.{IsYes, IsTrueVerdict, IsTrueLine, lines_text, IsTrueReport}
 use Rattle.cert_checker.proofs.Lists.{all_at}
 use Rattle.cert_checker.proofs.Members.{Lies, entry_lies, proven_trivial}
 use Rattle.cert_checker.proofs.ShortWords.{all_over}

@@ -1,21 +1,14 @@
 -- A text line by line.
-use Rattle.std.proofs.Common.{◌≡◌, ℕ, ◌+◌, List, [], ◌∷◌, ◌++◌, length, refl, sym, ap, ◌∙◌, subst, ◌⊎◌, inl, inr}
-use Rattle.std.specs.Prelude.{Option, Some, None, Result, Ok, Err}
-use Rattle.std.specs.List.{AllByRecursion}
-use Rattle.free_words.specs.declared.letter.Letter.{Letter}
+use Rattle.std.proofs.Common.{◌≡◌, ℕ, List, sym, subst}
+use Rattle.std.specs.Prelude.{Some, Result, Err}
 use Rattle.presentation.specs.Presented.{Presented}
 use Rattle.module_vec.specs.declared.places.Term.{Term}
-use Rattle.outcomes.specs.declared.verdicts.Verdict.{Verdict}
-use Rattle.outcomes.specs.declared.verdicts.Verdict.TheVariants as verdicts
-use Rattle.session_text.specs.declared.question.Question.{Question}
-use Rattle.session_text.specs.Questions.{HasImages, IsWritable, subjects}
 use Rattle.report_lines.specs.declared.lines.Line.{Line}
 use Rattle.report_lines.specs.declared.lines.Line.TheVariants as lines
 use Rattle.report_lines.specs.Lines.{IsLineOf}
 use Rattle.cert_checker.specs.declared.phase.Phase.{Phase}
 use Rattle.cert_checker.specs.declared.phase.Phase.TheVariants.{Title, Presentation, Entries, Sealed, Closing, Finished}
-use Rattle.cert_checker.specs.declared.faults.CertKind.{CertKind}
-use Rattle.cert_checker.specs.States.{State, start, MayFollow, next, asked, AreWords}
+use Rattle.cert_checker.specs.States.{State, start, MayFollow, next, AreWords}
 use Rattle.spelling.specs.Spelling.{cut}
 use Rattle.fox_calculus.specs.Generators.{AreGenerators}
 use Rattle.cert_checker.specs.declared.checked.Checked.{Checked}
@@ -24,7 +17,7 @@ use Rattle.cert_checker.specs.declared.faults.LineFault.TheVariants as faults
 use Rattle.cert_checker.specs.declared.faults.CertFault.{CertFault}
 use Rattle.cert_checker.specs.declared.faults.CertFault.TheVariants as texts
 use Rattle.cert_checker.specs.Faults.{OfLine}
-use Rattle.cert_checker.specs.Checking.{LineHolds, Outcome}
+use Rattle.cert_checker.specs.Checking.{Outcome}
 use Rattle.cert_checker.specs.Texts.{BodyHolds, HoldsIn, BytesHold, BytesFail, Tells, Answers}
 use Rattle.cert_checker.proofs.ShortWords.{asked_words}
 

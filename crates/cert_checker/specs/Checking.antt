@@ -1,6 +1,6 @@
 -- Whether a line holds, and why it fails.
 use Rattle.std.specs.List.{AllByRecursion}
-use Rattle.std.specs.Prelude.{◌≡◌, ◌≢◌, ◌⊎◌, ℕ, ◌<◌, ◌≤◌, Bool, pos, neg_ℤ, if◌then◌else◌, List, [], ◌∷◌, length, slice_index_or, Result, Ok, Err}
+use Rattle.std.specs.Prelude.{◌≡◌, ◌≢◌, ◌⊎◌, ℕ, ◌<◌, ◌≤◌, Bool, neg_ℤ, if◌then◌else◌, List, [], ◌∷◌, length, slice_index_or, Result, Ok, Err}
 use Rattle.free_words.specs.declared.letter.Letter.{Letter}
 use Rattle.formal_sums.specs.FormalSum.{coefficient}
 use Rattle.module_vec.specs.declared.TheConstants.{TERMS}
@@ -14,7 +14,7 @@ use Rattle.module_vec.specs.Modules.{vector_at}
 use Rattle.module_vec.specs.Chains.{taken_at}
 use Rattle.step_lists.specs.declared.way.Way.{Way}
 use Rattle.step_lists.specs.declared.way.Way.TheVariants.{Add, Take}
-use Rattle.step_lists.specs.Sums.{passed, IsWideAt, CanPass, Leads, Adds, Takes, zero_vector}
+use Rattle.step_lists.specs.Sums.{passed, IsWideAt, CanPass, Leads, zero_vector}
 use Rattle.fox_calculus.specs.Fox.{fox}
 use Rattle.report_lines.specs.declared.lines.Made.{Made}
 use Rattle.report_lines.specs.declared.lines.Made.TheVariants.{Gen, Sum}

@@ -1,5 +1,5 @@
 -- A text line by line, and what is told of it: the first line that fails, or how much it holds.
-use Rattle.std.specs.Prelude.{◌≡◌, ◌≢◌, ◌⊎◌, ℕ, ◌+◌, List, [], ◌∷◌, length, Option, Some, None, Result, Ok, Err}
+use Rattle.std.specs.Prelude.{◌≡◌, ◌≢◌, ◌⊎◌, ℕ, ◌+◌, List, [], length, Some, None, Result, Ok, Err}
 use Rattle.spelling.specs.Spelling.{cut}
 use Rattle.word_text.specs.Place.{capped}
 use Rattle.presentation.specs.Presented.{Presented}
@@ -12,7 +12,7 @@ use Rattle.cert_checker.specs.declared.checked.Checked.{Checked}
 use Rattle.cert_checker.specs.declared.phase.Phase.{Phase}
 use Rattle.cert_checker.specs.declared.phase.Phase.TheVariants.{Title, Presentation, Entries, Sealed, Closing, Finished}
 use Rattle.cert_checker.specs.declared.faults.CertKind.{CertKind}
-use Rattle.cert_checker.specs.declared.faults.CertKind.TheVariants.{Text, NoEntry, NotEqual, NotZero, Wide, Long}
+use Rattle.cert_checker.specs.declared.faults.CertKind.TheVariants.{Text}
 use Rattle.cert_checker.specs.declared.faults.CertFault.{CertFault}
 use Rattle.cert_checker.specs.declared.faults.CertFault.TheVariants as faults
 use Rattle.cert_checker.specs.States.{State, start, IsSettled}

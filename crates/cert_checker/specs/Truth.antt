@@ -1,7 +1,6 @@
 -- What a report says that holds.
 use Rattle.std.specs.List.{AllByRecursion, flat_map}
 use Rattle.std.specs.Prelude.{◌≡◌, ℕ, List, [], ◌∷◌, ◌++◌}
-use Rattle.free_words.specs.declared.letter.Letter.{Letter}
 use Rattle.presentation.specs.Presented.{Presented}
 use Rattle.derivation.specs.Moves.{Trivial, Equal}
 use Rattle.module_vec.specs.Vectors.{sum_of}

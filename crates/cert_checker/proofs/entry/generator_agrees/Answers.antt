@@ -1,4 +1,4 @@
-use Rattle.std.proofs.Common.{◌≡◌, [], length, sym, ap, ◌∙◌, subst}
+use Rattle.std.proofs.Common.{◌≡◌, [], length, ap, ◌∙◌, subst}
 use Rattle.module_vec.specs.Vectors.{coefficient_at}
 use Rattle.module_vec.specs.Results.{IsGreatest}
 use Rattle.module_vec.specs.Modules.{vector_at}

@@ -1,8 +1,4 @@
-use Rattle.std.proofs.Common.{◌≡◌, sym, ap, ◌∙◌, true, neg_ℤ, subst}
-use Rattle.module_vec.specs.declared.places.Place.{Place}
-use Rattle.module_vec.specs.Vectors.{coefficient_at}
-use Rattle.cert_checker.specs.Checking.{signed}
-use Rattle.cert_checker.proofs.Signs.{negative, turned_sign}
+use Rattle.cert_checker.proofs.Signs.{turned_sign}
 use Rattle.cert_checker.proofs.entry.signed.Goals as goal
 
 pub returns : goal.returns

@@ -1,4 +1,4 @@
-use Rattle.std.proofs.Common.{sym, ap, ◌∙◌, IsTrue}
+use Rattle.std.proofs.Common.{sym, ◌∙◌}
 use Rattle.cert_checker.proofs.Images.{none_long, is_none_none, none_is_none}
 use Rattle.cert_checker.proofs.order.has_images.Goals as goal
 

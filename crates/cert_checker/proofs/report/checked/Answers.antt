@@ -1,10 +1,8 @@
-use Rattle.std.proofs.Common.{◌≡◌, sym, ap, ◌∙◌, subst}
-use Rattle.std.specs.Prelude.{Some, None, Result, Ok, Err}
-use Rattle.spelling.specs.Spelling.{cut}
+use Rattle.std.proofs.Common.{sym, ◌∙◌, subst}
+use Rattle.std.specs.Prelude.{Ok, Err}
 use Rattle.cert_checker.specs.declared.faults.CertKind.TheVariants.{Text}
 use Rattle.cert_checker.specs.declared.faults.CertFault.TheVariants as texts
-use Rattle.cert_checker.specs.Checking.{Outcome}
-use Rattle.cert_checker.specs.Texts.{BytesHold, BytesFail, Tells, counts}
+use Rattle.cert_checker.specs.Texts.{BytesHold, Tells, counts}
 use Rattle.cert_checker.proofs.Telling.{text_fails, taken_words}
 use Rattle.cert_checker.proofs.report.checked.Goals as goal
 

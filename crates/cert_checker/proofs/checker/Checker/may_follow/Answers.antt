@@ -1,4 +1,4 @@
-use Rattle.std.proofs.Common.{◌≡◌, ◌↔◌, IsTrue, sym, subst}
+use Rattle.std.proofs.Common.{◌↔◌, IsTrue, sym, subst}
 use Rattle.cert_checker.specs.States.{MayFollow}
 use Rattle.cert_checker.proofs.checker.Checker.may_follow.Goals as goal
 
