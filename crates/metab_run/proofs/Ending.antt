@@ -1,6 +1,5 @@
 -- How a run ends once its answer is known.
-use Rattle.std.proofs.Common.{◌≡◌, ℕ, List, [], Option, take, inl, inr, sym, subst, refl}
-use Rattle.mb_io.specs.Shelf.{TakesPrefix}
+use Rattle.std.proofs.Common.{ℕ, List, Option, inl, inr, sym, subst, refl}
 use Rattle.metab_run.specs.declared.status.Status.{Status}
 use Rattle.metab_run.specs.declared.status.Status.TheVariants.{Done, Open, WordsRefused, TextRefused, ReadFault, WriteFault, NoMemory, Fails}
 use Rattle.metab_run.specs.Answers.{Answer, IsSaid}

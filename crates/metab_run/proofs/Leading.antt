@@ -1,8 +1,8 @@
 -- From what a reader of a text gives to the answer that is due.
-use Rattle.std.proofs.Common.{◌≡◌, ℕ, ◌≤◌, List, length, Option, Some, None, Result, Ok, Err, inl, inr, sym, subst}
+use Rattle.std.proofs.Common.{◌≡◌, ℕ, ◌≤◌, List, length, Option, Some, None, Result, Ok, inl, inr, sym, subst}
 use Rattle.std.specs.Prelude.{IfSome}
 use Rattle.word_text.specs.declared.fault.TextFault.{TextFault}
-use Rattle.metab_run.specs.Answers.{Answer, unread}
+use Rattle.metab_run.specs.Answers.{Answer}
 use Rattle.metab_run.specs.Files.{ReadLeads, TextLeads, FileLeads, FileFails}
 
 -- a text that has no value leads to its answer, whatever would come next

@@ -1,5 +1,5 @@
 -- A word of the command line that is refused.
-use Rattle.std.proofs.Common.{◌≡◌, List, ℕ, Result, Err, refl, codes}
+use Rattle.std.proofs.Common.{List, ℕ, Result, Err, refl, codes}
 use Rattle.word_text.specs.declared.fault.Fault.{Fault}
 use Rattle.word_text.specs.declared.fault.ReadFault.{ReadFault}
 use Rattle.word_text.specs.declared.fault.ReadFault.TheVariants as faults

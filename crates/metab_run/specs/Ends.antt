@@ -1,6 +1,6 @@
 -- How a run ends: what it wrote, and its status.
 use Rattle.std.specs.Prelude.{◌≡◌, ℕ, List, [], Option, take, ◌⊎◌}
-use Rattle.mb_io.specs.Shelf.{CountRose, TakesPrefix}
+use Rattle.mb_io.specs.Shelf.{TakesPrefix}
 use Rattle.metab_run.specs.declared.status.Status.{Status}
 use Rattle.metab_run.specs.declared.status.Status.TheVariants.{Done, Open, WordsRefused, TextRefused, ReadFault, WriteFault, NoMemory, Fails}
 use Rattle.metab_run.specs.Answers.{Answer}

@@ -1,4 +1,4 @@
-use Rattle.std.proofs.Common.{◌≡◌, List, ℕ, Option, ap, sym, ◌∙◌, subst}
+use Rattle.std.proofs.Common.{◌≡◌, List, ℕ, Option, subst}
 use Rattle.std.specs.Prelude.{IfSome}
 use Rattle.mb_io.specs.Shelf.{CountRose}
 use Rattle.presentation.specs.Reading.{presentation_text}

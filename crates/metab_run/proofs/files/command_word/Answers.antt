@@ -1,5 +1,4 @@
 use Rattle.std.proofs.Common.{◌≡◌, Err, subst, List, ℕ}
-use Rattle.word_text.specs.declared.fault.ReadFault.{ReadFault}
 use Rattle.word_text.specs.Machine.{finding}
 use Rattle.word_text.specs.Place.{word_text, ReadsText}
 use Rattle.metab_run.proofs.Wording.{word_refused}
