@@ -80,21 +80,28 @@ fn a_at(c: u8) -> Result<Place, Fail> {
     })
 }
 
+/// Whether the report holds, with so many entries and proofs.
+fn holds(alloc: Global, p: &str, lines: &[&str], counts: Checked) -> Result<bool, Fail> {
+    let text = text(alloc, lines, 0, "")?;
+    match answer(alloc, p, &text)? {
+        Ok(held) => Ok(held == counts),
+        Err(CertFault::Line { line: _, kind: _ }) => Ok(false),
+        Err(CertFault::NoMemory) => Ok(false),
+    }
+}
+
 #[test]
 fn reports_hold(rt: HostRuntime) -> Result<(), Fail> {
-    let alloc = rt.alloc();
-    let held = answer(alloc, SOLVABLE, &text(alloc, &REPORT, 0, "")?)?;
     let counts = Checked {
         entries: 10,
         proofs: 2,
     };
-    assert!(rt; held == Ok(counts));
-    let held = answer(alloc, FREE, &text(alloc, &MAP, 0, "")?)?;
+    assert!(rt; holds(rt.alloc(), SOLVABLE, &REPORT, counts)?);
     let counts = Checked {
         entries: 4,
         proofs: 1,
     };
-    assert!(rt; held == Ok(counts));
+    assert!(rt; holds(rt.alloc(), FREE, &MAP, counts)?);
     Ok(())
 }
 
@@ -109,7 +116,7 @@ fn cut_reports_fail_behind_their_last_line(rt: HostRuntime) -> Result<(), Fail> 
         );
     }
     let whole = text(alloc, &REPORT, 0, "")?;
-    let without_end = &whole[..whole.len() - 1];
+    let (_, without_end) = whole.split_last().ok_or("no report")?;
     assert!(rt; answer(alloc, SOLVABLE, without_end)? == at(20, CertKind::Text));
     let mut longer = text(alloc, &REPORT, 0, "")?;
     longer.push(b'\n')?;
