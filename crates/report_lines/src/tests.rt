@@ -1,9 +1,25 @@
 //! Lines with their texts, and texts that are none.
 
+ghost use Rattle.std.specs.Prelude.{IfOk};
+ghost use Rattle.report_lines.specs.Lines.{LineIsOver};
+
 use super::{Line, Made, is_pres_line, is_title, put_line, read_line, write_line};
+use crate::laws::line_is_over;
 use outcomes::{End, Measure, PairKind, Verdict};
-use presentation::read_presentation;
+use presentation::{Presentation, read_presentation};
+use std::alloc::Global;
 use std::test::Fail;
+
+/// The line of the text, which can be written again.
+fn line_of(alloc: Global, p: &Presentation, text: &str) -> Result<Line, Fail>
+    ensures { IfOk result (λ line. LineIsOver p.now line) }
+{
+    line_is_over();
+    match read_line(alloc, p, text.as_bytes())? {
+        Some(line) => Ok(line),
+        None => Err(Fail::from("no line")),
+    }
+}
 
 const FIRST: &str = "<a, t | t a t^-1 a^-2>";
 
@@ -84,7 +100,7 @@ fn lines_are_read_and_written(rt: HostRuntime) -> Result<(), Fail> {
     ] {
         let p = read_presentation(rt.alloc(), presentation.as_bytes())?;
         for text in lines {
-            let line = read_line(rt.alloc(), &p, text.as_bytes())?.ok_or("no line")?;
+            let line = line_of(rt.alloc(), &p, text)?;
             let out = write_line(rt.alloc(), &p, &line)?;
             assert_eq!(rt; out.as_slice(), text.as_bytes(), "{text}");
         }
