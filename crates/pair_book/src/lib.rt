@@ -19,6 +19,7 @@ mod outcome;
 mod refusals;
 mod sealing;
 mod used;
+mod working;
 
 pub use book::Book;
 pub use faults::{CommitFault, Committed, SealFault, WorkFault};
@@ -27,3 +28,4 @@ pub use outcome::{Close, Outcome};
 pub use outcomes::{End, Measure, PairKind, Task};
 pub use task_table::Order;
 pub use used::Used;
+pub use working::work;
