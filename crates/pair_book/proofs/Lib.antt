@@ -8,3 +8,8 @@ pub mod Strangers
 pub mod Bounds
 pub mod Growing
 pub mod Dues
+pub mod Turning
+pub mod Chained
+pub mod Made
+pub mod Appended
+pub mod Seen

@@ -14,7 +14,8 @@ use Rattle.module_vec.specs.Modules.{vector_at, steps_at, sum_of_steps}
 use Rattle.module_vec.specs.Places.{IsBelow, moved, same_place}
 use Rattle.module_vec.specs.Results.{Nowhere, HasTerms}
 use Rattle.module_vec.specs.Vectors.{Coefficients, coefficient_at, multiple, multiple_at, HasRoom}
-use Rattle.step_lists.specs.Sums.{AdditionIsWide, plus, Adds, IsInReach, IsValue, zero_vector}
+use Rattle.step_lists.specs.Sums.{IsWideAt, passed, Adds, IsInReach, IsValue, zero_vector}
+use Rattle.step_lists.specs.declared.way.Way.TheVariants.{Add}
 use Rattle.strong_pairs.specs.Covering.{Covers, CoversLeads}
 use Rattle.strong_pairs.specs.Pairs.{lead_of, lead_at, IsPair, pair_place, meeting_place, AreFactors, ArePairSteps, both_at}
 use Rattle.strong_pairs.specs.Tasks.{step_place, step_places, AreStepsAt, AreStepsBelow, IsClosed}
@@ -79,14 +80,14 @@ pub adds_over : (b c : List (List Term)) (ss : List Step) (f g : Coefficients) �
 adds_over b c [] f g h a = a
 adds_over b c (s ∷ ss) f g h a =
     let t = taken_same b c s h.0 in
-    let p : plus b f s ≡ plus c f s = λ y x. f x +ℤ t y x in (
+    let p : passed Add b f s ≡ passed Add c f s = λ y x. f x +ℤ t y x in (
       record {
-        narrow = subst (λ (z : Coefficients). Nowhere (AdditionIsWide f z)) t a.0.narrow;
+        narrow = subst (λ (z : Coefficients). Nowhere (IsWideAt Add f z)) t a.0.narrow;
         count = a.0.count;
         terms = subst (λ (z : Coefficients). HasTerms z a.0.count) p a.0.terms;
         short = a.0.short;
       },
-      adds_over b c ss (plus c f s) g h.1 (subst (λ (z : Coefficients). Adds b z ss g) p a.1),
+      adds_over b c ss (passed Add c f s) g h.1 (subst (λ (z : Coefficients). Adds b z ss g) p a.1),
     )
 
 reach_over : (b c : List (List Term)) (ss : List Step) → AllSame b c ss → AllByRecursion (IsInReach b) ss → AllByRecursion (IsInReach c) ss

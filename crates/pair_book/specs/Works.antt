@@ -1,5 +1,5 @@
 -- What the work of a task comes to.
-use Rattle.std.specs.Prelude.{◌≡◌, ◌≢◌, ◌⊎◌, ℕ, ◌<◌, MatchBool, negsuc, List, [], ◌∷◌, map, length, Bool, true, cond, slice_get, Contains, Option, Some, None, Result, Ok, Err}
+use Rattle.std.specs.Prelude.{◌≡◌, ◌≢◌, ◌⊎◌, ℕ, ◌<◌, MatchBool, negsuc, List, [], ◌∷◌, map, length, Bool, true, cond, slice_get, Option, Some, None, Result, Ok, Err}
 use Rattle.std.specs.Arc.{arc_value}
 use Rattle.formal_sums.specs.FormalSum.{scale}
 use Rattle.presentation.specs.Presented.{Presented}
@@ -13,7 +13,7 @@ use Rattle.module_vec.specs.Chains.{ChainStops}
 use Rattle.strong_pairs.specs.declared.faults.PairFault.TheVariants as of_pair
 use Rattle.strong_pairs.specs.Covering.{FindsCover}
 use Rattle.strong_pairs.specs.Pairs.{ArePairSteps}
-use Rattle.strong_pairs.specs.Results.{MakesPair, IsPairVector}
+use Rattle.strong_pairs.specs.Results.{MakesPair, IsPairVector, IsInReach}
 use Rattle.reduce_cofactor.specs.Answers.{IsRest}
 use Rattle.basis_entry.specs.declared.recipes.Recipe.TheVariants.{Sum}
 use Rattle.basis_entry.specs.Base.{has_negative_lead}
@@ -63,8 +63,11 @@ ClosesAs p b t (Zero steps) = Reduces b t steps []
 ClosesAs p b t (Rest e) = LeavesRest p b t (arc_value e)
 
 -- the pair has no vector, or its vector's chain stops
+abbrev pub Halts : List (List Term) → Task → TheStop → Type 0
+Halts b t stop = MakesPair t.kind b t.i t.j (Err (of_pair.Stop stop)) ⊎ ((v : List Term) × IsPairVector t.kind b t.i t.j v × ChainStops b (coefficient_at v) stop)
+
 abbrev pub Stops : List (List Term) → Task → TheStop → Type 0
-Stops b t stop = IsUncovered b t × (MakesPair t.kind b t.i t.j (Err (of_pair.Stop stop)) ⊎ ((v : List Term) × IsPairVector t.kind b t.i t.j v × ChainStops b (coefficient_at v) stop))
+Stops b t stop = IsUncovered b t × Halts b t stop
 
 -- the work of a task by a list of entries
 abbrev pub Works : Presented → List BasisEntry → Task → Result Worked WorkFault → Type 0
@@ -78,18 +81,38 @@ Works p es t (Err NoMemory) = Unit {0}
 abbrev pub signed : Bool → List Step → List Step
 signed negated steps = cond negated (map turned steps) steps
 
--- the number is one of those given, or that of an entry that a step names
-abbrev pub IsNamed : List ℕ → List Step → ℕ → Type 0
-IsNamed numbers steps n = Contains numbers n ⊎ Contains (map (λ s. s.by) steps) n
+-- the least entry that covers the pair of a G task
+abbrev pub FindsCovering : List (List Term) → Task → Option ℕ → Type 0
+FindsCovering b t None = IsUncovered b t
+FindsCovering b t (Some by) = (t.kind ≡ G) × FindsCover b (length b) t.i t.j (Some by)
 
--- the used entries are the list's, by rising numbers, and each that is named is among them
+-- why the pair's chain isn't carried out
+abbrev pub HaltsBy : List (List Term) → Task → WorkFault → Type 0
+HaltsBy b t (Stop stop) = Halts b t stop
+HaltsBy b t NoMemory = Unit {0}
+
+-- one of the used entries has the number
+abbrev pub IsAmong : List UsedEntry → ℕ → Type 0
+IsAmong used n = (m : ℕ) × (u : UsedEntry) × (slice_get used m ≡ Some u) × (u.number ≡ n)
+
+-- the used entries are the list's, by rising numbers; the numbers given and those that the steps name are among them
 pub record AreUsed (es : List BasisEntry) (numbers : List ℕ) (steps : List Step) (used : List UsedEntry) : Type 0 where
   pub there : AllThere es used
   pub rising : AreRising used
-  pub named : (n : ℕ) → IsNamed numbers steps n → (m : ℕ) × (u : UsedEntry) × (slice_get used m ≡ Some u) × (u.number ≡ n)
+  pub numbered : (k n : ℕ) → slice_get numbers k ≡ Some n → IsAmong used n
+  pub stepped : (k : ℕ) (s : Step) → slice_get steps k ≡ Some s → IsAmong used s.by
 
 -- the used entries are those whose mark is set, by rising numbers
 pub record AreMarked (es : List BasisEntry) (marks : List Bool) (used : List UsedEntry) : Type 0 where
   pub there : AllThere es used
   pub rising : AreRising used
-  pub each : (n : ℕ) → slice_get marks n ≡ Some true → (m : ℕ) × (u : UsedEntry) × (slice_get used m ≡ Some u) × (u.number ≡ n)
+  pub each : (n : ℕ) → slice_get marks n ≡ Some true → IsAmong used n
+
+-- the two steps of a pair, and the steps and the rest of the chain of its vector
+pub record IsCarriedOut (b : List (List Term)) (t : Task) (first second : Step) (steps : List Step) (w : List Term) : Type 0 where
+  pub pair_steps : ArePairSteps t.kind b t.i t.j first second
+  pub first_reach : IsInReach b first
+  pub second_reach : IsInReach b second
+  pub vector : List Term
+  pub pair : IsPairVector t.kind b t.i t.j vector
+  pub rest : IsRest b (coefficient_at vector) w steps

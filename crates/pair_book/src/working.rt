@@ -1,18 +1,20 @@
 //! Work on tasks.
 
-ghost use Rattle.std.specs.Prelude.{◌≡◌, ◌<◌, ◌≤◌, IfOk, All, cond, map, length};
+ghost use Rattle.std.specs.Prelude.{◌≡◌, ◌≢◌, ℕ, ◌<◌, IfOk, MatchBool, MatchResult, List, [], Some, Ok, negsuc, cond, map, length, slice_get, true};
 ghost use Rattle.std.specs.Arc.{arc_value};
-ghost use Rattle.module_vec.specs.Modules.{AreSteps};
+ghost use Rattle.std.specs.List.{AllByRecursion};
+ghost use Rattle.formal_sums.specs.FormalSum.{scale};
+ghost use Rattle.module_vec.specs.Vectors.{InRange, sum_of};
 ghost use Rattle.strong_pairs.specs.Pairs.{IsPair};
+ghost use Rattle.basis_entry.specs.Base.{has_negative_lead as is_turned};
 ghost use Rattle.basis_entry.specs.Entries.{AreOf, vectors_of};
-ghost use Rattle.module_vec.specs.Vectors.{InRange};
-ghost use Rattle.pair_book.specs.Logs.{turned};
-ghost use Rattle.pair_book.specs.Outcomes.{used_entry};
-ghost use Rattle.pair_book.specs.Works.{Works, AreUsed, AreMarked, recipe_of, signed};
+ghost use Rattle.pair_book.specs.Works.{Works, IsUncovered, FindsCovering, IsCarriedOut, HaltsBy, IsOfRest, recipe_of};
 
-use crate::{Close, Outcome, Used, WorkFault};
+use crate::recipes::recipe;
+use crate::marks::used;
+use crate::{Close, Outcome, WorkFault};
 use basis_entry::{Entry, Front};
-use module_vec::Step;
+use module_vec::{ModVec, Step, VecList};
 use outcomes::{PairKind, Task};
 use presentation::Presentation;
 use reduce_cofactor::reduce;
@@ -35,103 +37,133 @@ pub fn work<F: Front>(
     requires pair { IsPair (vectors_of (F.entries list.now)) task.i task.j }
     ensures { Works (arc_value p.now) (F.entries list.now) task result }
 {
-    let front = list.count();
-    if let PairKind::G = task.kind {
-        if let Some(by) = covers(list, front, task.i, task.j) {
-            let used = used(alloc, list, &[task.i, task.j, by], &[])?;
-            return Ok(Outcome::of(task, front, used, Close::Covered { by }));
-        }
+    if let Some(by) = covering(list, task) {
+        return Ok(covered(alloc, p, list, task, by)?);
     }
-    let (first, second) = pair_steps(list, task.kind, task.i, task.j)?;
-    let vector = pair_vector(alloc, list, task.kind, task.i, task.j)?;
-    let (rest, steps) = reduce(alloc, list, front, &vector)?;
-    let used = used(alloc, list, &[task.i, task.j], &steps)?;
-    let Some(lead) = rest.lead() else {
-        let steps = Steps::of(steps);
-        return Ok(Outcome::of(task, front, used, Close::Zero { steps }));
-    };
-    let negated = lead.k < 0;
-    let mut rest = rest;
-    if negated {
-        rest.negate();
-    }
-    let recipe = recipe(alloc, first, second, &steps, negated)?;
-    let entry = Entry::sum(alloc, p, list, rest, Steps::of(recipe))?;
-    Ok(Outcome::of(task, front, used, Close::Rest { entry }))
+    let done = carry_out(alloc, list, task)?;
+    Ok(close(alloc, p, list, task, done)?)
 }
 
-/// The recipe of a rest: the two steps of its pair, and those of the chain with their signs turned; all signs are turned
-/// where the rest was negated.
-fn recipe(
-    alloc: Global,
+/// The least entry that covers the pair of a G task.
+fn covering<L: VecList>(list: &L, task: Task) -> Option<u32>
+    requires { IsPair (L.vectors list.now) task.i task.j }
+    ensures { FindsCovering (L.vectors list.now) task result }
+{
+    match task.kind {
+        PairKind::S => None,
+        PairKind::G => covers(list, list.count(), task.i, task.j),
+    }
+}
+
+/// The two steps of a pair, and the steps and the rest of the chain of its vector.
+#[derive(Drop)]
+struct CarriedOut {
     first: Step,
     second: Step,
-    steps: &[Step],
-    negated: bool,
-) -> Result<Vec<Step>, AllocError>
-    requires range { InRange first.q × InRange second.q × All (λ s. InRange s.q) steps.now }
-    ensures { IfOk result (λ made. made.items ≡ signed negated (recipe_of first second steps.now)) }
-{
-    let mut made = Vec::with_capacity(alloc, steps.len() + 2)?;
-    made.push(turned_if(negated, first))?;
-    made.push(turned_if(negated, second))?;
-    for step in steps {
-        made.push(turned_if(!negated, *step))?;
-    }
-    Ok(made)
+    steps: Vec<Step>,
+    rest: ModVec,
 }
 
-fn turned_if(negated: bool, step: Step) -> Step
-    requires { InRange step.q }
-    ensures { result ≡ cond negated (turned step) step }
+/// Makes the pair's vector and reduces it.
+fn carry_out<L: VecList>(alloc: Global, list: &L, task: Task) -> Result<CarriedOut, WorkFault>
+    requires { IsPair (L.vectors list.now) task.i task.j }
+    ensures { MatchResult result (λ done. IsCarriedOut (L.vectors list.now) task done.first done.second done.steps.items done.rest)
+        (λ fault. HaltsBy (L.vectors list.now) task fault) }
 {
-    if negated {
-        Step {
-            q: -step.q,
-            ..step
+    let (first, second) = pair_steps(list, task.kind, task.i, task.j)?;
+    let vector = pair_vector(alloc, list, task.kind, task.i, task.j)?;
+    let (rest, steps) = reduce(alloc, list, list.count(), &vector)?;
+    Ok(CarriedOut {
+        first,
+        second,
+        steps,
+        rest,
+    })
+}
+
+/// The outcome of a G task whose pair the entry `by` covers.
+fn covered<F: Front>(
+    alloc: Global,
+    p: &Arc<Presentation>,
+    list: &F,
+    task: Task,
+    by: u32,
+) -> Result<Outcome, AllocError>
+    requires pair { IsPair (vectors_of (F.entries list.now)) task.i task.j }
+    requires covers { FindsCovering (vectors_of (F.entries list.now)) task (Some by) }
+    ensures { IfOk result (λ outcome. Works (arc_value p.now) (F.entries list.now) task (Ok outcome)) }
+{
+    let used = used(alloc, list, &[task.i, task.j, by], &[])?;
+    Ok(Outcome::of(task, list.count(), used, Close::Covered { by }))
+}
+
+/// The outcome of a task whose chain is carried out.
+fn close<F: Front>(
+    alloc: Global,
+    p: &Arc<Presentation>,
+    list: &F,
+    task: Task,
+    done: CarriedOut,
+) -> Result<Outcome, AllocError>
+    requires entries { AreOf (arc_value p.now) (F.entries list.now) }
+    requires pair { IsPair (vectors_of (F.entries list.now)) task.i task.j }
+    requires uncovered { IsUncovered (vectors_of (F.entries list.now)) task }
+    requires done { IsCarriedOut (vectors_of (F.entries list.now)) task done.first done.second done.steps.items done.rest }
+    ensures { IfOk result (λ outcome. Works (arc_value p.now) (F.entries list.now) task (Ok outcome)) }
+{
+    // The proof needs what holds of the entries, and the call says so.
+    let _ = list.front();
+    let used = used(alloc, list, &[task.i, task.j], &done.steps)?;
+    let close = if done.rest.terms().is_empty() {
+        Close::Zero {
+            steps: Steps::of(done.steps),
         }
     } else {
-        step
-    }
-}
-
-/// The entries with these numbers and those that the steps name, by rising numbers.
-fn used<F: Front>(
-    alloc: Global,
-    list: &F,
-    numbers: &[u32],
-    steps: &[Step],
-) -> Result<Vec<Used>, AllocError>
-    requires numbers { All (λ n. n < length (F.entries list.now)) numbers.now }
-    requires steps { AreSteps (vectors_of (F.entries list.now)) steps.now }
-    ensures { IfOk result (λ made. AreUsed (F.entries list.now) numbers.now steps.now (map used_entry made.items)) }
-{
-    let mut marks = Vec::with_capacity(alloc, list.count() as usize)?;
-    for _ in 0..list.count() {
-        marks.push(false)?;
-    }
-    for number in numbers {
-        marks[*number as usize] = true;
-    }
-    for step in steps {
-        marks[step.by as usize] = true;
-    }
-    marked(alloc, list, &marks)
-}
-
-/// The entries that are marked.
-fn marked<F: Front>(alloc: Global, list: &F, marks: &[bool]) -> Result<Vec<Used>, AllocError>
-    requires { length marks.now ≡ length (F.entries list.now) }
-    ensures { IfOk result (λ made. AreMarked (F.entries list.now) marks.now (map used_entry made.items)) }
-{
-    let mut used = Vec::new(alloc);
-    for (number, mark) in marks.iter().enumerate() {
-        if *mark {
-            used.push(Used {
-                number: number as u32,
-                entry: Arc::try_clone(list.entry(number as u32))?,
-            })?;
+        Close::Rest {
+            entry: rest_entry(alloc, p, list, task, done)?,
         }
+    };
+    Ok(Outcome::of(task, list.count(), used, close))
+}
+
+/// The entry of a rest.
+fn rest_entry<F: Front>(
+    alloc: Global,
+    p: &Arc<Presentation>,
+    list: &F,
+    task: Task,
+    done: CarriedOut,
+) -> Result<Arc<Entry>, AllocError>
+    requires entries { AreOf (arc_value p.now) (F.entries list.now) }
+    requires pair { IsPair (vectors_of (F.entries list.now)) task.i task.j }
+    requires uncovered { IsUncovered (vectors_of (F.entries list.now)) task }
+    requires done { IsCarriedOut (vectors_of (F.entries list.now)) task done.first done.second done.steps.items done.rest }
+    requires some { done.rest ≢ [] }
+    ensures { IfOk result (λ entry. IsOfRest (arc_value p.now) done.rest (recipe_of done.first done.second done.steps.items) (arc_value entry)) }
+{
+    // The proof needs what holds of the entries, and the call says so.
+    let _ = list.front();
+    let negated = has_negative_lead(&done.rest);
+    let recipe = recipe(alloc, done.first, done.second, &done.steps, negated)?;
+    let vector = turned_if(negated, done.rest);
+    Entry::sum(alloc, p, list, vector, Steps::of(recipe))
+}
+
+fn has_negative_lead(vector: &ModVec) -> bool
+    ensures { result ≡ is_turned vector.now }
+{
+    match vector.lead() {
+        Some(lead) => lead.k < 0,
+        None => false,
     }
-    Ok(used)
+}
+
+fn turned_if(negated: bool, vector: ModVec) -> ModVec
+    ensures { MatchBool negated (sum_of result ≡ scale (negsuc 0) (sum_of vector)) (result ≡ vector) }
+{
+    let mut vector = vector;
+    if negated {
+        vector.negate();
+    }
+    vector
 }
