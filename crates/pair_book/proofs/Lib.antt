@@ -13,3 +13,5 @@ pub mod Chained
 pub mod Made
 pub mod Appended
 pub mod Seen
+pub mod Marking
+pub mod Composing

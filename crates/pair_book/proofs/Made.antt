@@ -97,11 +97,11 @@ module _ (b : List (List Term)) (entries : AreEntries b) (t : Task) (pair : IsPa
   parts x = sym (made.1.is x) ∙ done.rest.sum x
 
   -- ---- the rest as an entry
-  signed_value : (negated : Bool) (v : List Term) → MatchBool negated (sum_of v ≡ scale (negsuc 0) (sum_of w)) (v ≡ w) → IsValue b (signed negated (recipe_of first second steps)) v
+  pub signed_value : (negated : Bool) (v : List Term) → MatchBool negated (sum_of v ≡ scale (negsuc 0) (sum_of w)) (v ≡ w) → IsValue b (signed negated (recipe_of first second steps)) v
   signed_value true v e = value_turned b (recipe_of first second steps) w v e recipe_value
   signed_value false v e = subst (λ (u : List Term). IsValue b (recipe_of first second steps) u) (sym e) recipe_value
 
-  signed_from : (negated : Bool) → IsFromPair t.kind b t.i t.j (signed negated (recipe_of first second steps))
+  pub signed_from : (negated : Bool) → IsFromPair t.kind b t.i t.j (signed negated (recipe_of first second steps))
   signed_from true = inr (recipe_of first second steps, recipe_is, refl)
   signed_from false = inl recipe_is
 
@@ -116,7 +116,7 @@ module _ (b : List (List Term)) (entries : AreEntries b) (t : Task) (pair : IsPa
   signed_entry true v some sign e = turned_entry w v done.rest.vector some sign e
   signed_entry false v some sign e = subst IsEntry (sym e) (positive_entry w done.rest.vector some sign)
 
-  signed_recipe : (negated : Bool) (r : Recipe) → MatchBool negated (r ≡ Sum (map turned (recipe_of first second steps))) (r ≡ Sum (recipe_of first second steps)) → r ≡ Sum (signed negated (recipe_of first second steps))
+  pub signed_recipe : (negated : Bool) (r : Recipe) → MatchBool negated (r ≡ Sum (map turned (recipe_of first second steps))) (r ≡ Sum (recipe_of first second steps)) → r ≡ Sum (signed negated (recipe_of first second steps))
   signed_recipe true r h = h
   signed_recipe false r h = h
 

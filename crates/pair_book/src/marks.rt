@@ -36,9 +36,7 @@ fn unmarked(alloc: Global, count: u32) -> Result<Vec<bool>, AllocError>
     ensures { IfOk result (λ marks. length marks.items ≡ count) }
 {
     let mut marks = Vec::new(alloc);
-    for _ in 0..count {
-        marks.push(false)?;
-    }
+    marks.resize(count as usize, false)?;
     Ok(marks)
 }
 

@@ -114,16 +114,12 @@ fn close<F: Front>(
     // The proof needs what holds of the entries, and the call says so.
     let _ = list.front();
     let used = used(alloc, list, &[task.i, task.j], &done.steps)?;
-    let close = if done.rest.terms().is_empty() {
-        Close::Zero {
-            steps: Steps::of(done.steps),
-        }
-    } else {
-        Close::Rest {
-            entry: rest_entry(alloc, p, list, task, done)?,
-        }
-    };
-    Ok(Outcome::of(task, list.count(), used, close))
+    if done.rest.terms().is_empty() {
+        let steps = Steps::of(done.steps);
+        return Ok(Outcome::of(task, list.count(), used, Close::Zero { steps }));
+    }
+    let entry = rest_entry(alloc, p, list, task, done)?;
+    Ok(Outcome::of(task, list.count(), used, Close::Rest { entry }))
 }
 
 /// The entry of a rest.
