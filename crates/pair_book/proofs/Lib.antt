@@ -15,3 +15,4 @@ pub mod Appended
 pub mod Seen
 pub mod Marking
 pub mod Composing
+pub mod Halting
