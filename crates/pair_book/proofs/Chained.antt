@@ -205,3 +205,7 @@ module _ (b : List (List Term)) (entries : AreEntries b) (i j : ℕ) (pair : IsP
 
     pub adds_all : (ss : List Step) (w : List Term) → Runs b (coefficient_at v) ss (coefficient_at w) → Adds b zero_vector (recipe_of first second ss) (coefficient_at w)
     adds_all ss w runs = (can_first, (can_second, subst (λ (z : Coefficients). Adds b z (map turned ss) (coefficient_at w)) reached (adds_turned b ss (coefficient_at v) (coefficient_at w) runs)))
+
+pub ranges : (b : List (List Term)) (ss : List Step) → AllByRecursion (IsSound b) ss → AllByRecursion (λ s. InRange s.q) ss
+ranges b [] h = tt
+ranges b (s ∷ ss) h = (h.0.range, ranges b ss h.1)

@@ -16,3 +16,4 @@ pub mod Seen
 pub mod Marking
 pub mod Composing
 pub mod Halting
+pub mod Closes
