@@ -149,10 +149,10 @@ module _ (es : List BasisEntry) (t : Task) (used : List UsedEntry) (there : AllT
         shut k =
             let steps_s : ArePairSteps S b t.i t.j first second = kind_s b are t pair un first second steps w done k in
             closes c t.i t.j pair_there first second
-                (pair_steps_over S b c t.i t.j first second i_same j_same steps_s)
-                steps
-                (subst (λ p. AreStepsBelow c p steps) (place_same b c t.i t.j i_same j_same) (stand_over (λ x. IsBelow x (pair_place b t.i t.j)) b c steps all (stand_s b are t pair un first second steps w done k)))
-                w e.vector
-                (λ x. sym (both_same S b c t.i t.j first second i_same j_same steps_s x) ∙ parts b are t pair un first second steps w done x ∙ ap (λ z. z +ℤ coefficient_at w x) (steps_same b c steps all x))
-                (has_negative_lead w) is.vector entry
-                (subst (IsBelow (lead_of e.vector).at) (place_same b c t.i t.j i_same j_same) (rest_below b are t pair un first second steps w done k (lead_of e.vector).at (at_lead (has_negative_lead w) w e.vector entry is.vector)).1)
+            (pair_steps_over S b c t.i t.j first second i_same j_same steps_s)
+            steps
+            (subst (λ p. AreStepsBelow c p steps) (place_same b c t.i t.j i_same j_same) (stand_over (λ x. IsBelow x (pair_place b t.i t.j)) b c steps all (stand_s b are t pair un first second steps w done k)))
+            w e.vector
+            (λ x. sym (both_same S b c t.i t.j first second i_same j_same steps_s x) ∙ parts b are t pair un first second steps w done x ∙ ap (λ z. z +ℤ coefficient_at w x) (steps_same b c steps all x))
+            (has_negative_lead w) is.vector entry
+            (subst (IsBelow (lead_of e.vector).at) (place_same b c t.i t.j i_same j_same) (rest_below b are t pair un first second steps w done k (lead_of e.vector).at (at_lead (has_negative_lead w) w e.vector entry is.vector)).1)

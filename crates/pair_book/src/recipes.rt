@@ -37,10 +37,7 @@ fn turned_if(negated: bool, step: Step) -> Step
     ensures { result ≡ cond negated (turned step) step }
 {
     if negated {
-        Step {
-            q: -step.q,
-            ..step
-        }
+        Step { q: -step.q, ..step }
     } else {
         step
     }

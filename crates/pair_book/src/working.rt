@@ -10,8 +10,8 @@ ghost use Rattle.basis_entry.specs.Base.{has_negative_lead as is_turned};
 ghost use Rattle.basis_entry.specs.Entries.{AreOf, vectors_of};
 ghost use Rattle.pair_book.specs.Works.{Works, IsUncovered, FindsCovering, IsCarriedOut, HaltsBy, IsOfRest, recipe_of};
 
-use crate::recipes::recipe;
 use crate::marks::used;
+use crate::recipes::recipe;
 use crate::{Close, Outcome, WorkFault};
 use basis_entry::{Entry, Front};
 use module_vec::{ModVec, Step, VecList};

@@ -18,10 +18,10 @@ loop-number-preserved g c = elim c.if-marks-number.branch [
       let n = c.loop-number.number in
       let old : List Used = c.loop-number.used.items in
       let pushed : map used_entry c.if-marks-number.used.items ≡ map used_entry old ++ next n (arc_value w.entry.result.now) ∷ [] =
-          (λ i. map used_entry (w.used-is i).items)
-          ∙ ap (map used_entry) w.in_ok-push.ensures.items
-          ∙ map-append used_entry old (record { number = n; entry = w.in_ok-try_clone.field-0 } ∷ [])
-          ∙ ap (λ (z : BasisEntry). map used_entry old ++ next n z ∷ []) w.in_ok-try_clone.ensures in
+      (λ i. map used_entry (w.used-is i).items)
+      ∙ ap (map used_entry) w.in_ok-push.ensures.items
+      ∙ map-append used_entry old (record { number = n; entry = w.in_ok-try_clone.field-0 } ∷ [])
+      ∙ ap (λ (z : BasisEntry). map used_entry old ++ next n z ∷ []) w.in_ok-try_clone.ensures in
       subst (λ (us : List UsedEntry). AreMarkedBelow es c.args.marks.now (n + 1) us) (sym pushed) (collected es c.args.marks.now n (map used_entry old) c.loop-number.invariant (arc_value w.entry.result.now) w.entry.ensures)
   | else-marks-number w ↦
       let es : List BasisEntry = g.F.Front.entries c.args.list.now in
