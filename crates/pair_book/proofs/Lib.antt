@@ -8,3 +8,12 @@ pub mod Strangers
 pub mod Bounds
 pub mod Growing
 pub mod Dues
+pub mod Turning
+pub mod Chained
+pub mod Made
+pub mod Appended
+pub mod Seen
+pub mod Marking
+pub mod Composing
+pub mod Halting
+pub mod Closes

@@ -2,6 +2,7 @@ pub mod Faults
 pub mod Logs
 pub mod Settled
 pub mod Outcomes
+pub mod Works
 pub mod LogEntries
 pub mod Books
 pub mod Inner

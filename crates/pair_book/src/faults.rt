@@ -52,6 +52,14 @@ pub enum SealFault {
     NoMemory,
 }
 
+impl From<Stop> for WorkFault {
+    ghost from_gives = { λ stop e. e ≡ of_work.Stop stop };
+
+    fn from(stop: Stop) -> WorkFault {
+        WorkFault::Stop(stop)
+    }
+}
+
 impl From<PairFault> for WorkFault {
     ghost from_gives = { λ fault e. e ≡ pair_as_work fault };
 

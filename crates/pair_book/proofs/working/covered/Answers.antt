@@ -1,0 +1,21 @@
+use Rattle.std.proofs.Common.{map, refl, ◌∷◌, [], List}
+use Rattle.outcomes.specs.declared.tasks.Task.{Task}
+use Rattle.basis_entry.specs.Entries.{BasisEntry}
+use Rattle.pair_book.specs.Outcomes.{UsedEntry, used_entry}
+use Rattle.pair_book.specs.Works.{AreUsed}
+use Rattle.pair_book.proofs.Seen.{pair_there, covered_there}
+use Rattle.pair_book.proofs.working.covered.Goals as goal
+
+pub of-requires : goal.of-requires
+of-requires g c =
+    let es : List BasisEntry = g.F.Front.entries c.args.list.now in
+    let t : Task = c.args.task in
+    let used : List UsedEntry = map used_entry c.in_ok-used.used.items in
+    let are : AreUsed es (t.i ∷ (t.j ∷ (c.args.by ∷ []))) [] used = c.in_ok-used.ensures in
+    let one = are.numbered 0 t.i refl in
+    let two = are.numbered 1 t.j refl in
+    record {
+      rising = are.rising;
+      pair = λ fs others. pair_there es t used are.there one two c.requires.pair fs others;
+      close = λ fs others. (c.requires.covers.0, covered_there es t used are.there one two c.requires.pair fs others c.args.by (are.numbered 2 c.args.by refl) c.requires.covers.1.1);
+    }
