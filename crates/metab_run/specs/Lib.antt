@@ -1,4 +1,5 @@
 pub mod Answers
+pub mod Parsing
 pub mod Words
 pub mod Files
 pub mod Ends

@@ -1,26 +1,13 @@
 -- The words of the command line.
-use Rattle.std.specs.Prelude.{ℕ, Bool, ◌&&◌, nat_lt, List, [], ◌∷◌, length, Option, Some, None, option_map, option_and_then, map, codes, if◌then◌else◌}
+use Rattle.std.specs.Prelude.{ℕ, List, [], ◌∷◌, Option, Some, None, option_map, option_and_then, map, codes, if◌then◌else◌}
 use Rattle.std.specs.Str.{bytes_eq}
 use denote.Bor.{Bor}
-use Rattle.word_text.specs.Scan.{first_is}
 use Rattle.metab_run.specs.declared.words.StepsWords.{StepsWords}
 use Rattle.metab_run.specs.declared.words.FoxWords.{FoxWords}
 use Rattle.metab_run.specs.declared.words.CheckWords.{CheckWords}
 use Rattle.metab_run.specs.declared.words.Command.{Command}
 use Rattle.metab_run.specs.declared.words.Command.TheVariants as commands
-
--- a word that begins with `-` and is longer than one byte asks for an option
-abbrev pub is_option : List ℕ → Bool
-is_option w = first_is 45 w && nat_lt 1 (length w)
-
--- The arguments among the words after a command that has no options: all words up to the first lone `--`, and all words
--- after it. Before it no word may ask for an option.
-abbrev pub arguments : List (List ℕ) → Option (List (List ℕ))
-arguments [] = Some []
-arguments (w ∷ ws) =
-    if bytes_eq w (codes "--") then Some ws
-    else if is_option w then None
-    else option_map (λ rest. w ∷ rest) (arguments ws)
+use Rattle.metab_run.specs.Parsing.{declared, parsed, names_in}
 
 -- what words on loan show
 abbrev pub shown : List (Bor (List ℕ)) → List (List ℕ)
@@ -60,18 +47,22 @@ abbrev pub two_names : List (List ℕ) → Option CheckAsked
 two_names (p ∷ r ∷ []) = Some (record { presentation = p; report = r })
 two_names _ = None
 
--- the command of this name, where its arguments are of its form
+-- what clap finds in the words after a command without options
+abbrev pub plain : List ℕ → List (List ℕ) → Option (List (List ℕ))
+plain name ws = option_map names_in (parsed (declared name []) ws)
+
+-- The command of this name, where clap accepts the words after it, and their number is that of its form.
 abbrev pub command_of : List ℕ → List (List ℕ) → Option Asked
 command_of name ws =
-    if bytes_eq name (codes "steps") then option_map Steps (three ws)
-    else if bytes_eq name (codes "fox") then option_map Fox (two ws)
-    else if bytes_eq name (codes "check") then option_map Check (two_names ws)
+    if bytes_eq name (codes "steps") then option_map Steps (option_and_then three (plain (codes "steps") ws))
+    else if bytes_eq name (codes "fox") then option_map Fox (option_and_then two (plain (codes "fox") ws))
+    else if bytes_eq name (codes "check") then option_map Check (option_and_then two_names (plain (codes "check") ws))
     else None
 
 -- what the words of the command line ask for: its first word is a command's name
 abbrev pub command : List (List ℕ) → Option Asked
 command [] = None
-command (name ∷ ws) = option_and_then (command_of name) (arguments ws)
+command (name ∷ ws) = command_of name ws
 
 -- what the code holds of them
 abbrev pub steps_asked : StepsWords → StepsAsked

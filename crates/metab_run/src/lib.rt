@@ -5,6 +5,7 @@ mod answer;
 mod checking;
 mod files;
 mod fox;
+mod parsing;
 mod status;
 mod steps;
 #[cfg(test)]

@@ -325,7 +325,7 @@ fn texts_are_refused_at_their_first_fault(rt: HostRuntime) -> Result<(), Fail> {
 #[test]
 fn words_outside_the_table_are_refused(rt: HostRuntime) -> Result<(), Fail> {
     let alloc = rt.alloc();
-    let lines: [&[&str]; 12] = [
+    let lines: [&[&str]; 13] = [
         &[],
         &["step"],
         &["steps"],
@@ -333,6 +333,7 @@ fn words_outside_the_table_are_refused(rt: HostRuntime) -> Result<(), Fail> {
         &["steps", "p", "1", "d", "e"],
         &["steps", "--help", "p", "1", "d"],
         &["steps", "-x", "1", "d"],
+        &["steps", "--entries=3072", "p", "1", "d"],
         &["fox", "p"],
         &["fox", "p", "1", "d"],
         &["fox", "--", "p"],

@@ -1,8 +1,11 @@
 //! The words of the command line.
 
-ghost use Rattle.std.specs.Prelude.{◌≡◌, ◌++◌, map, string_bytes, option_map, IfOk, OnOk};
-ghost use Rattle.metab_run.specs.Words.{is_option, arguments, three, two, two_names, command_of, command, shown, steps_asked, fox_asked, check_asked, asked};
+ghost use Rattle.std.specs.Prelude.{◌≡◌, [], true, map, string_bytes, option_map, option_and_then, IfOk, codes};
+ghost use Rattle.clap.specs.Faults.{is_simple_and_free};
+ghost use Rattle.metab_run.specs.Parsing.{declared};
+ghost use Rattle.metab_run.specs.Words.{three, two, two_names, command_of, command, shown, plain, steps_asked, fox_asked, check_asked, asked, Steps, Fox, Check};
 
+use crate::parsing::{names, parse};
 use std::alloc::{AllocError, Global};
 
 /// What the command `steps` is asked: the name of a presentation, a word, and the name of a derivation.
@@ -33,44 +36,6 @@ pub enum Command<'a> {
     Steps(StepsWords<'a>),
     Fox(FoxWords<'a>),
     Check(CheckWords<'a>),
-}
-
-// Whether the word asks for an option.
-fn is_option(word: &str) -> bool
-    ensures { result ≡ is_option word.now }
-{
-    match word.as_bytes() {
-        [] => false,
-        [first, rest @ ..] => *first == b'-' && !rest.is_empty(),
-    }
-}
-
-// Puts all these words at the end.
-fn append<'a>(found: &mut Vec<&'a str>, words: &'a [String]) -> Result<(), AllocError>
-    ensures { OnOk result (shown found.new.items ≡ shown found.old.items ++ map string_bytes words.now) }
-{
-    for word in words {
-        found.push(word.as_str())?;
-    }
-    Ok(())
-}
-
-// The arguments among the words after a command that has no options.
-fn arguments<'a>(alloc: Global, words: &'a [String]) -> Result<Option<Vec<&'a str>>, AllocError>
-    ensures { IfOk result (λ found. option_map (λ v. shown v.items) found ≡ arguments (map string_bytes words.now)) }
-{
-    let mut found = Vec::new(alloc);
-    for (i, word) in words.iter().enumerate() {
-        if word.as_str() == "--" {
-            append(&mut found, &words[i + 1..])?;
-            return Ok(Some(found));
-        }
-        if is_option(word.as_str()) {
-            return Ok(None);
-        }
-        found.push(word.as_str())?;
-    }
-    Ok(Some(found))
 }
 
 // Three arguments, as `steps` wants them.
@@ -110,18 +75,67 @@ fn two_names<'a>(words: &[&'a str]) -> Option<CheckWords<'a>>
     }
 }
 
-// The command of this name, if its arguments are of its form.
-fn command_of<'a>(name: &str, words: &[&'a str]) -> Option<Command<'a>>
-    ensures { option_map asked result ≡ command_of name.now (shown words.now) }
+// What a command without options is asked, if the words are of its form: its arguments, in order.
+fn plain<'a>(
+    alloc: Global,
+    name: &'static str,
+    words: &'a [String],
+) -> Result<Option<Vec<&'a str>>, AllocError>
+    requires { is_simple_and_free (declared name.now []) ≡ true }
+    ensures { IfOk result (λ found. option_map (λ v. shown v.items) found ≡ plain name.now (map string_bytes words.now)) }
+{
+    match parse(alloc, name, &[], words)? {
+        None => Ok(None),
+        Some(found) => Ok(Some(names(alloc, &found)?)),
+    }
+}
+
+// What `steps` is asked by the words after it.
+fn steps<'a>(alloc: Global, words: &'a [String]) -> Result<Option<Command<'a>>, AllocError>
+    ensures { IfOk result (λ found. option_map asked found ≡ option_map Steps (option_and_then three (plain (codes "steps") (map string_bytes words.now)))) }
+{
+    match plain(alloc, "steps", words)? {
+        None => Ok(None),
+        Some(found) => Ok(three(&found).map(Command::Steps)),
+    }
+}
+
+// What `fox` is asked by the words after it.
+fn fox<'a>(alloc: Global, words: &'a [String]) -> Result<Option<Command<'a>>, AllocError>
+    ensures { IfOk result (λ found. option_map asked found ≡ option_map Fox (option_and_then two (plain (codes "fox") (map string_bytes words.now)))) }
+{
+    match plain(alloc, "fox", words)? {
+        None => Ok(None),
+        Some(found) => Ok(two(&found).map(Command::Fox)),
+    }
+}
+
+// What `check` is asked by the words after it.
+fn check<'a>(alloc: Global, words: &'a [String]) -> Result<Option<Command<'a>>, AllocError>
+    ensures { IfOk result (λ found. option_map asked found ≡ option_map Check (option_and_then two_names (plain (codes "check") (map string_bytes words.now)))) }
+{
+    match plain(alloc, "check", words)? {
+        None => Ok(None),
+        Some(found) => Ok(two_names(&found).map(Command::Check)),
+    }
+}
+
+// The command of this name, if the words after it are of its form.
+fn command_of<'a>(
+    alloc: Global,
+    name: &str,
+    words: &'a [String],
+) -> Result<Option<Command<'a>>, AllocError>
+    ensures { IfOk result (λ found. option_map asked found ≡ command_of name.now (map string_bytes words.now)) }
 {
     if name == "steps" {
-        Some(Command::Steps(three(words)?))
+        steps(alloc, words)
     } else if name == "fox" {
-        Some(Command::Fox(two(words)?))
+        fox(alloc, words)
     } else if name == "check" {
-        Some(Command::Check(two_names(words)?))
+        check(alloc, words)
     } else {
-        None
+        Ok(None)
     }
 }
 
@@ -129,11 +143,8 @@ fn command_of<'a>(name: &str, words: &[&'a str]) -> Option<Command<'a>>
 pub fn read_command(alloc: Global, words: &[String]) -> Result<Option<Command<'_>>, AllocError>
     ensures { IfOk result (λ found. option_map asked found ≡ command (map string_bytes words.now)) }
 {
-    let Some((name, rest)) = words.split_first() else {
-        return Ok(None);
-    };
-    match arguments(alloc, rest)? {
+    match words.split_first() {
         None => Ok(None),
-        Some(found) => Ok(command_of(name.as_str(), &found)),
+        Some((name, rest)) => command_of(alloc, name.as_str(), rest),
     }
 }

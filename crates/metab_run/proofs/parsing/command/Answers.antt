@@ -1,0 +1,23 @@
+use Rattle.std.proofs.Common.{rules, ap, ap₂, ◌≡◌, ◌∙◌, get_or, ◌<◌, length, take}
+use Rattle.std.proofs.lemmas.Result.{IfOk-weaker}
+use Rattle.std.proofs.lemmas.List.{take_all}
+use Rattle.clap.specs.Walk.{rule_of}
+use Rattle.clap.specs.Simple.{with_rule}
+use Rattle.metab_run.specs.Parsing.{bare, with_options, option_rule, names_rule}
+use Rattle.metab_run.specs.Words.{shown}
+use Rattle.metab_run.proofs.Options.{add_option}
+use Rattle.metab_run.proofs.parsing.command.Goals as goal
+
+pub loop-option-preserved : goal.loop-option-preserved
+loop-option-preserved c =
+    let lt : c.loop-option.option-index < length c.args.options.now = search rules in
+    let is : get_or c.args.options.now c.loop-option.option-index c.new-in-loop-option.result.id ≡ c.new-in-loop-option.result.id = search rules in
+    let rule : rule_of c.action-arg.result ≡ option_rule c.new-in-loop-option.result.id.now = search rules in
+    c.in_ok-command.ensures.shape (search rules) ∙ ap₂ with_rule c.loop-option.invariant rule
+    ∙ add_option (bare c.args.name.now) c.args.options.now c.loop-option.option-index c.new-in-loop-option.result.id lt is
+
+pub returns : goal.returns
+returns c =
+    let rule : rule_of c.action.result ≡ names_rule = search rules in
+    let whole : take c.loop-option.option-index c.args.options.now ≡ c.args.options.now = search (rules, take_all c.loop-option.option-index c.args.options.now) in
+    IfOk-weaker c.arg-2.result _ _ (λ m h. h.shape (search rules) ∙ ap₂ with_rule (c.loop-option.invariant ∙ ap (λ os. with_options (bare c.args.name.now) (shown os)) whole) rule) c.arg-2.ensures
