@@ -1,5 +1,5 @@
 -- The front of falling terms is determined by the coefficients above a place.
-use Rattle.std.proofs.Common.{◌≡◌, ℕ, ℤ, pos, ◌+ℤ◌, cond, true, List, [], ◌∷◌, length, take, refl, sym, ap, ◌∙◌, subst, arith, ◌⊎◌, inl, inr}
+use Rattle.std.proofs.Common.{◌≡◌, pos, ◌+ℤ◌, cond, List, [], ◌∷◌, length, take, refl, sym, ap, ◌∙◌, arith, ◌⊎◌, inl, inr}
 use borrow.Author.Differences.{ints}
 use Rattle.formal_sums.proofs.Falling.{AllBelow_transitive}
 use Rattle.module_vec.specs.declared.places.Place.{Place}

@@ -1,9 +1,8 @@
-use Rattle.std.proofs.Common.{arith, ◌≡◌, ◌∙◌, sym, ap, subst, refl, List, ◌≤◌, ◌+◌, ◌-◌, [], ◌∷◌, ◌++◌, length, length-append, take, drop}
-use Rattle.module_vec.specs.declared.TheConstants.{TERMS}
+use Rattle.std.proofs.Common.{arith, ◌≡◌, ◌∙◌, sym, ap, subst, refl, List, ◌+◌, ◌-◌, [], ◌∷◌, length, length-append, take, drop}
 use Rattle.module_vec.specs.declared.places.Term.{Term}
 use Rattle.module_vec.specs.Vectors.{coefficient_at}
 use Rattle.reduce_cofactor.specs.Answers.{Fails}
-use Rattle.reduce_cofactor.specs.Running.{HasPassed, row_of}
+use Rattle.reduce_cofactor.specs.Running.{row_of}
 use Rattle.reduce_cofactor.proofs.Resting.{err_matches, in_list, room_at, factor_in_range, entry_before}
 use Rattle.reduce_cofactor.proofs.Stepping.{fewer_left}
 use Rattle.reduce_cofactor.proofs.Merges.{first_term, passes_one, length_parts}

@@ -1,6 +1,5 @@
-use Rattle.std.proofs.Common.{rules, arith, ◌≡◌, ◌∙◌, sym, ap, subst, List, ◌≤◌, ◌+◌, [], ◌∷◌, ◌++◌, length, length-append, take, FitsSigned}
+use Rattle.std.proofs.Common.{rules, arith, ◌∙◌, sym, ap, subst, List, [], ◌∷◌, length, length-append, take, FitsSigned}
 use mir.Syntax.{w128}
-use Rattle.module_vec.specs.declared.TheConstants.{STEPS, TERMS}
 use Rattle.module_vec.specs.declared.places.Term.{Term}
 use Rattle.module_vec.specs.Vectors.{IsSparse}
 use Rattle.reduce_cofactor.specs.Answers.{Fails, IsRest}

@@ -1,4 +1,4 @@
-use Rattle.std.proofs.Common.{◌≡◌, List, length, take, ap, ◌∙◌, subst}
+use Rattle.std.proofs.Common.{List, length, take, ap, ◌∙◌, subst}
 use Rattle.module_vec.specs.declared.places.Term.{Term}
 use Rattle.module_vec.specs.Vectors.{coefficient_at}
 use Rattle.reduce_cofactor.specs.Running.{HasPassed, row_of}
