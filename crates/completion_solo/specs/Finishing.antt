@@ -60,7 +60,14 @@ Shows h (Stopped t stop) = IsStuck h t stop
 Shows h (Full m c) = HasNoRoom h m c
 Shows h (Spent c t) = (h.limits.budget ≡ Some c) × (c ≡ h.commits) × IsFirstUnclosed h t × (h.seal ≡ None)
 
--- the answer of a completion of p. Where memory runs out the book has the seal that it had
+-- a completion of p has come to this end
+abbrev pub EndsWith : Presented → Held → End → Held → Type 0
+EndsWith p old end new = Continues old new × NoneTaken new × Shows new end × Ends p new.limits new.entries end
+
+-- it has run out of memory
+abbrev pub LacksMemory : Held → Held → Type 0
+LacksMemory old new = Continues old new × NoneTaken new × (new.seal ≡ old.seal)
+
 abbrev pub Finishes : {E : Type 0} → Presented → Held → Result End E → Held → Type 0
-Finishes p old (Ok end) new = Continues old new × NoneTaken new × Shows new end × Ends p new.limits new.entries end
-Finishes p old (Err e) new = Continues old new × NoneTaken new × (new.seal ≡ old.seal)
+Finishes p old (Ok end) new = EndsWith p old end new
+Finishes p old (Err e) new = LacksMemory old new

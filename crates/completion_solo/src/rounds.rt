@@ -1,12 +1,13 @@
 //! The rounds of a completion.
 
-ghost use Rattle.std.specs.Prelude.{◌≡◌};
+ghost use Rattle.std.specs.Prelude.{◌≡◌, ◌↔◌, IsTrue, false, Some, Ok};
 ghost use Rattle.std.specs.Arc.{arc_value};
 ghost use Rattle.task_table.specs.declared.states.Wanted.TheVariants.{OpenOnes, Unclosed};
-ghost use Rattle.task_table.specs.Tables.{NoneIs, IsLeast};
-ghost use Rattle.basis_entry.specs.Entries.{vectors_of};
-ghost use Rattle.completion_solo.specs.Finishing.{IsFirstUnclosed, Finishes};
-ghost use Rattle.completion_solo.specs.Rounds.{Rounds, IsReady, IsInHand};
+ghost use Rattle.task_table.specs.Tables.{NoneIs};
+ghost use Rattle.pair_book.specs.Books.{IsBook};
+ghost use Rattle.pair_book.specs.Works.{Works};
+ghost use Rattle.completion_solo.specs.Finishing.{NoneTaken, IsWithinBudget, IsFirstUnclosed, EndsWith, Finishes};
+ghost use Rattle.completion_solo.specs.Rounds.{Rounds, IsReady, IsInHand, IsWorkDue, IsFullAt};
 
 use outcomes::{End, Task};
 use pair_book::{Book, CommitFault, Committed, Outcome, SealFault, WorkFault, work};
@@ -38,9 +39,9 @@ pub fn one_round(
     ensures { Rounds (arc_value p.now) book.old stale result book.new index.new }
 {
     let Some(least) = book.least() else {
-        return sealed(alloc, book);
+        return Ok(Round::Ended(sealed(alloc, book)?));
     };
-    if book.limits().budget == Some(book.commits()) {
+    if is_spent(book) {
         return Ok(Round::Ended(End::Spent {
             commits: book.commits(),
             task: least,
@@ -53,13 +54,27 @@ pub fn one_round(
         book.soften();
         return Ok(Round::GoesOn { stale: false });
     }
-    stopped(alloc, p, book, index, least)
+    Ok(Round::Ended(stopped(alloc, p, book, index, least)?))
 }
 
-/// Seals the book, all of whose tasks are closed.
-fn sealed(alloc: Global, book: &mut Book) -> Result<Round, AllocError> {
+/// Whether the commits have reached the budget.
+fn is_spent(book: &Book) -> bool
+    ensures is { IsTrue result ↔ (book.now.limits.budget ≡ Some book.now.commits) }
+    ensures book { IsBook book.now }
+{
+    book.limits().budget == Some(book.commits())
+}
+
+/// Seals a book all of whose tasks are closed.
+fn sealed(alloc: Global, book: &mut Book) -> Result<End, AllocError>
+    requires none_taken { NoneTaken book.old }
+    requires closed { NoneIs Unclosed (book.old).tasks }
+    ensures { Finishes (book.old).source book.old result book.new }
+{
+    // The proof needs what holds of the book, and the call says so.
+    let _ = book.commits();
     match book.seal(alloc) {
-        Ok(_) => Ok(Round::Ended(End::Sealed)),
+        Ok(_) => Ok(End::Sealed),
         Err(SealFault::StillOpen { .. }) => unreachable!(),
         Err(SealFault::NoMemory) => Err(AllocError),
     }
@@ -73,7 +88,13 @@ fn work_taken(
     index: &mut Index,
     task: Task,
     stale: bool,
-) -> Result<Round, AllocError> {
+) -> Result<Round, AllocError>
+    requires source { (book.old).source ≡ arc_value p.now }
+    requires due { IsWorkDue book.old index.old task stale }
+    ensures { Rounds (arc_value p.now) book.old stale result book.new index.new }
+{
+    // The proof needs what holds of the book, and the call says so.
+    let _ = book.commits();
     match work(alloc, p, &Indexed::over(book, index), task) {
         Ok(outcome) => commit(book, index, outcome, stale),
         Err(WorkFault::Stop(_)) => {
@@ -93,19 +114,43 @@ fn commit(
     index: &mut Index,
     outcome: Outcome,
     stale: bool,
-) -> Result<Round, AllocError> {
+) -> Result<Round, AllocError>
+    requires due { IsWorkDue book.old index.old outcome.task stale }
+    requires work { Works (book.old).source (book.old).entries outcome.task (Ok outcome) }
+    ensures { Rounds (book.old).source book.old stale result book.new index.new }
+{
+    // The proof needs what holds of the book, and the calls say so.
+    let _ = book.commits();
     let task = outcome.task();
-    match book.commit(outcome) {
+    let committed = book.commit(outcome);
+    let _ = book.commits();
+    match committed {
         Ok(Committed::Closed) => Ok(Round::GoesOn { stale }),
         Ok(Committed::Appended { entry, .. }) => {
             index.push(lead(book, entry))?;
             Ok(Round::GoesOn { stale: true })
         }
-        Err((CommitFault::Full { measure, count }, _)) => {
+        Err((fault, _)) => Ok(Round::Ended(full(book, task, fault))),
+    }
+}
+
+/// The end where there is no room for the rest of the task in hand, which is open again.
+fn full(book: &mut Book, task: Task, fault: CommitFault) -> End
+    requires hand { IsInHand book.old task }
+    requires full { IsFullAt book.old task fault }
+    ensures { EndsWith (book.old).source book.old result book.new }
+{
+    // The proof needs what holds of the book, and the call says so.
+    let _ = book.commits();
+    match fault {
+        CommitFault::Full { measure, count } => {
             book.give_back(task, false);
-            Ok(Round::Ended(End::Full { measure, count }))
+            End::Full { measure, count }
         }
-        Err(_) => unreachable!(),
+        CommitFault::NotTaken
+        | CommitFault::Spent { .. }
+        | CommitFault::Stranger { .. }
+        | CommitFault::Stale { .. } => unreachable!(),
     }
 }
 
@@ -116,9 +161,17 @@ fn stopped(
     book: &Book,
     index: &Index,
     task: Task,
-) -> Result<Round, AllocError> {
+) -> Result<End, AllocError>
+    requires ready { IsReady (arc_value p.now) book.now index.now false }
+    requires budget { IsWithinBudget book.now }
+    requires first { IsFirstUnclosed book.now task }
+    requires none_open { NoneIs OpenOnes (book.now).tasks }
+    ensures { Finishes (arc_value p.now) book.now result book.now }
+{
+    // The proof needs what holds of the book, and the call says so.
+    let _ = book.commits();
     match work(alloc, p, &Indexed::over(book, index), task) {
-        Err(WorkFault::Stop(stop)) => Ok(Round::Ended(End::Stopped { task, stop })),
+        Err(WorkFault::Stop(stop)) => Ok(End::Stopped { task, stop }),
         Err(WorkFault::NoMemory) => Err(AllocError),
         Ok(_) => unreachable!(),
     }
