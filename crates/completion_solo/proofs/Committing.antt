@@ -1,8 +1,7 @@
 -- An outcome of the task in hand is committed.
 use Rattle.std.proofs.Common.{ℕ, ◌+◌, ◌<◌, ◌≤◌, ◌≡◌, ◌≢◌, ◌⊎◌, inl, inr, arith, refl, sym, ap, ◌∙◌, List, [], ◌∷◌, ◌++◌, length, map, Bool, true, false, subst, length-append}
 use Rattle.std.proofs.lemmas.List.{append-nil, map-append}
-use Rattle.std.specs.Prelude.{Result, Ok, Err, ◌↔◌, IsTrue}
-use Rattle.presentation.specs.Presented.{Presented}
+use Rattle.std.specs.Prelude.{Ok, ◌↔◌, IsTrue}
 use Rattle.outcomes.specs.declared.tasks.Task.{Task}
 use Rattle.module_vec.specs.declared.places.Term.{Term}
 use Rattle.strong_pairs.specs.Pairs.{lead_of, lead_at}
@@ -17,24 +16,22 @@ use Rattle.basis_entry.specs.Entries.{BasisEntry, vectors_of}
 use Rattle.pair_book.specs.declared.outcome.Close.{Close}
 use Rattle.pair_book.specs.declared.outcome.Close.TheVariants.{Covered, Zero, Rest}
 use Rattle.std.specs.Arc.{arc_value}
-use Rattle.pair_book.specs.declared.faults.CommitFault.{CommitFault}
 use Rattle.pair_book.specs.declared.faults.Committed.{Committed}
 use Rattle.pair_book.specs.declared.faults.Committed.TheVariants as done
-use Rattle.pair_book.specs.Books.{Held, IsBook, with_state}
+use Rattle.pair_book.specs.Books.{Held, IsBook}
 use Rattle.pair_book.specs.Settled.{settled_row, settled_by}
-use Rattle.pair_book.specs.Chaining.{AreChained, ClosesChained, IsDue}
+use Rattle.pair_book.specs.Chaining.{AreChained, ClosesChained}
 use Rattle.pair_book.specs.Commits.{Commits, Fits, OnRest, IfRest, IsFresh, closed_by, appended_by, state_after}
 use Rattle.pair_book.specs.Logs.{NoneDivides}
 use Rattle.pair_book.specs.Outcomes.{Worked}
 use Rattle.pair_book.proofs.Growing.{vectors_push}
 use Rattle.pair_book.proofs.Keeping.{task_in, task_out, taken_unclosed, table_put}
 use Rattle.pair_book.proofs.Starting.{table_grown, state_old, state_new, older, lead_end}
-use Rattle.pair_book.proofs.Bounds.{entries_few}
 use Rattle.completion_solo.specs.Ends.{StopsAt}
 use Rattle.completion_solo.specs.Finishing.{Continues, NoneTaken, LacksMemory}
 use Rattle.completion_solo.specs.Rounds.{HardOnesStop, IsInHand, IsWorkDue, LeadsOn, weight, weigh}
 use Rattle.completion_solo.proofs.Numbers.{read_put, not_both, either}
-use Rattle.completion_solo.proofs.Weighing.{taken_weight, one_weight, weigh_put, lower, left_lower, left_longer}
+use Rattle.completion_solo.proofs.Weighing.{taken_weight, weigh_put, lower, left_lower, left_longer}
 
 -- ---- the chain rule
 
@@ -140,10 +137,10 @@ module _ (mid new : Held) (t : Task) (b : IsBook mid) (hand : IsInHand mid t) (n
         let o = taken_weight (state_of mid.tasks t) hand.taken.1 in
         let count : new.tasks.count ≡ mid.tasks.count = ap (λ (h : Held). h.tasks.count) f.is in
         let l = lower (put mid.tasks t Closed) new.tasks (table_put mid.tasks t Closed b.table) now.table count
-            (λ u k. elim (f.each u (task_out mid u b k)) [
-            | inl e ↦ let s = ap weight e in omega (arith, s)
-            | inr e ↦ let s = no_weight (state_of new.tasks u) e in omega (arith, s)
-            ]) in
+        (λ u k. elim (f.each u (task_out mid u b k)) [
+          | inl e ↦ let s = ap weight e in omega (arith, s)
+          | inr e ↦ let s = no_weight (state_of new.tasks u) e in omega (arith, s)
+        ]) in
         omega (arith, w, o, l)
 
     pub closed_on : (leads : List Term) (stale : Bool) → IsWorkDue mid leads t stale → LeadsOn mid.source mid stale new leads stale
@@ -210,8 +207,8 @@ module _ (mid new : Held) (t : Task) (b : IsBook mid) (hand : IsInHand mid t) (n
         let a = k.1 in
         let m : IsTask (length (mid.entries ++ e ∷ [])) u = (k.0, omega (arith, n, a)) in
         elim (f.each u m) [
-        | inr q ↦ ap is_taken q
-        | inl q ↦ ap is_taken q ∙ elim (read_row u m) [ inl (_, s) ↦ ap is_taken s ∙ after_free closed | inr (ne, s) ↦ ap is_taken s ∙ row_free u m ne ]
+          | inr q ↦ ap is_taken q
+          | inl q ↦ ap is_taken q ∙ elim (read_row u m) [ inl (_, s) ↦ ap is_taken s ∙ after_free closed | inr (ne, s) ↦ ap is_taken s ∙ row_free u m ne ]
         ]
 
     pub broken_longer : LacksMemory mid new
@@ -240,9 +237,9 @@ module _ (mid new : Held) (t : Task) (b : IsBook mid) (hand : IsInHand mid t) (n
 is_closed : (mid new : Held) (w : Worked) → Commits mid w (Ok done.Closed) new → Follows (closed_by mid w.task) new
 is_closed mid new w (_, _, chained) = follows (closed_by mid w.task) new w.task true chained
 
-pub closed_round : (mid new : Held) (w : Worked) (r : Result Committed (CommitFault × Worked)) (f : Committed) (leads : List Term) (stale : Bool) → IsBook mid → IsBook new → IsWorkDue mid leads w.task stale → r ≡ Ok f → f ≡ done.Closed → Commits mid w r new → LeadsOn mid.source mid stale new leads stale
-closed_round mid new w r f leads stale b now due e g c =
-    let d = subst (λ (x : Committed). Commits mid w (Ok x) new) g (subst (λ (x : Result Committed (CommitFault × Worked)). Commits mid w x new) e c) in
+pub closed_round : (mid new : Held) (w : Worked) (f : Committed) (leads : List Term) (stale : Bool) → IsBook mid → IsBook new → IsWorkDue mid leads w.task stale → f ≡ done.Closed → Commits mid w (Ok f) new → LeadsOn mid.source mid stale new leads stale
+closed_round mid new w f leads stale b now due g c =
+    let d = subst (λ (x : Committed). Commits mid w (Ok x) new) g c in
     closed_on mid new w.task b due.hand now (is_closed mid new w d) leads stale due
 
 pub record Appends (mid new : Held) (w : Worked) (k : ℕ) (closed : Bool) : Type 0 where
@@ -260,9 +257,9 @@ fits_behind mid new w k closed (Rest e) n (_, _, (few, _, _)) (_, chained) = rec
 is_appended : (mid new : Held) (w : Worked) (k : ℕ) (closed : Bool) → Commits mid w (Ok (done.Appended k closed)) new → Appends mid new w k closed
 is_appended mid new w k closed ((_, _, fits), n, on) = fits_behind mid new w k closed w.close n fits on
 
-module _ (mid new : Held) (w : Worked) (r : Result Committed (CommitFault × Worked)) (f : Committed) (k : ℕ) (closed : Bool) (leads : List Term) (stale : Bool) (b : IsBook mid) (now : IsBook new) (due : IsWorkDue mid leads w.task stale) (e : r ≡ Ok f) (g : f ≡ done.Appended k closed) (c : Commits mid w r new) where
+module _ (mid new : Held) (w : Worked) (f : Committed) (k : ℕ) (closed : Bool) (leads : List Term) (stale : Bool) (b : IsBook mid) (now : IsBook new) (due : IsWorkDue mid leads w.task stale) (g : f ≡ done.Appended k closed) (c : Commits mid w (Ok f) new) where
   appends : Appends mid new w k closed
-  appends = is_appended mid new w k closed (subst (λ (x : Committed). Commits mid w (Ok x) new) g (subst (λ (x : Result Committed (CommitFault × Worked)). Commits mid w x new) e c))
+  appends = is_appended mid new w k closed (subst (λ (x : Committed). Commits mid w (Ok x) new) g c)
 
   pub broken_round : LacksMemory mid new
   broken_round = broken_longer mid new w.task b due.hand now appends.entry closed appends.few appends.follows

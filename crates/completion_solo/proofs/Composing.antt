@@ -1,5 +1,5 @@
 -- Rounds one behind the other.
-use Rattle.std.proofs.Common.{◌+◌, ◌<◌, ◌≡◌, arith, sym, ap, ◌∙◌, List, Bool, None, subst}
+use Rattle.std.proofs.Common.{◌≡◌, arith, sym, ap, ◌∙◌, List, Bool, None, subst}
 use Rattle.std.specs.Prelude.{Result, Ok, Err}
 use Rattle.presentation.specs.Presented.{Presented}
 use Rattle.outcomes.specs.declared.ends.End.{End}
@@ -11,7 +11,7 @@ use Rattle.basis_entry.specs.Entries.{BasisEntry, vectors_of}
 use Rattle.pair_book.specs.Books.{Held, TakesTask}
 use Rattle.completion_solo.specs.declared.rounds.Round.{Round}
 use Rattle.completion_solo.specs.declared.rounds.Round.TheVariants.{Ended, GoesOn}
-use Rattle.completion_solo.specs.Finishing.{Continues, EndsWith, LacksMemory, Finishes}
+use Rattle.completion_solo.specs.Finishing.{Continues, EndsWith, LacksMemory}
 use Rattle.completion_solo.specs.Rounds.{IsReady, IsWorkDue, LeadsOn, Rounds}
 use Rattle.completion_solo.proofs.Keeping.{continues_on}
 use Rattle.completion_solo.proofs.Taking.{Took}

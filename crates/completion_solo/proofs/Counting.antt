@@ -1,10 +1,9 @@
 -- The tasks that were closed by commits, as a list.
-use Rattle.std.proofs.Common.{ℕ, zero, suc, ◌+◌, ◌<◌, ◌≤◌, ◌≡◌, ◌≢◌, inl, inr, arith, refl, sym, ap, ◌∙◌, List, [], ◌∷◌, ◌++◌, length, take, Bool, true, false, subst, sum_by, cond}
+use Rattle.std.proofs.Common.{ℕ, zero, suc, ◌+◌, ◌<◌, ◌≤◌, ◌≡◌, ◌≢◌, inl, inr, arith, refl, ap, ◌∙◌, List, [], ◌∷◌, length, take, true, sum_by, cond}
 use Rattle.std.specs.List.{AllByRecursion}
 use Rattle.std.proofs.lemmas.List.{take_more}
 use Rattle.std.proofs.lemmas.List.Sums.{sum_by_push}
 use Rattle.outcomes.specs.declared.tasks.Task.{Task}
-use Rattle.task_table.specs.declared.states.TaskState.{TaskState}
 use Rattle.task_table.specs.declared.states.TaskState.TheVariants.{Never}
 use Rattle.task_table.specs.Tasks.{IsTask, number_of, is_closed_later}
 use Rattle.task_table.specs.Tables.{Table, IsTable, state_at, state_of}

@@ -1,10 +1,9 @@
 -- Why a completion ends.
-use Rattle.std.proofs.Common.{ℕ, ◌+◌, ◌<◌, ◌≤◌, ◌≡◌, ◌≢◌, ◌⊎◌, inl, inr, arith, refl, sym, ap, ◌∙◌, List, [], ◌∷◌, ◌++◌, length, map, Bool, true, false, Option, Some, None, subst}
+use Rattle.std.proofs.Common.{ℕ, ◌<◌, ◌≡◌, ◌≢◌, ◌⊎◌, inl, inr, arith, refl, sym, ap, ◌∙◌, List, [], length, true, false, Option, Some, None, subst}
 use Rattle.std.proofs.lemmas.List.{append-nil, length-map, length-take-le}
-use Rattle.std.specs.Prelude.{Result, Ok, Err}
+use Rattle.std.specs.Prelude.{Ok}
 use Rattle.std.specs.Arc.{arc_value}
 use Rattle.presentation.specs.Presented.{Presented}
-use Rattle.outcomes.specs.declared.ends.End.{End}
 use Rattle.outcomes.specs.declared.ends.End.TheVariants.{Sealed, Stopped, Full, Spent}
 use Rattle.outcomes.specs.declared.ends.Measure.{Measure}
 use Rattle.outcomes.specs.declared.ends.Measure.TheVariants.{Entries, Terms, Steps}
@@ -18,7 +17,7 @@ use Rattle.task_table.specs.declared.states.TaskState.TheVariants.{Open, Taken, 
 use Rattle.task_table.specs.declared.states.Reopened.TheVariants.{HardOnes}
 use Rattle.task_table.specs.declared.states.Wanted.TheVariants.{OpenOnes, Unclosed}
 use Rattle.task_table.specs.Tasks.{IsTask, number_of, is_open, is_taken, is_hard, is_unclosed, is_never, is_closed_later, reopened}
-use Rattle.task_table.specs.Tables.{NoneIs, IsLeast, state_of, put, reopen}
+use Rattle.task_table.specs.Tables.{NoneIs, state_of, reopen}
 use Rattle.task_table.specs.Orders.{Before}
 use Rattle.task_table.proofs.Hinting.{state_reopened, unclosed_reopened}
 use Rattle.basis_entry.specs.Entries.{BasisEntry, vectors_of}
@@ -36,9 +35,9 @@ use Rattle.pair_book.specs.Works.{Works, ClosesAs, LeavesRest}
 use Rattle.pair_book.proofs.Keeping.{task_in, task_out, book_reopened}
 use Rattle.pair_book.proofs.Strength.{strong}
 use Rattle.reducer_index.specs.Leads.{AreLeads}
-use Rattle.completion_solo.specs.Ends.{Ends, IsStopped, IsFull, IsSpent, IsTaskOf, IsTrulyClosed, IsClosedAtStart, AreClosedBefore, PassesFirst, StopsAt}
-use Rattle.completion_solo.specs.Finishing.{Continues, NoneTaken, IsWithinBudget, IsFirstUnclosed, IsStuck, HasNoRoom, EndsWith}
-use Rattle.completion_solo.specs.Rounds.{HardOnesStop, IsInHand, HasNoRoomFor, IsFullAt, LeadsOn, weight, weigh}
+use Rattle.completion_solo.specs.Ends.{IsFull, IsSpent, IsTaskOf, IsTrulyClosed, AreClosedBefore, PassesFirst, StopsAt}
+use Rattle.completion_solo.specs.Finishing.{NoneTaken, IsWithinBudget, IsFirstUnclosed, HasNoRoom, EndsWith}
+use Rattle.completion_solo.specs.Rounds.{HardOnesStop, IsInHand, HasNoRoomFor, IsFullAt, LeadsOn}
 use Rattle.completion_solo.proofs.Counting.{ClosedOnes, closed_ones, all_on}
 use Rattle.completion_solo.proofs.Giving.{continues_given, none_given}
 use Rattle.completion_solo.proofs.Keeping.{continues_still}
@@ -112,18 +111,18 @@ ends_spent p h t b source free first budget = (
     closed = ones.list;
     apart = ones.apart;
     each = all_on (λ u. IsTask h.tasks.count u × (is_closed_later (state_of h.tasks u) ≡ true)) _ ones.list (λ u q.
-      let task = task_out h u b q.0 in
-      let never = later_not_never (state_of h.tasks u) q.1 in
-      let shut = later_unclosed (state_of h.tasks u) q.1 in
-      let of = task_of h b u task never in
-      (of, (λ e. not_both (is_unclosed (state_of h.tasks u)) (ap (λ (z : Task). is_unclosed (state_of h.tasks z)) e ∙ first.is) shut), b.truly u task shut of, not_at_start h b u task never)) ones.each;
+        let task = task_out h u b q.0 in
+        let never = later_not_never (state_of h.tasks u) q.1 in
+        let shut = later_unclosed (state_of h.tasks u) q.1 in
+        let of = task_of h b u task never in
+        (of, (λ e. not_both (is_unclosed (state_of h.tasks u)) (ap (λ (z : Task). is_unclosed (state_of h.tasks z)) e ∙ first.is) shut), b.truly u task shut of, not_at_start h b u task never)) ones.each;
     count =
-      let c = b.commits in
-      let n = ones.count in
-      let g = b.lawful.begins.count in
-      let w = b.lawful.within in
-      let l = length-take-le h.base h.entries w in
-      omega (arith, c, n, g, l);
+        let c = b.commits in
+        let n = ones.count in
+        let g = b.lawful.begins.count in
+        let w = b.lawful.within in
+        let l = length-take-le h.base h.entries w in
+        omega (arith, c, n, g, l);
   }),
 )
   where

@@ -1,19 +1,19 @@
 -- The task in hand is given back.
-use Rattle.std.proofs.Common.{ℕ, ◌+◌, ◌<◌, ◌≡◌, ◌≢◌, ◌⊎◌, inl, inr, arith, refl, sym, ap, ◌∙◌, List, [], ◌++◌, length, Bool, true, false, subst}
+use Rattle.std.proofs.Common.{◌<◌, ◌≡◌, ◌≢◌, ◌⊎◌, inl, inr, arith, refl, sym, ap, ◌∙◌, List, [], length, Bool, true, false, subst}
 use Rattle.std.proofs.lemmas.List.{append-nil}
 use Rattle.presentation.specs.Presented.{Presented}
 use Rattle.outcomes.specs.declared.tasks.Task.{Task}
 use Rattle.module_vec.specs.declared.faults.Stop.{Stop}
 use Rattle.module_vec.specs.declared.places.Term.{Term}
 use Rattle.task_table.specs.declared.states.TaskState.{TaskState}
-use Rattle.task_table.specs.declared.states.TaskState.TheVariants.{Open, Taken, Hard, Closed, Never}
+use Rattle.task_table.specs.declared.states.TaskState.TheVariants.{Open, Hard}
 use Rattle.task_table.specs.Tasks.{IsTask, is_taken, is_hard, is_unclosed}
 use Rattle.task_table.specs.Tables.{state_of, put}
 use Rattle.pair_book.specs.Books.{Held, IsBook, GivesBack, with_state}
 use Rattle.pair_book.proofs.Keeping.{task_in, taken_unclosed}
 use Rattle.completion_solo.specs.Ends.{StopsAt}
 use Rattle.completion_solo.specs.Finishing.{Continues, NoneTaken, LacksMemory}
-use Rattle.completion_solo.specs.Rounds.{HardOnesStop, IsInHand, IsWorkDue, LeadsOn, weight, weigh}
+use Rattle.completion_solo.specs.Rounds.{HardOnesStop, IsInHand, IsWorkDue, LeadsOn, weigh}
 use Rattle.completion_solo.proofs.Numbers.{read_put, not_both}
 use Rattle.completion_solo.proofs.Weighing.{taken_weight, weigh_put, left_lower}
 

@@ -1,9 +1,8 @@
 -- What rounds keep, one after another.
-use Rattle.std.proofs.Common.{ℕ, ◌+◌, ◌<◌, ◌≤◌, ◌≡◌, arith, refl, sym, ap, ◌∙◌, List, [], ◌++◌, length, Bool, false, length-append, subst}
+use Rattle.std.proofs.Common.{◌≡◌, arith, refl, sym, ap, ◌∙◌, [], ◌++◌, length, length-append, subst}
 use Rattle.std.proofs.lemmas.List.{append_assoc, append-nil}
 use Rattle.outcomes.specs.declared.tasks.Task.{Task}
-use Rattle.task_table.specs.Tasks.{IsTask, is_unclosed}
-use Rattle.task_table.specs.Tables.{state_of}
+use Rattle.task_table.specs.Tasks.{IsTask}
 use Rattle.pair_book.specs.Books.{Held}
 use Rattle.completion_solo.specs.Finishing.{Continues, NoneTaken, LacksMemory}
 

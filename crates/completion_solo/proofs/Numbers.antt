@@ -1,5 +1,5 @@
 -- Each number below that of all tasks is a task's, and what is read after a write.
-use Rattle.std.proofs.Common.{ℕ, zero, suc, ◌+◌, ◌-◌, ◌<◌, ◌≤◌, ◌≡◌, ◌≢◌, ◌⊎◌, inl, inr, arith, refl, ap, ◌∙◌, Bool, true, false}
+use Rattle.std.proofs.Common.{ℕ, zero, suc, ◌+◌, ◌-◌, ◌<◌, ◌≡◌, ◌≢◌, ◌⊎◌, inl, inr, arith, refl, ap, ◌∙◌, Bool, true, false}
 use Rattle.std.proofs.lemmas.List.{get_or-set_other}
 use Rattle.outcomes.specs.declared.tasks.Task.{Task}
 use Rattle.outcomes.specs.declared.kinds.PairKind.TheVariants.{S, G}

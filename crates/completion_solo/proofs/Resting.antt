@@ -1,17 +1,14 @@
 -- What the work of a task by a whole log can come to: a rest that no lead divides, or a limit, and never both.
-use Rattle.std.proofs.Common.{ℕ, zero, suc, ◌+◌, ◌<◌, ◌≤◌, ◌≡◌, ◌≢◌, ◌⊎◌, inl, inr, arith, refl, sym, ap, ◌∙◌, List, [], ◌∷◌, length, Bool, true, false, subst, MatchBool, ℤ, pos, negsuc, neg_ℤ, ◌*ℤ◌}
+use Rattle.std.proofs.Common.{ℕ, zero, suc, ◌<◌, ◌≡◌, ◌≢◌, inl, inr, arith, refl, sym, ap, ◌∙◌, List, [], ◌∷◌, length, Bool, true, false, subst, MatchBool, ℤ, pos, negsuc, ◌*ℤ◌}
 use borrow.Author.Differences.{ints}
-use Rattle.std.specs.Prelude.{◌<ℤ◌, ◌≤ℤ◌, Result, Ok, Err}
-use Rattle.std.specs.Arc.{arc_value}
+use Rattle.std.specs.Prelude.{◌<ℤ◌, ◌≤ℤ◌, Err}
 use Rattle.formal_sums.specs.FormalSum.{scale}
 use Rattle.presentation.specs.Presented.{Presented}
-use Rattle.module_vec.specs.declared.TheConstants.{TERMS}
 use Rattle.module_vec.specs.declared.places.Place.{Place}
 use Rattle.module_vec.specs.declared.places.Term.{Term}
 use Rattle.module_vec.specs.declared.steps.Step.{Step}
 use Rattle.module_vec.specs.declared.faults.Stop.{Stop}
 use Rattle.module_vec.specs.declared.faults.Stop.TheVariants.{Wide, Long, Deep, Steep}
-use Rattle.module_vec.specs.Chains.{ChainStops}
 use Rattle.module_vec.specs.Modules.{vector_at}
 use Rattle.module_vec.specs.Reducers.{AreEntries, IsEntry}
 use Rattle.module_vec.specs.Results.{StopsBy, IsMade}
@@ -29,7 +26,7 @@ use Rattle.strong_pairs.proofs.Entered.{as_entry, behind}
 use Rattle.strong_pairs.proofs.Exactness.{at_end}
 use Rattle.basis_entry.specs.Base.{has_negative_lead}
 use Rattle.basis_entry.proofs.Vectors.{positive_entry, turned_entry}
-use Rattle.basis_entry.specs.Entries.{BasisEntry, vectors_of}
+use Rattle.basis_entry.specs.Entries.{BasisEntry}
 use Rattle.pair_book.specs.declared.outcome.Close.{Close}
 use Rattle.pair_book.specs.declared.outcome.Close.TheVariants.{Covered, Zero, Rest}
 use Rattle.pair_book.specs.Logs.{DividesLead}

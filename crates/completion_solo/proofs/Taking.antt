@@ -1,5 +1,5 @@
 -- A task is taken.
-use Rattle.std.proofs.Common.{ℕ, ◌+◌, ◌<◌, ◌≡◌, ◌≢◌, ◌⊎◌, inl, inr, arith, refl, sym, ap, ◌∙◌, List, [], ◌++◌, length, Bool, true, false, not, ◌||◌, Some, subst, eq-eqb}
+use Rattle.std.proofs.Common.{◌≡◌, ◌≢◌, ◌⊎◌, inl, inr, arith, refl, sym, ap, ◌∙◌, [], length, Bool, true, false, not, ◌||◌, Some, subst}
 use Rattle.std.proofs.lemmas.Bool.{eqb-true}
 use Rattle.std.proofs.lemmas.List.{append-nil, length-map}
 use Rattle.std.specs.Prelude.{nat_eq}
@@ -7,7 +7,7 @@ use Rattle.outcomes.specs.declared.tasks.Task.{Task}
 use Rattle.outcomes.specs.declared.kinds.PairKind.{PairKind}
 use Rattle.outcomes.specs.declared.kinds.PairKind.TheVariants.{S, G}
 use Rattle.module_vec.specs.declared.places.Term.{Term}
-use Rattle.strong_pairs.specs.Pairs.{IsPair, lead_at}
+use Rattle.strong_pairs.specs.Pairs.{lead_at}
 use Rattle.task_table.specs.declared.states.TaskState.{TaskState}
 use Rattle.task_table.specs.declared.states.TaskState.TheVariants.{Open, Taken, Hard, Closed, Never}
 use Rattle.task_table.specs.declared.states.Wanted.TheVariants.{OpenOnes}
@@ -25,7 +25,7 @@ use Rattle.pair_book.proofs.Keeping.{task_in, task_out, open_unclosed, table_put
 use Rattle.pair_book.proofs.Opened.{settled_right}
 use Rattle.completion_solo.specs.Ends.{IsTaskOf, IsClosedAtStart}
 use Rattle.completion_solo.specs.Finishing.{Continues, NoneTaken, IsWithinBudget}
-use Rattle.completion_solo.specs.Rounds.{HardOnesStop, IsInHand, weight, weigh}
+use Rattle.completion_solo.specs.Rounds.{HardOnesStop, IsInHand, weigh}
 use Rattle.completion_solo.proofs.Numbers.{read_put, not_both}
 use Rattle.completion_solo.proofs.Weighing.{open_weight, weigh_put}
 

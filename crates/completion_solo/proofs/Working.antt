@@ -1,11 +1,11 @@
 -- What the work by an indexed log says of the log.
-use Rattle.std.proofs.Common.{◌≡◌, sym, subst}
-use Rattle.std.specs.Prelude.{Result, Ok, Err}
+use Rattle.std.proofs.Common.{◌≡◌, subst}
+use Rattle.std.specs.Prelude.{Err}
 use Rattle.presentation.specs.Presented.{Presented}
 use Rattle.outcomes.specs.declared.tasks.Task.{Task}
 use Rattle.module_vec.specs.declared.faults.Stop.{Stop as TheStop}
 use Rattle.pair_book.specs.declared.faults.WorkFault.{WorkFault}
-use Rattle.pair_book.specs.declared.faults.WorkFault.TheVariants.{Stop, NoMemory}
+use Rattle.pair_book.specs.declared.faults.WorkFault.TheVariants.{Stop}
 use Rattle.pair_book.specs.Books.{Held}
 use Rattle.pair_book.specs.Works.{Works}
 use Rattle.completion_solo.specs.Ends.{StopsAt}

@@ -27,11 +27,7 @@ use strong_pairs::lead;
 /// - the end is `Stopped`, with the least task that isn't closed and the limit that its work meets.
 ///
 /// Where memory runs out no task is taken, and the commits that were made stay.
-pub fn finish(
-    alloc: Global,
-    p: &Arc<Presentation>,
-    book: &mut Book,
-) -> Result<End, AllocError>
+pub fn finish(alloc: Global, p: &Arc<Presentation>, book: &mut Book) -> Result<End, AllocError>
     requires source { book.old.source ≡ arc_value p.now }
     requires none_taken { NoneTaken book.old }
     ensures { Finishes (arc_value p.now) book.old result book.new }

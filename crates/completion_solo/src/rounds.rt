@@ -22,9 +22,7 @@ use strong_pairs::lead;
 pub enum Round {
     Ended(End),
     /// Another round is due; `stale` says whether some hard task may have stopped by a shorter log.
-    GoesOn {
-        stale: bool,
-    },
+    GoesOn { stale: bool },
 }
 
 /// One round. The index has the leads of the log.
@@ -125,11 +123,13 @@ fn commit(
     let committed = book.commit(outcome);
     let _ = book.commits();
     match committed {
-        Ok(Committed::Closed) => Ok(Round::GoesOn { stale }),
-        Ok(Committed::Appended { entry, .. }) => {
-            index.push(lead(book, entry))?;
-            Ok(Round::GoesOn { stale: true })
-        }
+        Ok(done) => match done {
+            Committed::Closed => Ok(Round::GoesOn { stale }),
+            Committed::Appended { entry, .. } => {
+                index.push(lead(book, entry))?;
+                Ok(Round::GoesOn { stale: true })
+            }
+        },
         Err((fault, _)) => Ok(Round::Ended(full(book, task, fault))),
     }
 }

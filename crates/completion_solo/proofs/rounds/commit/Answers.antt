@@ -1,4 +1,4 @@
-use Rattle.std.proofs.Common.{◌≡◌, sym, subst, ◌∙◌}
+use Rattle.std.proofs.Common.{sym, subst}
 use Rattle.std.proofs.lemmas.Result.{err_from_is_err_and}
 use Rattle.outcomes.specs.declared.tasks.Task.{Task}
 use Rattle.pair_book.specs.Books.{Held}
@@ -7,13 +7,12 @@ use Rattle.completion_solo.specs.Rounds.{IsFullAt}
 use Rattle.completion_solo.proofs.Committing.{closed_round, appended_round, broken_round}
 use Rattle.completion_solo.proofs.Ending.{refused}
 use Rattle.completion_solo.proofs.rounds.commit.Goals as goal
-use Rattle.completion_solo.proofs.rounds.commit.Goals.{in-Ok-Closed, in-Ok-Appended+in_ok-push-in-Ok-Appended, in-Err}
+use Rattle.completion_solo.proofs.rounds.commit.Goals.{in-Ok+in-Closed, in-Ok+in-Appended+in_ok-push-in-Appended, in-Err}
 
-pub returns-in_err-push-in-Ok-Appended : goal.returns-in_err-push-in-Ok-Appended
-returns-in_err-push-in-Ok-Appended c =
+pub returns-in_err-push-in-Appended : goal.returns-in_err-push-in-Appended
+returns-in_err-push-in-Appended c =
     let p = err_from_is_err_and c.from_residual.result c.from_residual.ensures.1 in
-    let a = c.in-Ok-Appended in
-    rw p.1 (broken_round c.args.book.now c.commit-committed.new.self c.args.outcome c.commit-committed.result a.field-0 a.entry a.field-0-1 c.args.index.now c.args.stale c.commits.ensures.book c.commits-2.ensures.book c.requires.due a.is a.field-0-is c.commit-committed.ensures)
+    rw p.1 (broken_round c.args.book.now c.commit-committed.new.self c.args.outcome c.in-Ok.done c.in-Appended.entry c.in-Appended.closed c.args.index.now c.args.stale c.commits.ensures.book c.commits-2.ensures.book c.requires.due c.in-Appended.is c.in-Ok.ensures)
 
 pub full-requires-clause-full : goal.full-requires-clause-full
 full-requires-clause-full c =
@@ -24,10 +23,9 @@ full-requires-clause-full c =
 
 pub returns : goal.returns
 returns c = elim c.match-committed.branch [
-  | in-Ok-Closed w ↦ rw (w.result-is, w.book-is, w.index-is) (closed_round c.args.book.now c.commit-committed.new.self c.args.outcome c.commit-committed.result w.in-Ok-Closed.field-0 c.args.index.now c.args.stale c.commits.ensures.book c.commits-2.ensures.book c.requires.due w.in-Ok-Closed.is w.in-Ok-Closed.field-0-is c.commit-committed.ensures)
-  | in-Ok-Appended+in_ok-push-in-Ok-Appended w ↦
-      let a = w.in-Ok-Appended in
-      rw (w.result-is, w.book-is, w.index-is) (appended_round c.args.book.now c.commit-committed.new.self c.args.outcome c.commit-committed.result a.field-0 a.entry a.field-0-1 c.args.index.now c.args.stale c.commits.ensures.book c.commits-2.ensures.book c.requires.due a.is a.field-0-is c.commit-committed.ensures
-      w.push.new.self w.lead.result w.lead.ensures.is w.in_ok-push-in-Ok-Appended.ensures.ok)
-  | in-Err w ↦ rw (w.result-is, w.book-is, w.index-is) (subst (λ (x : Held). EndsWith x.source x w.full.result w.full.new.book) w.in-Err.ensures.2 w.full.ensures)
+  | in-Ok+in-Closed w ↦ rw (w.result-is, w.book-is, w.index-is) (closed_round c.args.book.now c.commit-committed.new.self c.args.outcome w.in-Ok.done c.args.index.now c.args.stale c.commits.ensures.book c.commits-2.ensures.book c.requires.due w.in-Closed.is w.in-Ok.ensures)
+  | in-Ok+in-Appended+in_ok-push-in-Appended w ↦
+      rw (w.result-is, w.book-is, w.index-is) (appended_round c.args.book.now c.commit-committed.new.self c.args.outcome w.in-Ok.done w.in-Appended.entry w.in-Appended.closed c.args.index.now c.args.stale c.commits.ensures.book c.commits-2.ensures.book c.requires.due w.in-Appended.is w.in-Ok.ensures
+      w.push.new.self w.lead.result w.lead.ensures.is w.in_ok-push-in-Appended.ensures.ok)
+  | in-Err w ↦ rw (w.result-is, w.book-is) (subst (λ (x : Held). EndsWith x.source x w.full.result w.full.new.book) w.in-Err.ensures.2 w.full.ensures)
 ]

@@ -1,4 +1,4 @@
-use Rattle.std.proofs.Common.{◌≡◌, ℕ, sym, subst, ◌∙◌, false, true}
+use Rattle.std.proofs.Common.{◌≡◌, ℕ, sym, subst}
 use Rattle.std.specs.Arc.{arc_value}
 use Rattle.outcomes.specs.declared.ends.End.TheVariants.{Spent}
 use Rattle.task_table.specs.declared.states.Reopened.TheVariants.{HardOnes}

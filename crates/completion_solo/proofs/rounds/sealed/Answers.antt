@@ -1,5 +1,4 @@
 use Rattle.std.specs.Arc.{arc_value}
-use Rattle.std.proofs.Common.{refl}
 use Rattle.completion_solo.proofs.Ending.{ends_sealed}
 use Rattle.completion_solo.proofs.Keeping.{broken_same}
 use Rattle.completion_solo.proofs.rounds.sealed.Goals as goal

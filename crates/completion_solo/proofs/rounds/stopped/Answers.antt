@@ -1,4 +1,4 @@
-use Rattle.std.proofs.Common.{◌≡◌, refl, sym, subst, ◌∙◌}
+use Rattle.std.proofs.Common.{refl, subst}
 use Rattle.pair_book.specs.Books.{Held}
 use Rattle.pair_book.specs.Works.{ClosesAs}
 use Rattle.basis_entry.specs.Entries.{vectors_of}

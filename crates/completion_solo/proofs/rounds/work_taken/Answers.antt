@@ -1,4 +1,3 @@
-use Rattle.std.proofs.Common.{◌≡◌, refl, sym, subst, ◌∙◌}
 use Rattle.std.specs.Arc.{arc_value}
 use Rattle.completion_solo.proofs.Giving.{given_hard, given_open}
 use Rattle.completion_solo.proofs.Working.{stops_here}
