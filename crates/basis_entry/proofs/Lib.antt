@@ -2,3 +2,4 @@ pub mod Members
 pub mod Generators
 pub mod Vectors
 pub mod Growing
+pub mod Sizes

@@ -24,5 +24,9 @@ pub use seals::Sealed;
 /// generators, one in each of 24 components; and one more in each component.
 pub const BASE: u32 = 2_200;
 
+/// The most terms of the generator entries of a presentation: 16,384 for each of 64 relators; two for each relator, and for
+/// each of 24 generators, in each of 24 components; and one more in each component.
+pub const BASE_TERMS: u32 = 1_052_824;
+
 #[cfg(test)]
 mod tests;

@@ -14,7 +14,7 @@ use Rattle.reduce_cofactor.specs.Answers.{IsRest}
 use Rattle.basis_entry.specs.Entries.{BasisEntry, vectors_of}
 use Rattle.pair_book.specs.declared.outcome.Close.{Close}
 use Rattle.pair_book.specs.Outcomes.{Worked, UsedEntry, AllThere, AreRising, IsTrueOf, IsOutcome}
-use Rattle.pair_book.specs.Works.{Works, ClosesAs, IsUncovered, IsCarriedOut, Reduces, AreUsed, HaltsBy}
+use Rattle.pair_book.specs.Works.{Works, ClosesAs, AreUsedFor, IsUncovered, IsCarriedOut, Reduces, AreUsed, HaltsBy}
 use Rattle.strong_pairs.specs.Pairs.{IsPair}
 use Rattle.pair_book.proofs.Seen.{pair_there}
 
@@ -41,8 +41,8 @@ outcome es t steps used front close are pair true_there = record {
   close = true_there;
 }
 
-pub works : (p : Presented) (es : List BasisEntry) (t : Task) (used : List UsedEntry) (front : ℕ) (close : Close) (o : Worked) → o ≡ record { task = t; front = front; used = used; close = close } → front ≡ length es → AllThere es used → ClosesAs p (vectors_of es) t close → Works p es t (Ok o)
-works p es t used front close o is count there closes = subst (λ (w : Worked). Works p es t (Ok w)) (sym is) (refl, count, there, closes)
+pub works : (p : Presented) (es : List BasisEntry) (t : Task) (used : List UsedEntry) (front : ℕ) (close : Close) (o : Worked) → o ≡ record { task = t; front = front; used = used; close = close } → front ≡ length es → AllThere es used → ClosesAs p (vectors_of es) t close → AreUsedFor t close used → Works p es t (Ok o)
+works p es t used front close o is count there closes for = subst (λ (w : Worked). Works p es t (Ok w)) (sym is) (refl, count, there, closes, for)
 
 pub reduces : (b : List (List Term)) (t : Task) (first second : Step) (steps ss : List Step) (w v : List Term) → IsUncovered b t → IsCarriedOut b t first second steps w → ss ≡ steps → w ≡ v → Reduces b t ss v
 reduces b t first second steps ss w v un done e f = record {

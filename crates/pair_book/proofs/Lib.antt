@@ -17,3 +17,4 @@ pub mod Marking
 pub mod Composing
 pub mod Halting
 pub mod Closes
+pub mod Using

@@ -6,7 +6,7 @@ use Rattle.std.proofs.lemmas.List.Sums.{sum_by-cons}
 use Rattle.std.proofs.lemmas.Option.{slice_get_within}
 use Rattle.std.specs.List.{slice_get, AllByRecursion}
 use Rattle.std.specs.Prelude.{ℤ, pos, negsuc, ◌<ℤ◌, nat_eq, ◌%◌, ◌↔◌}
-use Rattle.presentation.specs.Presented.{Presented}
+use Rattle.presentation.specs.Presented.{Presented, IsPresented}
 use Rattle.outcomes.specs.declared.tasks.Task.{Task}
 use Rattle.outcomes.specs.declared.kinds.PairKind.{PairKind}
 use Rattle.outcomes.specs.declared.kinds.PairKind.TheVariants.{S, G}
@@ -22,13 +22,15 @@ use Rattle.task_table.specs.Tables.{Table}
 use Rattle.task_table.specs.Rows.{first_state, settled_of}
 use Rattle.basis_entry.specs.Base.{AreBase}
 use Rattle.basis_entry.specs.Entries.{BasisEntry, IsBasisEntry, vectors_of}
+use Rattle.basis_entry.specs.declared.TheConstants.{BASE, BASE_TERMS}
+use Rattle.basis_entry.proofs.Sizes.{few_terms, bases_alike}
 use Rattle.basis_entry.proofs.Vectors.{are_entries}
 use Rattle.pair_book.specs.declared.limits.Limits.{Limits}
 use Rattle.pair_book.specs.Logs.{IsLawful}
 use Rattle.pair_book.specs.Settled.{divides_number, settled_by}
 use Rattle.pair_book.specs.Outcomes.{recipe_steps, IsShort}
 use Rattle.pair_book.specs.LogEntries.{terms_of, steps_of}
-use Rattle.pair_book.specs.Books.{IsBook, AreNew}
+use Rattle.pair_book.specs.Books.{IsBook, AreNew, AreWithin}
 use Rattle.pair_book.proofs.Reading.{all_from, take_whole}
 use Rattle.pair_book.proofs.Starting.{settled_at}
 
@@ -171,3 +173,11 @@ differs m n false p ne = ap not p
 pub settled_apart : (d e : Term) (kind : PairKind) → (d.at.c ≡ e.at.c → ⊥) → settled_of kind (settled_by d e) ≡ true
 settled_apart d e S ne = differs d.at.c e.at.c (nat_eq d.at.c e.at.c) refl ne
 settled_apart d e G ne = or_left (not (nat_eq d.at.c e.at.c)) (divides_number d.k e.k || divides_number e.k d.k) (differs d.at.c e.at.c (nat_eq d.at.c e.at.c) refl ne)
+
+-- limits on entries and terms that no generator entries pass
+pub within : (p : Presented) (limits : Limits) → IsPresented p → BASE ≤ limits.entries → BASE_TERMS ≤ limits.terms → AreWithin p limits
+within p limits h many long es base = (omega (arith, base.few, many), omega (arith, few_terms p es h base, long))
+
+-- what is true of one list of the generator entries is true of each
+pub each_within : (p : Presented) (limits : Limits) (es : List BasisEntry) → AreBase p es → length es ≤ limits.entries → terms_of es ≤ limits.terms → AreWithin p limits
+each_within p limits es base many long fs other = let like = bases_alike p es fs base other in (omega (arith, like.0, many), omega (arith, like.1, long))

@@ -1,5 +1,5 @@
 -- What the work of a task comes to.
-use Rattle.std.specs.Prelude.{◌≡◌, ◌≢◌, ◌⊎◌, ℕ, ◌<◌, MatchBool, negsuc, List, [], ◌∷◌, map, length, Bool, true, cond, slice_get, Option, Some, None, Result, Ok, Err}
+use Rattle.std.specs.Prelude.{◌≡◌, ◌≢◌, ◌⊎◌, ◌↔◌, ℕ, ◌<◌, MatchBool, negsuc, List, [], ◌∷◌, ◌++◌, map, length, Contains, Bool, true, cond, slice_get, Option, Some, None, Result, Ok, Err}
 use Rattle.std.specs.Arc.{arc_value}
 use Rattle.formal_sums.specs.FormalSum.{scale}
 use Rattle.presentation.specs.Presented.{Presented}
@@ -15,7 +15,8 @@ use Rattle.strong_pairs.specs.Covering.{FindsCover}
 use Rattle.strong_pairs.specs.Pairs.{ArePairSteps}
 use Rattle.strong_pairs.specs.Results.{MakesPair, IsPairVector, IsInReach}
 use Rattle.reduce_cofactor.specs.Answers.{IsRest}
-use Rattle.basis_entry.specs.declared.recipes.Recipe.TheVariants.{Sum}
+use Rattle.basis_entry.specs.declared.recipes.Recipe.{Recipe}
+use Rattle.basis_entry.specs.declared.recipes.Recipe.TheVariants.{Gen, Sum}
 use Rattle.basis_entry.specs.Base.{has_negative_lead}
 use Rattle.basis_entry.specs.Entries.{BasisEntry, vectors_of}
 use Rattle.pair_book.specs.declared.outcome.Close.{Close}
@@ -69,9 +70,28 @@ Halts b t stop = MakesPair t.kind b t.i t.j (Err (of_pair.Stop stop)) ⊎ ((v : 
 abbrev pub Stops : List (List Term) → Task → TheStop → Type 0
 Stops b t stop = IsUncovered b t × Halts b t stop
 
+-- the numbers of the entries that steps name
+abbrev pub numbers_of : List Step → List ℕ
+numbers_of steps = map (λ s. s.by) steps
+
+abbrev pub recipe_numbers : Recipe → List ℕ
+recipe_numbers (Gen number negated) = []
+recipe_numbers (Sum steps) = numbers_of steps
+
+-- the numbers of the entries that a close names
+abbrev pub close_numbers : Close → List ℕ
+close_numbers (Covered by) = by ∷ []
+close_numbers (Zero steps) = numbers_of steps
+close_numbers (Rest e) = recipe_numbers (arc_value e).recipe
+
+-- the entries used are the two of the pair and those that the close names, each once, by rising numbers, and no further ones
+pub record AreUsedFor (t : Task) (close : Close) (used : List UsedEntry) : Type 0 where
+  pub rising : AreRising used
+  pub exactly : (n : ℕ) → Contains (map (λ (u : UsedEntry). u.number) used) n ↔ Contains (t.i ∷ (t.j ∷ close_numbers close)) n
+
 -- the work of a task by a list of entries
 abbrev pub Works : Presented → List BasisEntry → Task → Result Worked WorkFault → Type 0
-Works p es t (Ok w) = (w.task ≡ t) × (w.front ≡ length es) × AllThere es w.used × ClosesAs p (vectors_of es) t w.close
+Works p es t (Ok w) = (w.task ≡ t) × (w.front ≡ length es) × AllThere es w.used × ClosesAs p (vectors_of es) t w.close × AreUsedFor t w.close w.used
 Works p es t (Err (Stop stop)) = Stops (vectors_of es) t stop
 Works p es t (Err NoMemory) = Unit {0}
 
@@ -95,18 +115,20 @@ HaltsBy b t NoMemory = Unit {0}
 abbrev pub IsAmong : List UsedEntry → ℕ → Type 0
 IsAmong used n = (m : ℕ) × (u : UsedEntry) × (slice_get used m ≡ Some u) × (u.number ≡ n)
 
--- the used entries are the list's, by rising numbers; the numbers given and those that the steps name are among them
+-- the used entries are the list's, by rising numbers; they have the numbers given and those that the steps name, and no others
 pub record AreUsed (es : List BasisEntry) (numbers : List ℕ) (steps : List Step) (used : List UsedEntry) : Type 0 where
   pub there : AllThere es used
   pub rising : AreRising used
   pub numbered : (k n : ℕ) → slice_get numbers k ≡ Some n → IsAmong used n
   pub stepped : (k : ℕ) (s : Step) → slice_get steps k ≡ Some s → IsAmong used s.by
+  pub only : (m : ℕ) (u : UsedEntry) → slice_get used m ≡ Some u → Contains (numbers ++ numbers_of steps) u.number
 
 -- the used entries are those whose mark is set, by rising numbers
 pub record AreMarked (es : List BasisEntry) (marks : List Bool) (used : List UsedEntry) : Type 0 where
   pub there : AllThere es used
   pub rising : AreRising used
   pub each : (n : ℕ) → slice_get marks n ≡ Some true → IsAmong used n
+  pub only : (m : ℕ) (u : UsedEntry) → slice_get used m ≡ Some u → slice_get marks u.number ≡ Some true
 
 -- the two steps of a pair, and the steps and the rest of the chain of its vector
 pub record IsCarriedOut (b : List (List Term)) (t : Task) (first second : Step) (steps : List Step) (w : List Term) : Type 0 where

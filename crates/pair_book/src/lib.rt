@@ -26,6 +26,7 @@ mod working;
 pub use book::Book;
 pub use faults::{CommitFault, Committed, SealFault, WorkFault};
 pub use limits::Limits;
+pub use opening::can_open;
 pub use outcome::{Close, Outcome};
 pub use outcomes::{End, Measure, PairKind, Task};
 pub use task_table::Order;

@@ -1,12 +1,12 @@
 //! Which entries of a list were used.
 
-ghost use Rattle.std.specs.Prelude.{◌≡◌, ℕ, ◌<◌, IfOk, Some, true, map, length, slice_get};
+ghost use Rattle.std.specs.Prelude.{◌≡◌, ◌≢◌, ◌⊎◌, ℕ, ◌<◌, IfOk, Some, true, map, length, slice_get, Contains};
 ghost use Rattle.std.specs.List.{AllByRecursion};
 ghost use Rattle.module_vec.specs.Modules.{AreSteps};
 ghost use Rattle.module_vec.specs.declared.steps.Step.{Step as AStep};
 ghost use Rattle.basis_entry.specs.Entries.{vectors_of};
 ghost use Rattle.pair_book.specs.Outcomes.{used_entry};
-ghost use Rattle.pair_book.specs.Works.{AreUsed, AreMarked};
+ghost use Rattle.pair_book.specs.Works.{AreUsed, AreMarked, numbers_of};
 
 use crate::Used;
 use basis_entry::Front;
@@ -33,7 +33,8 @@ pub fn used<F: Front>(
 
 /// Marks for so many entries, none of them set.
 fn unmarked(alloc: Global, count: u32) -> Result<Vec<bool>, AllocError>
-    ensures { IfOk result (λ marks. length marks.items ≡ count) }
+    ensures length { IfOk result (λ marks. length marks.items ≡ count) }
+    ensures none { IfOk result (λ marks. (n : ℕ) → slice_get marks.items n ≢ Some true) }
 {
     let mut marks = Vec::new(alloc);
     marks.resize(count as usize, false)?;
@@ -45,6 +46,7 @@ fn mark_numbers(marks: &mut Vec<bool>, numbers: &[u32])
     requires { AllByRecursion (λ n. n < length marks.old.items) numbers.now }
     ensures length { length marks.new.items ≡ length marks.old.items }
     ensures set { (k n : ℕ) → slice_get numbers.now k ≡ Some n → slice_get marks.new.items n ≡ Some true }
+    ensures only { (n : ℕ) → slice_get marks.new.items n ≡ Some true → (slice_get marks.old.items n ≡ Some true) ⊎ Contains numbers.now n }
 {
     for number in numbers {
         marks[*number as usize] = true;
@@ -57,6 +59,7 @@ fn mark_steps(marks: &mut Vec<bool>, steps: &[Step])
     ensures length { length marks.new.items ≡ length marks.old.items }
     ensures set { (k : ℕ) (s : AStep) → slice_get steps.now k ≡ Some s → slice_get marks.new.items s.by ≡ Some true }
     ensures kept { (n : ℕ) → slice_get marks.old.items n ≡ Some true → slice_get marks.new.items n ≡ Some true }
+    ensures only { (n : ℕ) → slice_get marks.new.items n ≡ Some true → (slice_get marks.old.items n ≡ Some true) ⊎ Contains (numbers_of steps.now) n }
 {
     for step in steps {
         marks[step.by as usize] = true;

@@ -1,8 +1,9 @@
 //! Opening of books.
 
-ghost use Rattle.std.specs.Prelude.{◌≡◌, ◌≤◌, [], map, length, IfOk, OnOk};
+ghost use Rattle.std.specs.Prelude.{◌≡◌, ◌≤◌, ◌↔◌, [], map, length, IfOk, IsTrue, OnOk};
 ghost use Rattle.std.specs.Arc.{arc_value};
 ghost use Rattle.task_table.specs.declared.TheConstants.{ENTRIES as MOST};
+ghost use Rattle.basis_entry.specs.declared.TheConstants.{BASE};
 ghost use Rattle.pair_book.specs.Books.{AreWithin, AreNew, IsOpened};
 ghost use Rattle.pair_book.specs.LogEntries.{terms_of};
 
@@ -38,6 +39,29 @@ impl Book {
             seal: None,
         })
     }
+}
+
+/// Whether the generator entries of the presentation are within the limits, so that a book can be opened with them.
+pub fn can_open(alloc: Global, p: &Arc<Presentation>, limits: &Limits) -> Result<bool, AllocError>
+    ensures { IfOk result (λ can. IsTrue can ↔ AreWithin (arc_value p.now) limits.now) }
+{
+    let base = Entry::base(alloc, p)?;
+    if base.len() > limits.entries as usize {
+        return Ok(false);
+    }
+    Ok(count_terms(&base) <= limits.terms as usize)
+}
+
+/// The number of terms of entries.
+fn count_terms(entries: &[Arc<Entry>]) -> usize
+    requires few { length entries.now ≤ BASE }
+    ensures { result ≡ terms_of (map arc_value entries.now) }
+{
+    let mut terms = 0;
+    for entry in entries {
+        terms += entry.vector().terms().len();
+    }
+    terms
 }
 
 /// Enters the entries into an empty log and its table, and answers the number of their terms.

@@ -1,8 +1,9 @@
 -- One step of the code is one step of the chain.
-use Rattle.std.proofs.Common.{◌≡◌, ◌+◌, ◌<◌, ◌≤◌, ℤ, pos, ◌+ℤ◌, ◌-ℤ◌, ◌*ℤ◌, Bool, true, false, cond, List, [], ◌∷◌, ◌++◌, length, length-append, append_assoc, append-nil, refl, sym, ap, ◌∙◌, subst, arith, ◌⊎◌, inl, inr}
+use Rattle.std.proofs.Common.{◌≡◌, ℕ, ◌+◌, ◌-◌, ◌*◌, ◌<◌, ◌≤◌, ℤ, pos, ◌+ℤ◌, ◌-ℤ◌, ◌*ℤ◌, Bool, true, false, cond, List, [], ◌∷◌, ◌++◌, length, take, drop, length-append, append_assoc, append-nil, refl, sym, ap, ◌∙◌, subst, arith, ◌⊎◌, inl, inr}
 use Rattle.std.specs.Prelude.{neg_ℤ, ◌<ℤ◌, Some, None}
 use Rattle.std.specs.Int.{int_div_euclid}
 use Rattle.std.specs.List.{AllByRecursion}
+use Rattle.std.proofs.lemmas.List.{take-append-drop}
 use Rattle.std.proofs.lemmas.Option.{get_or_from_slice_get}
 use borrow.Author.Differences.{ints}
 use Rattle.formal_sums.specs.FormalSum.{AllBelow}
@@ -18,10 +19,11 @@ use Rattle.module_vec.specs.declared.TheConstants.{TERMS, STEPS}
 use Rattle.module_vec.specs.declared.places.Place.{Place}
 use Rattle.module_vec.specs.declared.places.Term.{Term}
 use Rattle.module_vec.specs.declared.steps.Step.{Step}
+use Rattle.module_vec.specs.declared.faults.Stop.{Stop}
 use Rattle.module_vec.specs.declared.faults.Stop.TheVariants.{Wide, Long, Deep, Steep}
 use Rattle.module_vec.specs.Places.{IsBelow, same_place, moved}
-use Rattle.module_vec.specs.Vectors.{Coefficients, sum_of, coefficient_at, multiple, multiple_at, IsWide, IsTerm, IsSparse, IsVector}
-use Rattle.module_vec.specs.Results.{DifferenceIsWide, Nowhere, IsGreatest, HasTerms}
+use Rattle.module_vec.specs.Vectors.{Coefficients, sum_of, coefficient_at, multiple, multiple_at, difference_at, IsWide, IsTerm, IsSparse, IsVector}
+use Rattle.module_vec.specs.Results.{DifferenceIsWide, Nowhere, IsGreatest, HasTerms, IsMade, StopsBy}
 use Rattle.module_vec.specs.Merging.{Subtracts}
 use Rattle.module_vec.specs.Reducers.{IsEntry, AreEntries}
 use Rattle.module_vec.specs.Modules.{vector_at, steps_at, sum_of_steps}
@@ -31,13 +33,14 @@ use Rattle.module_vec.proofs.FallingTerms.{Above, Below, Falls, all_front, all_b
 use Rattle.module_vec.proofs.Merging.{in_range, in_range_not_wide}
 use Rattle.module_vec.proofs.Scans.{read_within}
 use Rattle.reduce_cofactor.specs.Steps.{IsStepAt, RestsWith}
-use Rattle.reduce_cofactor.specs.Running.{Running, IsKept}
+use Rattle.reduce_cofactor.specs.Running.{Running, IsKept, stop_at}
 use Rattle.reduce_cofactor.specs.Answers.{IsRest, Fails}
 use Rattle.reduce_cofactor.specs.Dividends.{FailsAt}
 use Rattle.reduce_cofactor.specs.declared.faults.ReduceFault.{ReduceFault}
 use Rattle.reduce_cofactor.specs.declared.faults.ReduceFault.TheVariants as faults
 use Rattle.reduce_cofactor.proofs.Joins.{above_next, falls_front, falls_join}
 use Rattle.reduce_cofactor.proofs.Differences.{multiple_below}
+use Rattle.reduce_cofactor.proofs.Rows.{same_front}
 use Rattle.reduce_cofactor.proofs.Resting.{entry_at, rests_at, rests_zero, rests_left, lead_positive}
 
 -- ---- runs
@@ -61,6 +64,10 @@ runs_sum b (s ∷ ss) v f r x =
 pub all_push : {A : Type 0} (P : A → Type 0) (v : List A) (x : A) → AllByRecursion P v → P x → AllByRecursion P (v ++ x ∷ [])
 all_push P [] x h p = (p, tt)
 all_push P (y ∷ v) x h p = (h.0, all_push P v x h.1 p)
+
+-- a step made weighs more than all terms of a vector
+pub fewer_left : (n m k l : ℕ) → m ≡ n + 1 → m ≤ STEPS → l ≤ TERMS → (STEPS - m) * (TERMS + 1) + l < (STEPS - n) * (TERMS + 1) + k
+fewer_left n m k l e few short = omega arith
 
 -- ---- the greatest term is done
 
@@ -402,6 +409,71 @@ module _ (b : List (List Term)) (v : Coefficients) (ss : List Step) (rest : List
             next = next;
             stops = (few, (refl, narrow_step k made.left made.narrow, subst (HasTerms (after b before s)) count terms_after, many));
           }
+
+  -- ---- the vector after the step, as one row
+
+  module _ (w : List Term) (few : length ss < STEPS) (made : IsMade IsWideAt (difference_at before taken) w) where
+    above_row : (x : Place) → IsBelow t.at x → coefficient_at w x ≡ before x
+    above_row x h = omega (arith, ints, made.is x, above_taken x h)
+
+    front_row : take (length rest) w ≡ rest
+    front_row = same_front t.at rest w (record { falling = falls_front rest (t ∷ dividend) r.sparse.falling; terms = all_front IsTerm rest (t ∷ dividend) r.sparse.terms }) made.vector.sparse rest_above
+        (λ x h. omega (arith, ints, above_row x h, at_join rest (t ∷ dividend) x, above_open x h))
+
+    whole_row : take (length rest) w ++ drop (length rest) w ≡ w
+    whole_row = take-append-drop (length rest) w
+
+    below_row : (x : Place) → IsBelow x t.at → coefficient_at w x ≡ coefficient_at (drop (length rest) w) x
+    below_row x h =
+        let whole : rest ++ drop (length rest) w ≡ w = ap (λ (u : List Term). u ++ drop (length rest) w) (sym front_row) ∙ whole_row in
+        let same : coefficient_at (rest ++ drop (length rest) w) x ≡ coefficient_at w x = ap (λ (u : List Term). coefficient_at u x) whole in
+        omega (arith, ints, same, at_join rest (drop (length rest) w) x, at_below x rest (AllAbove_transitive test order t.at x h (sum_of rest) rest_above))
+
+    row_is : (x : Place) → coefficient_at w x ≡ after b before s x
+    row_is = of_step (λ g. (x : Place) → coefficient_at w x ≡ before x -ℤ g x) made.is
+
+    settled_row : (x : Place) → coefficient_at (drop (length rest) w) x ≡ pos 0 → Rests b (coefficient_at w) x
+    settled_row x z = by (order.total x t.at)
+      where
+        floor : int_div_euclid (coefficient_at w t.at) due.lead.k ≡ pos 0
+        floor =
+            let q : coefficient_at w t.at ≡ t.k -ℤ int_div_euclid t.k due.lead.k *ℤ due.lead.k = made.is t.at ∙ left_here ∙ ap (λ y. t.k -ℤ y *ℤ due.lead.k) due.factor in
+            ap (λ y. int_div_euclid y due.lead.k) (q ∙ minus t.k (int_div_euclid t.k due.lead.k *ℤ due.lead.k)) ∙ floor_left t.k due.lead.k positive
+          where
+            minus : (y w : ℤ) → y -ℤ w ≡ y +ℤ neg_ℤ w
+            minus y w = omega (arith, ints)
+
+        by : (x ≡ t.at) ⊎ (IsBelow x t.at ⊎ IsBelow t.at x) → Rests b (coefficient_at w) x
+        by (inl same) = subst (Rests b (coefficient_at w)) (sym same) (rests_left b (coefficient_at w) t.at s.by due.lead due.others due.reducer floor)
+        by (inr (inl h)) = rests_zero b (coefficient_at w) x r.entries (below_row x h ∙ z)
+        by (inr (inr h)) = rests_at b before (coefficient_at w) x (sym (above_row x h)) (r.settled x (above_open x h))
+
+    running_row : Running b v (ss ++ s ∷ []) (take (length rest) w) (drop (length rest) w)
+    running_row = record {
+      entries = r.entries;
+      sparse = subst IsSparse (sym whole_row) made.vector.sparse;
+      short = omega (arith, ap (λ (u : List Term). length u) whole_row, length-append (take (length rest) w) (drop (length rest) w), made.vector.most);
+      runs = subst (λ (u : List Term). Runs b v (ss ++ s ∷ []) (coefficient_at u)) (sym whole_row) (runs_push b ss v before (coefficient_at w) s r.runs next (record { narrow = of_step (λ g. Nowhere (DifferenceIsWide before g)) made.narrow; count = length w; terms = record { v = w; sparse = made.vector.sparse; is = row_is; count = refl }; short = made.vector.most }) row_is);
+      settled = λ x z. subst (λ (u : List Term). Rests b (coefficient_at u) x) (sym whole_row) (settled_row x z);
+      most = omega (arith, length-append ss (s ∷ []), few);
+      are = all_push _ ss s r.are (long, read_within b s.by (due.lead ∷ due.others) due.reducer.entry);
+    }
+
+    pub goes_merged : Running b v (ss ++ s ∷ []) (take (length rest) w) (drop (length rest) w) × (length rest ≤ length w)
+    goes_merged = (running_row, omega (arith, ap (λ (u : List Term). length u) front_row, ap (λ (u : List Term). length u) whole_row, length-append (take (length rest) w) (drop (length rest) w)))
+
+  pub stops_merged : (stop : Stop) → length ss < STEPS → StopsBy 0 IsWideAt (difference_at before taken) stop → ChainStops b v (stop_at stop (length ss + 1))
+  stops_merged (Wide p n) few h = record { steps = ss; last = before; step = s; runs = r.runs; next = next; stops = (few, (refl, of_step (λ g. IsGreatest (DifferenceIsWide before g) p) h.1)) }
+  stops_merged (Long terms n) few h = record {
+    steps = ss;
+    last = before;
+    step = s;
+    runs = r.runs;
+    next = next;
+    stops = (few, (refl, of_step (λ g. Nowhere (DifferenceIsWide before g)) h.1, of_step (λ g. HasTerms (difference_at before g) terms) h.2, h.3));
+  }
+  stops_merged Deep few h = absurd h
+  stops_merged (Steep d) few h = absurd h
 
 -- ---- the end and the start
 

@@ -1,9 +1,15 @@
 -- A reduction on its way: the terms that were passed and the dividend below them are one vector of the chain.
-use Rattle.std.specs.Prelude.{◌≡◌, ◌≢◌, ◌≤◌, ◌+◌, ◌⊎◌, ℤ, pos, List, [], ◌∷◌, ◌++◌, length}
+use Rattle.std.specs.Prelude.{◌≡◌, ◌≢◌, ◌≤◌, ◌+◌, ◌⊎◌, ℤ, pos, ℕ, List, [], ◌∷◌, ◌++◌, Option, Some, None, length, take, drop}
 use Rattle.module_vec.specs.declared.TheConstants.{TERMS, STEPS}
 use Rattle.module_vec.specs.declared.places.Place.{Place}
 use Rattle.module_vec.specs.declared.places.Term.{Term}
 use Rattle.module_vec.specs.declared.steps.Step.{Step}
+use Rattle.module_vec.specs.declared.faults.Stop.{Stop}
+use Rattle.module_vec.specs.declared.faults.Stop.TheVariants.{Wide, Long, Deep, Steep}
+use Rattle.module_vec.specs.declared.faults.VecFault.{VecFault}
+use Rattle.module_vec.specs.declared.faults.VecFault.TheVariants as vector
+use Rattle.reduce_cofactor.specs.declared.faults.ReduceFault.{ReduceFault}
+use Rattle.reduce_cofactor.specs.declared.faults.ReduceFault.TheVariants as reduction
 use Rattle.module_vec.specs.Vectors.{Coefficients, coefficient_at, IsSparse}
 use Rattle.module_vec.specs.Reducers.{AreEntries}
 use Rattle.module_vec.specs.Modules.{AreSteps}
@@ -21,3 +27,27 @@ pub record Running (b : List (List Term)) (v : Coefficients) (steps : List Step)
 -- the coefficient k at p is final, and stands behind the others if it isn't 0
 abbrev pub IsKept : List Term → Place → ℤ → List Term → Type 0
 IsKept old p k new = ((k ≡ pos 0) × (new ≡ old)) ⊎ ((k ≢ pos 0) × (new ≡ old ++ record { at = p; k = k } ∷ []))
+
+-- the first n terms of a vector on its way are final
+abbrev pub HasPassed : List (List Term) → Coefficients → List Step → List Term → ℕ → Type 0
+HasPassed b v steps row n = (n ≤ length row) × Running b v steps (take n row) (drop n row)
+
+-- the chain of some vector has come to this row
+abbrev pub IsOnWay : List (List Term) → List Step → List Term → ℕ → Type 0
+IsOnWay b steps row n = (v : Coefficients) × HasPassed b v steps row n
+
+-- what merges made, which before the first is the vector that was given
+abbrev pub row_of : List Term → Option (List Term) → List Term
+row_of v None = v
+row_of v (Some w) = w
+
+-- the same limit, met in the step with this number
+abbrev pub stop_at : Stop → ℕ → Stop
+stop_at (Wide p m) n = Wide p n
+stop_at (Long terms m) n = Long terms n
+stop_at Deep n = Deep
+stop_at (Steep d) n = Steep d
+
+abbrev pub fault_at : VecFault → ℕ → ReduceFault
+fault_at (vector.Stop s) n = reduction.Stop (stop_at s n)
+fault_at vector.NoMemory n = reduction.NoMemory

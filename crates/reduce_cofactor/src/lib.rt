@@ -13,6 +13,7 @@ mod dividend;
 mod due;
 mod faults;
 pub mod laws;
+mod merging;
 mod reduction;
 
 pub use due::reducer;

@@ -1,18 +1,19 @@
 //! The chain of steps.
 
-ghost use Rattle.std.specs.Prelude.{◌≡◌, ◌≤◌, ◌<◌, ◌+◌, List, [], ◌∷◌, ◌++◌, Some, length, take, slice_get, IfOk, MatchResult};
+ghost use Rattle.std.specs.Prelude.{◌≡◌, ◌≤◌, ◌<◌, ◌+◌, List, [], ◌∷◌, ◌++◌, Some, length, take, drop, slice_get, IfOk, MatchResult};
 ghost use Rattle.module_vec.specs.declared.TheConstants.{TERMS, STEPS};
 ghost use Rattle.module_vec.specs.declared.places.Term.{Term};
 ghost use Rattle.module_vec.specs.Vectors.{Coefficients, coefficient_at, InRange, HasRoom, IsVector};
 ghost use Rattle.module_vec.specs.Reducers.{IsEntry};
 ghost use Rattle.reduce_cofactor.specs.Answers.{IsRest, Fails};
 ghost use Rattle.reduce_cofactor.specs.Steps.{IsStepAt};
-ghost use Rattle.reduce_cofactor.specs.Running.{Running, IsKept};
+ghost use Rattle.reduce_cofactor.specs.Running.{Running, IsKept, HasPassed, IsOnWay};
 
 use crate::ReduceFault;
 use crate::changes::{changes, reduced};
 use crate::dividend::Dividend;
 use crate::due::due;
+use crate::merging::{Merged, merge};
 use module_vec::{ModVec, Place, STEPS, Step, Stop, TERMS, Term, VecList};
 use std::alloc::{AllocError, Global};
 
@@ -33,9 +34,37 @@ pub fn reduce<L: VecList>(
         let f = coefficient_at v.now in
         MatchResult result (λ r. IsRest b f r.0 r.1.items) (Fails b f) }
 {
+    let Merged {
+        vector,
+        passed,
+        steps,
+    } = merge(alloc, list, front, v)?;
+    let Some(w) = vector else {
+        return finish(alloc, list, front, v, passed, steps);
+    };
+    if passed == w.terms().len() {
+        return Ok((w, steps));
+    }
+    finish(alloc, list, front, &w, passed, steps)
+}
+
+/// The rest and the steps of a vector, of whose chain these first steps led to `w`. The first `passed` terms of `w` are final.
+fn finish<L: VecList>(
+    alloc: Global,
+    list: &L,
+    front: u32,
+    w: &ModVec,
+    passed: usize,
+    steps: Vec<Step>,
+) -> Result<(ModVec, Vec<Step>), ReduceFault>
+    requires front { front ≤ length (L.vectors list.now) }
+    requires way { IsOnWay (take front (L.vectors list.now)) steps.items w.now passed }
+    ensures { let b = take front (L.vectors list.now) in
+        (f : Coefficients) → HasPassed b f steps.items w.now passed → MatchResult result (λ r. IsRest b f r.0 r.1.items) (Fails b f) }
+{
     // The proof needs that the list has entries, and the call says so.
     let _ = list.count();
-    let mut reduction = Reduction::new(alloc, v);
+    let mut reduction = Reduction::new(alloc, w, passed, steps)?;
     while let Some(top) = reduction.dividend.pop() {
         match due(list, front, &top) {
             Some(step) => reduction.make(alloc, step, list.vector(step.by), top)?,
@@ -56,16 +85,23 @@ struct Reduction<'a> {
 }
 
 impl<'a> Reduction<'a> {
-    /// The vector before its first step.
-    fn new(alloc: Global, v: &'a ModVec) -> Reduction<'a>
+    /// The vector after these steps, whose first `passed` terms are final.
+    fn new(
+        alloc: Global,
+        v: &'a ModVec,
+        passed: usize,
+        steps: Vec<Step>,
+    ) -> Result<Reduction<'a>, AllocError>
+        requires { passed ≤ length v.now }
         ensures vector { IsVector v.now }
-        ensures is { (result.rest.items ≡ []) × (result.dividend.0 ≡ v.now) × (result.steps.items ≡ []) }
+        ensures is { IfOk result (λ r. (r.rest.items ≡ take passed v.now) × (r.dividend.0 ≡ drop passed v.now) × (r.steps.items ≡ steps.items)) }
     {
-        Reduction {
-            rest: Vec::new(alloc),
-            dividend: Dividend::new(alloc, v.terms()),
-            steps: Vec::new(alloc),
-        }
+        let (rest, dividend) = v.terms().split_at(passed);
+        Ok(Reduction {
+            rest: Vec::from_slice(alloc, rest)?,
+            dividend: Dividend::new(alloc, dividend),
+            steps,
+        })
     }
 
     /// Makes the step, which is due at the term `top` above the dividend. All that it computes is known to be in range
@@ -86,6 +122,7 @@ impl<'a> Reduction<'a> {
             Running b v self.old.steps.items self.old.rest.items (top ∷ self.old.dividend.0) →
             MatchResult result (λ _. Running b v self.new.steps.items self.new.rest.items self.new.dividend.0) (Fails b v) }
         ensures step { IfOk result (λ _. self.new.steps.items ≡ self.old.steps.items ++ step ∷ []) }
+        ensures limits { IfOk result (λ _. (length self.new.steps.items ≤ STEPS) × (length self.new.rest.items + length self.new.dividend.0 ≤ TERMS)) }
     {
         let made = self.steps.len() as u32;
         if made == STEPS {

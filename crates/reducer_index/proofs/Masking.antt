@@ -1,23 +1,20 @@
 -- Masks bit by bit.
-use Rattle.std.proofs.Common.{◌≡◌, ℕ, zero, suc, ◌+◌, ◌-◌, ◌*◌, ◌%◌, ◌<◌, ◌≤◌, ◌^◌, Bool, true, false, nat_lt, List, [], ◌∷◌, length, slice_index, bit_and, bit_or, if◌then◌else◌, ◌⊎◌, inl, inr, refl, sym, ap, ◌∙◌, arith}
+use Rattle.std.proofs.Common.{◌≡◌, ℕ, zero, suc, ◌+◌, ◌-◌, ◌*◌, ◌%◌, ◌<◌, ◌≤◌, ◌^◌, Bool, true, false, nat_lt, List, [], ◌∷◌, length, slice_index, bit_and, bit_or, if◌then◌else◌, ◌⊎◌, inl, inr, refl, sym, ap, subst, ◌∙◌, arith}
 use Rattle.std.proofs.lemmas.Bool.Decides.{nat_tests}
 use Rattle.std.proofs.lemmas.Nat.Bits.{bit_at_and, bit_at_set_same, bit_at_set_other, bit_at-zero, same_from_bits_below}
 use Rattle.std.proofs.lemmas.Nat.{and_le_l}
 use Rattle.std.specs.Int.{bit_at}
+use Rattle.std.specs.Int.Bits.{or_zero_r}
 use mir.Syntax.{w64}
+use mir.Val.{bool_byte}
 use Rattle.laurent_terms.specs.declared.TheConstants.{VARIABLES}
 use Rattle.laurent_terms.specs.Monomials.{divides}
 use Rattle.laurent_terms.proofs.Combining.{each_from_divides}
-use Rattle.reducer_index.specs.Masks.{flag, bit_of, IsMask}
+use Rattle.reducer_index.specs.Masks.{flag, bit_of, IsMask, IsMaskUpTo}
 
 -- ---- a mask that is made bit by bit
 
--- the bits below n are those of the mask, and the others aren't set
-pub record IsMadeTo (s : List ℕ) (n mask : ℕ) : Type 0 where
-  pub made : (bit : ℕ) → bit < n → bit_at mask bit ≡ bit_of (flag s bit)
-  pub left : (bit : ℕ) → n ≤ bit → bit_at mask bit ≡ 0
-
-pub made_none : (s : List ℕ) → IsMadeTo s 0 0
+pub made_none : (s : List ℕ) → IsMaskUpTo 0 s 0
 made_none s = record { made = λ bit lt. absurd (omega (arith, lt)); left = λ bit le. bit_at-zero bit }
 
 next_cases : (bit n : ℕ) → bit < n + 1 → (bit < n) ⊎ (bit ≡ n)
@@ -27,7 +24,7 @@ next_cases bit n lt = by (nat_lt bit n) refl
     by true e = inl (grind (arith, nat_tests))
     by false e = let ge : n ≤ bit = grind (arith, nat_tests) in inr (omega (arith, lt, ge))
 
-pub made_clear : (s : List ℕ) (n mask : ℕ) → IsMadeTo s n mask → flag s n ≡ false → IsMadeTo s (n + 1) mask
+pub made_clear : (s : List ℕ) (n mask : ℕ) → IsMaskUpTo n s mask → flag s n ≡ false → IsMaskUpTo (n + 1) s mask
 made_clear s n mask h off = record {
   made = λ bit lt. by bit (next_cases bit n lt);
   left = λ bit le. h.left bit (omega (arith, le));
@@ -39,7 +36,7 @@ made_clear s n mask h off = record {
         let unset : flag s bit ≡ false = ap (flag s) e ∙ off in
         h.left bit (omega (arith, e)) ∙ sym (ap bit_of unset)
 
-pub made_set : (s : List ℕ) (n mask : ℕ) → n < 64 → IsMadeTo s n mask → flag s n ≡ true → IsMadeTo s (n + 1) (bit_or mask (1 * 2 ^ n % 2 ^ 64))
+pub made_set : (s : List ℕ) (n mask : ℕ) → n < 64 → IsMaskUpTo n s mask → flag s n ≡ true → IsMaskUpTo (n + 1) s (bit_or mask (1 * 2 ^ n % 2 ^ 64))
 made_set s n mask few h on = record {
   made = λ bit lt. by bit (next_cases bit n lt);
   left = λ bit le. bit_at_set_other w64 mask n few bit (λ e. omega (arith, e, le)) ∙ h.left bit (omega (arith, le));
@@ -50,6 +47,27 @@ made_set s n mask few h on = record {
     by bit (inr e) =
         let set : flag s bit ≡ true = ap (flag s) e ∙ on in
         ap (bit_at (bit_or mask (1 * 2 ^ n % 2 ^ 64))) e ∙ bit_at_set_same w64 mask n few ∙ sym (ap bit_of set)
+
+-- one more bit, which is x
+pub made_more : (s : List ℕ) (n mask x : ℕ) (b : Bool) → n < 64 → IsMaskUpTo n s mask → flag s n ≡ b → x ≡ bool_byte b → IsMaskUpTo (n + 1) s (bit_or mask (x * 2 ^ n % 2 ^ 64))
+made_more s n mask x true few h on e = subst (λ (y : ℕ). IsMaskUpTo (n + 1) s (bit_or mask (y * 2 ^ n % 2 ^ 64))) (sym e) (made_set s n mask few h on)
+made_more s n mask x false few h off e =
+    subst (λ (y : ℕ). IsMaskUpTo (n + 1) s (bit_or mask (y * 2 ^ n % 2 ^ 64))) (sym e)
+    (subst (λ (y : ℕ). IsMaskUpTo (n + 1) s (bit_or mask y)) (sym (none (2 ^ n)))
+    (subst (IsMaskUpTo (n + 1) s) (sym (or_zero_r mask)) (made_clear s n mask h off)))
+  where
+    none : (k : ℕ) → bool_byte false * k % 2 ^ 64 ≡ 0
+    none k = omega arith
+
+pub flag_low : (s : List ℕ) (bit : ℕ) → bit < VARIABLES → flag s bit ≡ nat_lt 0 (slice_index s bit)
+flag_low s bit lt =
+    let low : nat_lt bit VARIABLES ≡ true = grind (arith, nat_tests) in
+    ap (λ (b : Bool). if b then nat_lt 0 (slice_index s bit) else nat_lt 1 (slice_index s (bit - VARIABLES))) low
+
+pub flag_high : (s : List ℕ) (bit : ℕ) → VARIABLES ≤ bit → flag s bit ≡ nat_lt 1 (slice_index s (bit - VARIABLES))
+flag_high s bit le =
+    let high : nat_lt bit VARIABLES ≡ false = grind (arith, nat_tests) in
+    ap (λ (b : Bool). if b then nat_lt 0 (slice_index s bit) else nat_lt 1 (slice_index s (bit - VARIABLES))) high
 
 -- ---- divisors
 read_past : (s : List ℕ) (k : ℕ) → length s ≤ k → slice_index s k ≡ 0

@@ -1,9 +1,13 @@
 //! Laws, as functions that do nothing.
 
-ghost use Rattle.std.specs.Prelude.{◌≡◌, List, Option, Some};
+ghost use Rattle.std.specs.Prelude.{◌≡◌, ◌↔◌, List, [], Option, Some};
+ghost use Rattle.free_words.specs.declared.letter.Letter.{Letter};
 ghost use Rattle.presentation.specs.Presented.{Presented, IsPresented};
+ghost use Rattle.derivation.specs.Moves.{IsWordOver};
+ghost use Rattle.derivation.specs.Moves as moves;
 ghost use Rattle.module_vec.specs.declared.places.Term.{Term};
 ghost use Rattle.module_vec.specs.Reducers.{AreEntries};
+ghost use Rattle.hom_check.specs.Shown.{EndsIn};
 ghost use Rattle.session_text.specs.declared.question.Question.{Question};
 ghost use Rattle.session_text.specs.Questions.{HasSource};
 ghost use Rattle.basis_entry.specs.Entries.{BasisEntry, vectors_of};
@@ -14,6 +18,21 @@ ghost use Rattle.session_core.specs.Verdicts.{IsVerdict, IsSealedFor};
 ghost use Rattle.session_core.specs.Meaning.{IsExact};
 
 use crate::Session;
+use fox_calculus::laws::{members_are_sums_of_the_list, sums_of_the_list_are_members};
+use magnus_laws::magnus::trivial_exactly_where_member;
+use strong_pairs::laws::chains_decide_membership;
+
+/// The law that the solver stands on: a word is trivial exactly where the chain of its Fox vector by a strong basis ends at
+/// zero, if no limit is met (Magnus 1939, Lichtblau 2012).
+pub fn trivial_exactly_where_chains_end_at_zero()
+    ensures { (p : Presented) (b : List (List Term)) (w : List Letter) (rest : List Term) → IsPresented p → IsWordOver p w →
+        AreEntries b → IsStrongBasis p b → EndsIn b rest w → moves.Trivial p w ↔ (rest ≡ []) }
+{
+    trivial_exactly_where_member();
+    members_are_sums_of_the_list();
+    sums_of_the_list_are_members();
+    chains_decide_membership();
+}
 
 /// A verdict by a strong basis that is known to be one is exact (Magnus 1939, Lichtblau 2012).
 #[tactic(auto, using(crate::proofs::Exactness::strong_verdict))]

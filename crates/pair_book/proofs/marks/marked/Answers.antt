@@ -4,7 +4,7 @@ use Rattle.std.specs.Arc.{arc_value}
 use Rattle.basis_entry.specs.Entries.{BasisEntry, vectors_of}
 use Rattle.pair_book.specs.declared.used.Used.{Used}
 use Rattle.pair_book.specs.Outcomes.{UsedEntry, used_entry}
-use Rattle.pair_book.proofs.Marking.{AreMarkedBelow, next, none_marked, skipped, collected, all_marked, unset}
+use Rattle.pair_book.proofs.Marking.{AreMarkedBelow, next, none_marked, skipped, collected, all_marked, unset, marked_at}
 use Rattle.pair_book.proofs.marks.marked.Goals.{then-marks-number+in_ok-try_clone+in_ok-push, else-marks-number}
 use Rattle.pair_book.proofs.marks.marked.Goals as goal
 
@@ -22,7 +22,7 @@ loop-number-preserved g c = elim c.if-marks-number.branch [
       ∙ ap (map used_entry) w.in_ok-push.ensures.items
       ∙ map-append used_entry old (record { number = n; entry = w.in_ok-try_clone.field-0 } ∷ [])
       ∙ ap (λ (z : BasisEntry). map used_entry old ++ next n z ∷ []) w.in_ok-try_clone.ensures in
-      subst (λ (us : List UsedEntry). AreMarkedBelow es c.args.marks.now (n + 1) us) (sym pushed) (collected es c.args.marks.now n (map used_entry old) c.loop-number.invariant (arc_value w.entry.result.now) w.entry.ensures)
+      subst (λ (us : List UsedEntry). AreMarkedBelow es c.args.marks.now (n + 1) us) (sym pushed) (collected es c.args.marks.now n (map used_entry old) c.loop-number.invariant (arc_value w.entry.result.now) w.entry.ensures (marked_at c.args.marks.now n w.if-marks-number.true))
   | else-marks-number w ↦
       let es : List BasisEntry = g.F.Front.entries c.args.list.now in
       let n = c.loop-number.number in

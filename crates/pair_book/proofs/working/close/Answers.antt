@@ -7,9 +7,10 @@ use Rattle.outcomes.specs.declared.tasks.Task.{Task}
 use Rattle.basis_entry.specs.Entries.{BasisEntry, vectors_of}
 use Rattle.pair_book.specs.declared.outcome.Close.TheVariants.{Zero, Rest}
 use Rattle.pair_book.specs.Outcomes.{UsedEntry, used_entry, Zeroes}
-use Rattle.pair_book.specs.Works.{AreUsed, IsAmong}
+use Rattle.pair_book.specs.Works.{AreUsed, IsAmong, numbers_of}
 use Rattle.pair_book.proofs.Closes.{empty_of, some_of, counted, outcome, works, reduces}
 use Rattle.pair_book.proofs.Seen.{zero_there, rest_there}
+use Rattle.pair_book.proofs.Using.{used_for, rest_numbers, same_numbers, named_twice}
 use Rattle.pair_book.proofs.working.close.Goals as goal
 
 pub of-requires : goal.of-requires
@@ -35,6 +36,8 @@ returns-then-is_empty g c =
     works (arc_value c.args.p.now) es t used c.count.result (Zero c.of-steps.result) c.of.result c.of.ensures
     (counted c.count.result (g.F.VecList.vectors c.args.list.now) es c.count.ensures.is (g.met.F.Front.vectors_are c.args.list.now)) are.there
     (reduces (vectors_of es) t d.first d.second d.steps.items c.of-steps.result d.rest [] c.requires.uncovered c.requires.done c.of-steps.ensures none)
+    (used_for es t (t.i ∷ (t.j ∷ [])) c.deref.result.now used (Zero c.of-steps.result) are
+    (same_numbers _ _ (ap (λ (ss : List Step). t.i ∷ (t.j ∷ numbers_of ss)) (c.deref.ensures.value ∙ sym c.of-steps.ensures))))
 
 pub of-requires-2 : goal.of-requires-2
 of-requires-2 g c =
@@ -67,3 +70,5 @@ returns g c =
       some = some;
       entry = c.in_ok-entry.ensures;
     })
+    (used_for es t (t.i ∷ (t.j ∷ [])) c.deref.result.now used (Rest c.in_ok-entry.entry) are
+    (named_twice t _ _ _ (ap (λ (ss : List Step). t.i ∷ (t.j ∷ numbers_of ss)) c.deref.ensures.value) (rest_numbers (arc_value c.args.p.now) (vectors_of es) t d.first d.second d.steps.items d.rest (arc_value c.in_ok-entry.entry) c.requires.done.pair_steps c.in_ok-entry.ensures)))
