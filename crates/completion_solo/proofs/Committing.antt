@@ -66,7 +66,7 @@ follows m new t false e = follows_same m new e
 
 -- ---- commits
 
-first_free : (s : Bool) → is_taken (first_state s) ≡ false
+pub first_free : (s : Bool) → is_taken (first_state s) ≡ false
 first_free true = refl
 first_free false = refl
 

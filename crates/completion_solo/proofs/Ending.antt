@@ -200,9 +200,9 @@ module _ (h : Held) (w : Worked) (b : IsBook h) (hand : IsInHand h w.task) where
   pub refused : (fault : CommitFault) → Works h.source h.entries w.task (Ok w) → Refuses h w (Some fault) → IsFullAt h w.task fault
   refused faults.NotTaken works r = r (hand.taken, hand.budget.1)
   refused (faults.Spent n) works (_, spent, _) = hand.budget.0 spent
-  refused (faults.Stranger k) (_, _, there, closes) (_, why) = stranger k there closes why
-  refused (faults.Stale front now) (_, whole, _, closes) (_, _, on) = stale front now whole closes on
-  refused (faults.Full m c) (_, _, _, closes) on = no_room m c closes on
+  refused (faults.Stranger k) (_, _, there, closes, _) (_, why) = stranger k there closes why
+  refused (faults.Stale front now) (_, whole, _, closes, _) (_, _, on) = stale front now whole closes on
+  refused (faults.Full m c) (_, _, _, closes, _) on = no_room m c closes on
 
 passes_first : (h : Held) (e : BasisEntry) (m : Measure) (c : ℕ) → Passes h e m c → PassesFirst h.limits h.entries e m c
 passes_first h e Entries c p = p

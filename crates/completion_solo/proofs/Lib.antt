@@ -10,3 +10,4 @@ pub mod Working
 pub mod Ending
 pub mod Composing
 pub mod Indexing
+pub mod Free

@@ -3,7 +3,11 @@
 #![tactic(auto)]
 
 mod completing;
+pub mod laws;
 mod rounds;
 
 pub use completing::finish;
 pub use pair_book::{Book, End, Limits, Measure, Task};
+
+#[cfg(test)]
+mod tests;
