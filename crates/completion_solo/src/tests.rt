@@ -1,6 +1,6 @@
 //! Completions of small presentations, worked out by hand.
 
-ghost use Rattle.std.specs.Prelude.{◌≡◌, OnOk};
+ghost use Rattle.std.specs.Prelude.{◌≡◌, IfOk};
 ghost use Rattle.std.specs.Arc.{arc_value};
 ghost use Rattle.completion_solo.specs.Finishing.{NoneTaken};
 
@@ -16,6 +16,7 @@ use std::sync::Arc;
 use std::test::Fail;
 
 const MANY: u32 = 8_000_000;
+const SOLVABLE: &str = "<a,t | t a t^-1 a^-2>";
 
 fn presentation(alloc: Global, text: &str) -> Result<Arc<Presentation>, Fail> {
     match read_presentation(alloc, text.as_bytes()) {
@@ -35,8 +36,8 @@ fn limits(entries: u32, terms: u32, steps: u32, budget: Option<u32>) -> Limits {
 }
 
 fn open(alloc: Global, p: &Arc<Presentation>, limits: Limits) -> Result<Book, Fail>
-    ensures source { OnOk result (λ book. book.source ≡ arc_value p.now) }
-    ensures none_taken { OnOk result NoneTaken }
+    ensures source { IfOk result (λ book. book.source ≡ arc_value p.now) }
+    ensures none_taken { IfOk result (λ book. NoneTaken book) }
 {
     if limits.entries > 4_096 || !can_open(alloc, p, &limits)? {
         return Err(Fail::from("no book"));
@@ -45,12 +46,44 @@ fn open(alloc: Global, p: &Arc<Presentation>, limits: Limits) -> Result<Book, Fa
     Ok(Book::open(alloc, p, limits)?)
 }
 
-/// The end of a completion, and the number of entries of its log.
-fn end_of(alloc: Global, text: &str, limits: Limits) -> Result<(End, u32), Fail> {
+/// Whether the completion of the book comes to this end.
+fn completes(
+    alloc: Global,
+    p: &Arc<Presentation>,
+    book: &mut Book,
+    end: End,
+) -> Result<bool, Fail>
+    requires source { (book.old).source ≡ arc_value p.now }
+    requires none_taken { NoneTaken book.old }
+{
+    let same = match finish(alloc, p, book)? {
+        End::Sealed => matches!(end, End::Sealed),
+        End::Stopped { task, stop } => {
+            matches!(end, End::Stopped { task: t, stop: s } if t == task && s == stop)
+        }
+        End::Full { measure, count } => {
+            matches!(end, End::Full { measure: m, count: c } if m == measure && c == count)
+        }
+        End::Spent { commits, task } => {
+            matches!(end, End::Spent { commits: c, task: t } if c == commits && t == task)
+        }
+    };
+    Ok(same)
+}
+
+/// Whether the completion comes to this end with so many entries.
+fn want(alloc: Global, text: &str, limits: Limits, end: End, entries: u32) -> Result<(), Fail> {
     let p = presentation(alloc, text)?;
     let mut book = open(alloc, &p, limits)?;
-    let end = finish(alloc, &p, &mut book)?;
-    Ok((end, book.count()))
+    if !completes(alloc, &p, &mut book, end)? || book.count() != entries {
+        return Err(Fail::from("another end"));
+    }
+    Ok(())
+}
+
+/// A limit on commits alone.
+fn commits(budget: u32) -> Limits {
+    limits(2_048, MANY, MANY, Some(budget))
 }
 
 fn spent(commits: u32, i: u32, j: u32) -> End {
@@ -59,68 +92,47 @@ fn spent(commits: u32, i: u32, j: u32) -> End {
     End::Spent { commits, task }
 }
 
+fn full(measure: Measure, count: u32) -> End {
+    End::Full { measure, count }
+}
+
+/// The first S task stops in step 14, at a in the component of b.
+fn stopped() -> End {
+    let m = Mono::of_generator(0, true);
+    let at = Place { m, c: 1 };
+    let stop = Stop::Wide { at, step: 14 };
+    let kind = PairKind::S;
+    let task = Task { i: 0, j: 1, kind };
+    End::Stopped { task, stop }
+}
+
 #[test]
 fn budgets_are_spent(rt: HostRuntime) -> Result<(), Fail> {
     let alloc = rt.alloc();
-    for (text, budget, end, entries) in [
-        ("<a,b|>", 0, spent(0, 0, 2), 4),
-        ("<a,b|>", 1, spent(1, 1, 3), 4),
-        ("<a,b|>", 2, End::Sealed, 4),
-        ("<a,t | t a t^-1 a^-2>", 3, spent(3, 1, 5), 9),
-    ] {
-        let limits = limits(2_048, MANY, MANY, Some(budget));
-        if end_of(alloc, text, limits)? != (end, entries) {
-            return Err(Fail::from("a budget"));
-        }
-    }
-    Ok(())
+    want(alloc, "<a,b|>", commits(0), spent(0, 0, 2), 4)?;
+    want(alloc, "<a,b|>", commits(1), spent(1, 1, 3), 4)?;
+    want(alloc, "<a,b|>", commits(2), End::Sealed, 4)?;
+    want(alloc, SOLVABLE, commits(3), spent(3, 1, 5), 9)
 }
 
 #[test]
 fn limits_are_met(rt: HostRuntime) -> Result<(), Fail> {
     let alloc = rt.alloc();
-    for (limits, measure, count, entries) in [
-        (limits(7, MANY, MANY, None), Measure::Entries, 8, 7),
-        (limits(2_048, 18, MANY, None), Measure::Terms, 19, 7),
-        (limits(2_048, MANY, 1, None), Measure::Steps, 2, 7),
-    ] {
-        let end = End::Full { measure, count };
-        if end_of(alloc, "<a,t | t a t^-1 a^-2>", limits)? != (end, entries) {
-            return Err(Fail::from("a limit"));
-        }
-    }
-    Ok(())
+    let entries = limits(7, MANY, MANY, None);
+    want(alloc, SOLVABLE, entries, full(Measure::Entries, 8), 7)?;
+    let terms = limits(2_048, 18, MANY, None);
+    want(alloc, SOLVABLE, terms, full(Measure::Terms, 19), 7)?;
+    let steps = limits(2_048, MANY, 1, None);
+    want(alloc, SOLVABLE, steps, full(Measure::Steps, 2), 7)
 }
 
 #[test]
-fn chains_stop(rt: HostRuntime) -> Result<(), Fail> {
-    let alloc = rt.alloc();
-    let text = "<a,b | a [a,b] a^-1 [a,b]^-512, a^15 [a,b] a^-15 [a,b]^-1>";
-    let (end, _) = end_of(alloc, text, limits(2_048, MANY, MANY, None))?;
-    let at = Place {
-        m: Mono::of_generator(0, true),
-        c: 1,
-    };
-    let task = Task {
-        i: 0,
-        j: 1,
-        kind: PairKind::S,
-    };
-    let stop = Stop::Wide { at, step: 14 };
-    if end != (End::Stopped { task, stop }) {
-        return Err(Fail::from("a stop"));
-    }
-    Ok(())
-}
-
-#[test]
-fn logs_are_sealed(rt: HostRuntime) -> Result<(), Fail> {
+fn completions_end(rt: HostRuntime) -> Result<(), Fail> {
     let alloc = rt.alloc();
     let all = limits(2_048, MANY, MANY, None);
-    if end_of(alloc, "<a,b | [a,b]^2, [a,b]^3>", all)? != (End::Sealed, 11) {
-        return Err(Fail::from("not sealed"));
-    }
-    Ok(())
+    want(alloc, "<a,b | [a,b]^2, [a,b]^3>", all, End::Sealed, 11)?;
+    let growing = "<a,b | a [a,b] a^-1 [a,b]^-512, a^15 [a,b] a^-15 [a,b]^-1>";
+    want(alloc, growing, all, stopped(), 8)
 }
 
 #[test]
@@ -133,8 +145,8 @@ fn hard_tasks_are_tried_again(rt: HostRuntime) -> Result<(), Fail> {
     }
     laws::books_can_be_completed();
     book.release();
-    if finish(alloc, &p, &mut book)? != End::Sealed {
-        return Err(Fail::from("a hard task"));
+    if !completes(alloc, &p, &mut book, End::Sealed)? {
+        return Err(Fail::from("not sealed"));
     }
     Ok(())
 }
