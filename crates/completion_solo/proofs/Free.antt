@@ -1,5 +1,5 @@
 -- Books none of whose tasks is taken.
-use Rattle.std.proofs.Common.{◌≡◌, refl, ap, ◌∙◌, false, length}
+use Rattle.std.proofs.Common.{◌≡◌, refl, ap, ◌∙◌, false}
 use Rattle.presentation.specs.Presented.{Presented}
 use Rattle.strong_pairs.specs.Pairs.{lead_at}
 use Rattle.task_table.specs.declared.states.TaskState.{TaskState}

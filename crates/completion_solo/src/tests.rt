@@ -16,6 +16,7 @@ use std::sync::Arc;
 use std::test::Fail;
 
 const MANY: u32 = 8_000_000;
+
 const SOLVABLE: &str = "<a,t | t a t^-1 a^-2>";
 
 fn presentation(alloc: Global, text: &str) -> Result<Arc<Presentation>, Fail> {
@@ -47,12 +48,7 @@ fn open(alloc: Global, p: &Arc<Presentation>, limits: Limits) -> Result<Book, Fa
 }
 
 /// Whether the completion of the book comes to this end.
-fn completes(
-    alloc: Global,
-    p: &Arc<Presentation>,
-    book: &mut Book,
-    end: End,
-) -> Result<bool, Fail>
+fn completes(alloc: Global, p: &Arc<Presentation>, book: &mut Book, end: End) -> Result<bool, Fail>
     requires source { (book.old).source ≡ arc_value p.now }
     requires none_taken { NoneTaken book.old }
 {
@@ -132,7 +128,7 @@ fn completions_end(rt: HostRuntime) -> Result<(), Fail> {
     let all = limits(2_048, MANY, MANY, None);
     want(alloc, "<a,b | [a,b]^2, [a,b]^3>", all, End::Sealed, 11)?;
     let growing = "<a,b | a [a,b] a^-1 [a,b]^-512, a^15 [a,b] a^-15 [a,b]^-1>";
-    want(alloc, growing, all, stopped(), 8)
+    want(alloc, growing, all, stopped(), 9)
 }
 
 #[test]
