@@ -1,0 +1,13 @@
+pub mod Numbers
+pub mod Weighing
+pub mod Counting
+pub mod Keeping
+pub mod Taking
+pub mod Giving
+pub mod Committing
+pub mod Resting
+pub mod Working
+pub mod Ending
+pub mod Composing
+pub mod Indexing
+pub mod Free
