@@ -32,3 +32,6 @@ pub use outcomes::{End, Measure, PairKind, Task};
 pub use task_table::Order;
 pub use used::Used;
 pub use working::work;
+
+#[cfg(test)]
+mod tests;

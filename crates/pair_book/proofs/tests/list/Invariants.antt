@@ -1,0 +1,6 @@
+use Rattle.std.specs.Arc.{arc_value}
+use Rattle.basis_entry.specs.Entries.{AreOf}
+use Rattle.pair_book.proofs.tests.list.Given as goal
+
+abbrev pub invariant-loop-number : goal.invariant-loop-number
+invariant-loop-number l = AreOf (arc_value l.p) l.list

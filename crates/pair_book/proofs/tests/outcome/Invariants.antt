@@ -1,0 +1,6 @@
+use Rattle.std.specs.Arc.{arc_value}
+use Rattle.basis_entry.specs.Entries.{AreOf}
+use Rattle.pair_book.proofs.tests.outcome.Given as goal
+
+abbrev pub invariant-loop-entry : goal.invariant-loop-entry
+invariant-loop-entry l = AreOf (arc_value l.p) l.all
