@@ -71,7 +71,7 @@ either_over n true v w e over = scaled_over n v w e over
 either_over n false v w e over = subst (VectorIsOver n) (sym e) over
 
 -- ---- sums of steps
-multiple_over : (n : ℕ) (q : ℤ) (t : List ℕ) (g : List Term) → MonoIsOver n t → VectorIsOver n g → SumIsOver n (multiple q t g)
+pub multiple_over : (n : ℕ) (q : ℤ) (t : List ℕ) (g : List Term) → MonoIsOver n t → VectorIsOver n g → SumIsOver n (multiple q t g)
 multiple_over n q t [] h over = tt
 multiple_over n q t (u ∷ g) h over = (record { mono = product_over n t u.at.m h over.0.mono; component = over.0.component }, multiple_over n q t g h over.1)
 

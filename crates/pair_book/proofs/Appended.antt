@@ -1,5 +1,5 @@
 -- A rest that is appended closes the S task that it is left of.
-use Rattle.std.proofs.Common.{◌≡◌, ◌≢◌, ℕ, ◌<◌, ◌≤◌, ◌+◌, Bool, true, false, cond, MatchBool, ℤ, pos, negsuc, neg_ℤ, ◌+ℤ◌, ◌*ℤ◌, List, [], ◌∷◌, ◌++◌, map, length, refl, sym, ap, subst, ◌∙◌, arith, append-nil, length-append}
+use Rattle.std.proofs.Common.{◌≡◌, ◌≢◌, ℕ, Bool, true, false, cond, MatchBool, ℤ, pos, negsuc, neg_ℤ, ◌+ℤ◌, ◌*ℤ◌, List, [], ◌∷◌, ◌++◌, length, refl, sym, ap, subst, ◌∙◌, arith, append-nil, length-append}
 use borrow.Author.Differences.{ints}
 use Rattle.std.specs.List.{AllByRecursion}
 use Rattle.std.specs.Prelude.{◌<ℤ◌}
@@ -14,11 +14,11 @@ use Rattle.module_vec.specs.declared.steps.Step.{Step}
 use Rattle.module_vec.specs.Modules.{vector_at, steps_at}
 use Rattle.module_vec.specs.Places.{IsBelow, same_place, moved}
 use Rattle.module_vec.specs.Reducers.{IsEntry}
-use Rattle.module_vec.specs.Vectors.{Coefficients, sum_of, coefficient_at, multiple, IsTerm}
+use Rattle.module_vec.specs.Vectors.{sum_of, coefficient_at, multiple, IsTerm}
 use Rattle.module_vec.proofs.Lookups.{coefficient_read}
-use Rattle.outcomes.specs.declared.kinds.PairKind.TheVariants.{S, G}
-use Rattle.strong_pairs.specs.Pairs.{lead_of, lead_at, IsPair, pair_place, ArePairSteps, both_at}
-use Rattle.strong_pairs.specs.Tasks.{step_place, AreStepsAt, AreStepsBelow, StandsAt, IsClosed}
+use Rattle.outcomes.specs.declared.kinds.PairKind.TheVariants.{S}
+use Rattle.strong_pairs.specs.Pairs.{lead_of, IsPair, pair_place, ArePairSteps, both_at}
+use Rattle.strong_pairs.specs.Tasks.{step_place, AreStepsBelow, IsClosed}
 use Rattle.strong_pairs.proofs.Members.{steps_at-append}
 use Rattle.basis_entry.proofs.Growing.{vector_behind}
 use Rattle.pair_book.proofs.Reading.{all_push}

@@ -1,51 +1,38 @@
 -- The steps of a chain, and the recipe that they give with those of their pair.
-use Rattle.std.proofs.Common.{◌≡◌, ◌≢◌, ℕ, ◌<◌, ◌≤◌, ◌+◌, Bool, true, false, MatchBool, ℤ, pos, negsuc, neg_ℤ, ◌+ℤ◌, ◌*ℤ◌, List, [], ◌∷◌, map, length, ◌⊎◌, inl, inr, refl, sym, ap, subst, ◌∙◌, arith}
+use Rattle.std.proofs.Common.{◌≡◌, ◌≢◌, ℕ, ◌<◌, ◌≤◌, ◌+◌, ℤ, pos, neg_ℤ, ◌+ℤ◌, ◌*ℤ◌, List, [], ◌∷◌, map, length, ◌⊎◌, inl, inr, refl, sym, ap, subst, ◌∙◌, arith}
 use borrow.Author.Differences.{ints}
 use Rattle.std.specs.List.{AllByRecursion}
-use Rattle.std.specs.Prelude.{◌<ℤ◌, Option, None}
-use Rattle.formal_sums.specs.FormalSum.{Falling, scale}
-use Rattle.laurent_terms.specs.declared.TheConstants.{VARIABLES, DEGREE}
+use Rattle.std.specs.Prelude.{◌<ℤ◌, None}
+use Rattle.laurent_terms.specs.declared.TheConstants.{DEGREE}
 use Rattle.laurent_terms.specs.Monomials.{degree, quotient}
 use Rattle.laurent_terms.proofs.Combining.{sum-quotient}
-use Rattle.module_vec.specs.declared.TheConstants.{TERMS, STEPS}
 use Rattle.module_vec.specs.declared.places.Place.{Place}
 use Rattle.module_vec.specs.declared.places.Term.{Term}
 use Rattle.module_vec.specs.declared.steps.Step.{Step}
 use Rattle.module_vec.specs.Chains.{IsNext, Chain, Runs, taken_at, after}
-use Rattle.module_vec.specs.Modules.{AreSteps, vector_at, steps_at}
 use Rattle.module_vec.specs.Places.{IsBelow, IsPlace}
 use Rattle.module_vec.specs.Reducers.{AreEntries, IsEntry}
-use Rattle.module_vec.specs.Results.{Has, HasTerms}
-use Rattle.module_vec.specs.Vectors.{Coefficients, sum_of, coefficient_at, InRange, HasRoom, IsWide, IsTerm, IsSparse, IsVector}
-use Rattle.module_vec.proofs.Determined.{runs_are_chains}
+use Rattle.module_vec.specs.Results.{Has}
+use Rattle.module_vec.specs.Vectors.{Coefficients, sum_of, coefficient_at, InRange, HasRoom, IsWide, IsTerm, IsSparse}
 use Rattle.module_vec.proofs.Merging.{in_range}
 use Rattle.outcomes.specs.declared.kinds.PairKind.{PairKind}
 use Rattle.outcomes.specs.declared.kinds.PairKind.TheVariants.{S, G}
-use Rattle.outcomes.specs.declared.tasks.Task.{Task}
-use Rattle.reduce_cofactor.specs.Answers.{IsRest}
 use Rattle.reduce_cofactor.proofs.Resting.{floor_in_range}
-use Rattle.step_lists.specs.Sums.{Adds, CanPass, passed, IsInReach, IsValue, zero_vector}
+use Rattle.step_lists.specs.Sums.{Adds, CanPass, passed, IsInReach, zero_vector}
 use Rattle.step_lists.specs.declared.way.Way.TheVariants.{Add}
 use Rattle.strong_pairs.specs.Covering.{Divides, Covers, FindsCover}
-use Rattle.strong_pairs.specs.Pairs.{lead_at, IsPair, pair_place, AreFactors, ArePairSteps, both_at}
+use Rattle.strong_pairs.specs.Pairs.{lead_at, IsPair, pair_place, AreFactors, ArePairSteps}
 use Rattle.strong_pairs.specs.Results.{IsPairVector, BothAreMade}
-use Rattle.strong_pairs.specs.Tasks.{step_places, StandsAt, AreStepsAt}
-use Rattle.strong_pairs.proofs.Chaining.{due_nonzero, step_stands, after_stands, chain_below, chain_up_to, s_stands, g_stands, meeting, first-length, second-length, divides_abs}
+use Rattle.strong_pairs.specs.Tasks.{StandsAt, AreStepsAt}
+use Rattle.strong_pairs.proofs.Chaining.{due_nonzero, step_stands, after_stands, chain_below, chain_up_to, s_stands, g_stands, divides_abs}
 use Rattle.strong_pairs.proofs.Coverage.{divides_itself, divides_on}
-use Rattle.strong_pairs.proofs.Determination.{same_steps}
 use Rattle.strong_pairs.proofs.Entered.{entry_at, entry_number, entry_vector, lead_length, lead_positive}
 use Rattle.strong_pairs.proofs.Exactness.{pick}
-use Rattle.strong_pairs.proofs.FallingSteps.{chain_falls}
 use Rattle.strong_pairs.proofs.LeadTerms.{divides_common}
 use Rattle.strong_pairs.proofs.Reducing.{lead_of_entry_positive}
-use Rattle.basis_entry.specs.declared.recipes.Recipe.TheVariants.{Sum}
-use Rattle.basis_entry.specs.Base.{has_negative_lead}
-use Rattle.basis_entry.specs.Entries.{BasisEntry}
-use Rattle.presentation.specs.Presented.{Presented}
-use Rattle.pair_book.specs.Logs.{turned, StandsFor, IsPairRecipe, IsFromPair, IsMadeFor}
-use Rattle.pair_book.specs.Outcomes.{IsShort}
-use Rattle.pair_book.specs.Works.{IsUncovered, IsCarriedOut, IsOfRest, recipe_of}
-use Rattle.pair_book.proofs.Turning.{adds_turned, nonzero_turned, reach_turned, steps_turned, stand_turned, falling_turned, length_turned, value_turned}
+use Rattle.pair_book.specs.Logs.{turned, StandsFor}
+use Rattle.pair_book.specs.Works.{recipe_of}
+use Rattle.pair_book.proofs.Turning.{adds_turned}
 
 places : (v : List Term) → AllByRecursion IsTerm v → AllByRecursion (λ (t : ℤ × Place). IsPlace t.1) (sum_of v)
 places [] h = tt

@@ -1,5 +1,5 @@
 -- Outcomes as they are made.
-use Rattle.std.proofs.Common.{◌≡◌, ◌≢◌, ℕ, zero, suc, Bool, true, false, List, [], ◌∷◌, length, refl, sym, ap, subst, ◌∙◌, ◌==◌, arith}
+use Rattle.std.proofs.Common.{◌≡◌, ◌≢◌, ℕ, true, false, List, [], ◌∷◌, length, refl, sym, ap, subst, ◌∙◌, ◌==◌, arith}
 use Rattle.std.specs.Prelude.{Result, Ok, Err}
 use Rattle.std.specs.Result.{IsErr, IsErrAnd}
 use Rattle.pair_book.specs.declared.faults.WorkFault.{WorkFault}
@@ -13,7 +13,7 @@ use Rattle.presentation.specs.Presented.{Presented}
 use Rattle.reduce_cofactor.specs.Answers.{IsRest}
 use Rattle.basis_entry.specs.Entries.{BasisEntry, vectors_of}
 use Rattle.pair_book.specs.declared.outcome.Close.{Close}
-use Rattle.pair_book.specs.Outcomes.{Worked, UsedEntry, AllThere, AreRising, IsTrueOf, IsOutcome}
+use Rattle.pair_book.specs.Outcomes.{Worked, UsedEntry, AllThere, IsTrueOf, IsOutcome}
 use Rattle.pair_book.specs.Works.{Works, ClosesAs, AreUsedFor, IsUncovered, IsCarriedOut, Reduces, AreUsed, HaltsBy}
 use Rattle.strong_pairs.specs.Pairs.{IsPair}
 use Rattle.pair_book.proofs.Seen.{pair_there}

@@ -1,5 +1,5 @@
 -- A recipe as it is put together.
-use Rattle.std.proofs.Common.{◌≡◌, ℕ, suc, ◌+◌, ◌<◌, ◌≤◌, Bool, true, false, not, cond, ℤ, pos, negsuc, zero, neg_ℤ, List, [], ◌∷◌, ◌++◌, map, take, length, refl, sym, ap, ◌∙◌, arith, get_or}
+use Rattle.std.proofs.Common.{◌≡◌, ℕ, suc, ◌+◌, ◌<◌, ◌≤◌, Bool, true, false, not, cond, ℤ, pos, negsuc, zero, neg_ℤ, List, [], ◌∷◌, ◌++◌, map, take, length, refl, sym, ap, ◌∙◌, get_or}
 use Rattle.std.proofs.lemmas.List.{map-append, take_more, take_all}
 use Rattle.module_vec.specs.declared.steps.Step.{Step}
 use Rattle.pair_book.specs.Logs.{turned}

@@ -1,5 +1,5 @@
 -- Why a pair's chain isn't carried out.
-use Rattle.std.proofs.Common.{◌≡◌, ℕ, List, length, take, refl, sym, subst, ap, ◌∙◌, inr}
+use Rattle.std.proofs.Common.{◌≡◌, ℕ, List, length, take, sym, subst, ap, ◌∙◌, inr}
 use Rattle.module_vec.specs.declared.places.Term.{Term}
 use Rattle.module_vec.specs.Chains.{ChainStops}
 use Rattle.module_vec.specs.Vectors.{coefficient_at}

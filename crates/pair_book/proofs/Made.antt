@@ -1,8 +1,8 @@
 -- What the work of a pair has made, over the list that it was worked by.
-use Rattle.std.proofs.Common.{◌≡◌, ◌≢◌, ℕ, ◌<◌, ◌≤◌, ◌+◌, Bool, true, false, MatchBool, ℤ, pos, negsuc, neg_ℤ, ◌+ℤ◌, ◌*ℤ◌, List, [], ◌∷◌, map, length, ◌⊎◌, inl, inr, refl, sym, ap, subst, ◌∙◌, arith}
+use Rattle.std.proofs.Common.{◌≡◌, ◌≢◌, ◌≤◌, ◌+◌, Bool, true, false, MatchBool, pos, negsuc, ◌+ℤ◌, List, [], map, length, inl, inr, refl, sym, ap, subst, ◌∙◌, arith}
 use borrow.Author.Differences.{ints}
 use Rattle.std.specs.List.{AllByRecursion}
-use Rattle.formal_sums.specs.FormalSum.{scale, Falling}
+use Rattle.formal_sums.specs.FormalSum.{scale}
 use Rattle.module_vec.specs.declared.TheConstants.{STEPS}
 use Rattle.module_vec.specs.declared.places.Place.{Place}
 use Rattle.module_vec.specs.declared.places.Term.{Term}
@@ -12,18 +12,18 @@ use Rattle.module_vec.specs.Modules.{AreSteps, steps_at}
 use Rattle.module_vec.specs.Places.{IsBelow}
 use Rattle.module_vec.specs.Reducers.{AreEntries, IsEntry}
 use Rattle.module_vec.specs.Results.{Has}
-use Rattle.module_vec.specs.Vectors.{Coefficients, sum_of, coefficient_at, InRange, IsVector}
+use Rattle.module_vec.specs.Vectors.{sum_of, coefficient_at}
 use Rattle.module_vec.proofs.Determined.{runs_are_chains}
 use Rattle.module_vec.proofs.Order.{order}
 use Rattle.outcomes.specs.declared.kinds.PairKind.{PairKind}
 use Rattle.outcomes.specs.declared.kinds.PairKind.TheVariants.{S, G}
 use Rattle.outcomes.specs.declared.tasks.Task.{Task}
 use Rattle.presentation.specs.Presented.{Presented}
-use Rattle.step_lists.specs.Sums.{IsInReach, IsValue}
+use Rattle.step_lists.specs.Sums.{IsValue}
 use Rattle.step_lists.proofs.AddingUp.{values_are_sums}
-use Rattle.strong_pairs.specs.Pairs.{lead_of, IsPair, pair_place, ArePairSteps, both_at}
+use Rattle.strong_pairs.specs.Pairs.{IsPair, pair_place, ArePairSteps, both_at}
 use Rattle.strong_pairs.specs.Results.{IsPairVector, BothAreMade}
-use Rattle.strong_pairs.specs.Tasks.{IsClosed, AreStepsAt, AreStepsBelow, StandsAt, IsUpTo, step_places}
+use Rattle.strong_pairs.specs.Tasks.{IsClosed, AreStepsAt, AreStepsBelow, StandsAt}
 use Rattle.strong_pairs.proofs.Chaining.{meeting, first-length, second-length, first_in, second_in, closed_by_chain}
 use Rattle.strong_pairs.proofs.Determination.{same_steps}
 use Rattle.strong_pairs.proofs.FallingSteps.{chain_falls}
@@ -35,7 +35,7 @@ use Rattle.basis_entry.proofs.Vectors.{positive_entry, turned_entry}
 use Rattle.pair_book.specs.Logs.{turned, StandsFor, IsPairRecipe, IsFromPair, IsMadeFor}
 use Rattle.pair_book.specs.Outcomes.{IsShort, recipe_steps, Zeroes}
 use Rattle.pair_book.specs.Works.{IsUncovered, IsCarriedOut, IsOfRest, recipe_of, signed}
-use Rattle.pair_book.proofs.Turning.{steps_turned, stand_turned, falling_turned, length_turned, value_turned, nonzero_turned, reach_turned, at_turned}
+use Rattle.pair_book.proofs.Turning.{steps_turned, stand_turned, falling_turned, length_turned, value_turned, nonzero_turned, reach_turned}
 use Rattle.pair_book.proofs.Chained.{IsSound, sound, nonzeros, reaches, factors, vector_stands, steps_stand, adds_all, end_stands}
 
 module _ (b : List (List Term)) (entries : AreEntries b) (t : Task) (pair : IsPair b t.i t.j) (un : IsUncovered b t) (first second : Step) (steps : List Step) (w : List Term) (done : IsCarriedOut b t first second steps w) where

@@ -1,32 +1,27 @@
 -- What the work of a task has shown holds in each list that has the used entries under their numbers.
-use Rattle.std.proofs.Common.{◌≡◌, ◌≢◌, ℕ, zero, suc, ◌<◌, ◌≤◌, ◌+◌, Bool, true, false, MatchBool, ℤ, pos, negsuc, ◌+ℤ◌, List, [], ◌∷◌, ◌++◌, map, length, ◌⊎◌, inl, inr, refl, sym, ap, subst, ◌∙◌, arith, Some}
+use Rattle.std.proofs.Common.{◌≡◌, ◌≢◌, ℕ, ◌<◌, Bool, true, false, ◌+ℤ◌, List, [], ◌∷◌, ◌++◌, map, length, inl, inr, refl, sym, ap, subst, ◌∙◌, arith, Some}
 use Rattle.std.proofs.lemmas.List.{length-map}
 use Rattle.std.proofs.lemmas.Option.{slice_get_within}
-use Rattle.std.specs.Arc.{arc_value}
 use Rattle.std.specs.List.{slice_get, AllByRecursion}
-use Rattle.formal_sums.specs.FormalSum.{Falling, scale}
-use Rattle.module_vec.specs.declared.places.Place.{Place}
+use Rattle.formal_sums.specs.FormalSum.{Falling}
 use Rattle.module_vec.specs.declared.places.Term.{Term}
 use Rattle.module_vec.specs.declared.steps.Step.{Step}
-use Rattle.module_vec.specs.Modules.{vector_at, steps_at}
 use Rattle.module_vec.specs.Places.{IsBelow}
 use Rattle.module_vec.specs.Reducers.{AreEntries, IsEntry}
-use Rattle.module_vec.specs.Vectors.{coefficient_at, sum_of}
+use Rattle.module_vec.specs.Vectors.{coefficient_at}
 use Rattle.outcomes.specs.declared.kinds.PairKind.{PairKind}
 use Rattle.outcomes.specs.declared.kinds.PairKind.TheVariants.{S, G}
 use Rattle.outcomes.specs.declared.tasks.Task.{Task}
 use Rattle.presentation.specs.Presented.{Presented}
 use Rattle.strong_pairs.specs.Covering.{Covers}
-use Rattle.strong_pairs.specs.Pairs.{lead_of, IsPair, pair_place, ArePairSteps, both_at}
-use Rattle.strong_pairs.specs.Tasks.{AreStepsAt, AreStepsBelow, step_places, IsClosed}
+use Rattle.strong_pairs.specs.Pairs.{lead_of, IsPair, pair_place, ArePairSteps}
+use Rattle.strong_pairs.specs.Tasks.{AreStepsAt, AreStepsBelow, IsClosed}
 use Rattle.basis_entry.specs.Base.{has_negative_lead}
 use Rattle.basis_entry.specs.Entries.{BasisEntry, IsBasisEntry, vectors_of}
 use Rattle.basis_entry.proofs.Vectors.{are_entries}
-use Rattle.pair_book.specs.declared.outcome.Close.{Close}
-use Rattle.pair_book.specs.declared.outcome.Close.TheVariants.{Covered, Zero, Rest}
 use Rattle.pair_book.specs.Logs.{turned, StandsFor, IsPairRecipe, IsFromPair, IsMadeFor}
-use Rattle.pair_book.specs.Outcomes.{UsedEntry, IsThere, AllThere, Zeroes, IsRestOf, IsTrueOf, IsOutcome}
-use Rattle.pair_book.specs.Works.{IsUncovered, IsCarriedOut, IsOfRest, IsAmong, AreUsed, recipe_of, signed}
+use Rattle.pair_book.specs.Outcomes.{UsedEntry, AllThere, Zeroes, IsRestOf}
+use Rattle.pair_book.specs.Works.{IsUncovered, IsCarriedOut, IsOfRest, IsAmong, recipe_of, signed}
 use Rattle.pair_book.proofs.Reading.{vector_of, all_from}
 use Rattle.pair_book.proofs.Transport.{Same, AllSame, place_same, pair_over, pair_steps_over, both_same, steps_same, stand_over, places_same, value_over, covers_over}
 use Rattle.pair_book.proofs.Made.{made_for, short, kind_s, stand_s, rest_below, parts, zero_s, not_g, signed_entry}

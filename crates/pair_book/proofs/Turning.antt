@@ -1,10 +1,9 @@
 -- Steps with their signs turned, and what they add up to.
-use Rattle.std.proofs.Common.{◌≡◌, ◌≢◌, ℕ, suc, ◌<◌, ◌≤◌, ℤ, pos, negsuc, neg_ℤ, ◌+ℤ◌, ◌-ℤ◌, ◌*ℤ◌, List, [], ◌∷◌, map, length, inl, inr, refl, sym, ap, subst, ◌∙◌, arith}
+use Rattle.std.proofs.Common.{◌≡◌, ◌≢◌, ℕ, suc, ◌≤◌, ℤ, pos, negsuc, neg_ℤ, ◌+ℤ◌, ◌-ℤ◌, ◌*ℤ◌, List, [], ◌∷◌, map, length, inl, inr, refl, sym, ap, subst, ◌∙◌, arith}
 use borrow.Author.Differences.{ints}
 use Rattle.std.specs.List.{AllByRecursion}
 use Rattle.formal_sums.specs.FormalSum.{Falling, AllBelow, coefficient, scale}
 use Rattle.formal_sums.proofs.Coefficients.{coefficient-scale}
-use Rattle.laurent_terms.specs.declared.TheConstants.{VARIABLES}
 use Rattle.module_vec.specs.declared.TheConstants.{TERMS}
 use Rattle.module_vec.specs.declared.places.Place.{Place}
 use Rattle.module_vec.specs.declared.places.Term.{Term}
@@ -13,9 +12,9 @@ use Rattle.module_vec.specs.Chains.{Runs, taken_at, after}
 use Rattle.module_vec.specs.Modules.{AreSteps, vector_at}
 use Rattle.module_vec.specs.Places.{IsBelow, same_place}
 use Rattle.module_vec.specs.Results.{Nowhere, HasTerms}
-use Rattle.module_vec.specs.Vectors.{Coefficients, sum_of, coefficient_at, IsWide, InRange, IsVector}
+use Rattle.module_vec.specs.Vectors.{Coefficients, sum_of, coefficient_at, IsWide}
 use Rattle.module_vec.proofs.Lookups.{turned as turned_term, sum_turned, turned_vector}
-use Rattle.step_lists.specs.Sums.{Adds, CanPass, passed, IsInReach, IsValue, zero_vector, IsWideAt}
+use Rattle.step_lists.specs.Sums.{Adds, passed, IsInReach, IsValue, zero_vector, IsWideAt}
 use Rattle.step_lists.specs.declared.way.Way.TheVariants.{Add}
 use Rattle.strong_pairs.specs.Tasks.{step_place, step_places, AreStepsAt}
 use Rattle.strong_pairs.proofs.Adding.{multiple-neg}

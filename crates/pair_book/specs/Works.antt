@@ -1,9 +1,9 @@
 -- What the work of a task comes to.
-use Rattle.std.specs.Prelude.{◌≡◌, ◌≢◌, ◌⊎◌, ◌↔◌, ℕ, ◌<◌, MatchBool, negsuc, List, [], ◌∷◌, ◌++◌, map, length, Contains, Bool, true, cond, slice_get, Option, Some, None, Result, Ok, Err}
+use Rattle.std.specs.Prelude.{◌≡◌, ◌≢◌, ◌⊎◌, ◌↔◌, ℕ, MatchBool, negsuc, List, [], ◌∷◌, ◌++◌, map, length, Contains, Bool, true, cond, slice_get, Option, Some, None, Result, Ok, Err}
 use Rattle.std.specs.Arc.{arc_value}
 use Rattle.formal_sums.specs.FormalSum.{scale}
 use Rattle.presentation.specs.Presented.{Presented}
-use Rattle.outcomes.specs.declared.kinds.PairKind.TheVariants.{S, G}
+use Rattle.outcomes.specs.declared.kinds.PairKind.TheVariants.{G}
 use Rattle.outcomes.specs.declared.tasks.Task.{Task}
 use Rattle.module_vec.specs.declared.places.Term.{Term}
 use Rattle.module_vec.specs.declared.steps.Step.{Step}

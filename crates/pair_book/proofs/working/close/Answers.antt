@@ -1,13 +1,12 @@
-use Rattle.std.proofs.Common.{◌≡◌, ◌≢◌, ℕ, List, [], ◌∷◌, map, refl, sym, subst, ap, ◌∙◌, Some}
+use Rattle.std.proofs.Common.{◌≡◌, ◌≢◌, List, [], ◌∷◌, map, refl, sym, subst, ap, ◌∙◌}
 use Rattle.std.specs.Arc.{arc_value}
-use Rattle.std.specs.List.{slice_get}
 use Rattle.module_vec.specs.declared.steps.Step.{Step}
 use Rattle.outcomes.specs.declared.kinds.PairKind.TheVariants.{S}
 use Rattle.outcomes.specs.declared.tasks.Task.{Task}
 use Rattle.basis_entry.specs.Entries.{BasisEntry, vectors_of}
 use Rattle.pair_book.specs.declared.outcome.Close.TheVariants.{Zero, Rest}
 use Rattle.pair_book.specs.Outcomes.{UsedEntry, used_entry, Zeroes}
-use Rattle.pair_book.specs.Works.{AreUsed, IsAmong, numbers_of}
+use Rattle.pair_book.specs.Works.{AreUsed, numbers_of}
 use Rattle.pair_book.proofs.Closes.{empty_of, some_of, counted, outcome, works, reduces}
 use Rattle.pair_book.proofs.Seen.{zero_there, rest_there}
 use Rattle.pair_book.proofs.Using.{used_for, rest_numbers, same_numbers, named_twice}
