@@ -19,3 +19,4 @@ pub mod Halting
 pub mod Closes
 pub mod Using
 pub mod OverSteps
+pub mod OverStops

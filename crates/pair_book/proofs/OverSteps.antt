@@ -26,7 +26,7 @@ use Rattle.pair_book.specs.Logs.{turned}
 use Rattle.pair_book.specs.Works.{IsCarriedOut, recipe_of, signed}
 
 -- each place with a coefficient is over n generators
-pub IsSupported : ℕ → Coefficients → Type 0
+unfoldable pub IsSupported : ℕ → Coefficients → Type 0
 IsSupported n f = (x : Place) → f x ≢ pos 0 → PlaceIsOver n x
 
 -- ---- sums and differences
@@ -62,7 +62,7 @@ lead_over n [] over k le = refl
 lead_over n (t ∷ v) over k le = over.0.mono k le
 
 module _ (n : ℕ) (b : List (List Term)) (entries : AreEntries b) (over : AllByRecursion (VectorIsOver n) b) where
-  taken_supported : (s : Step) → MonoIsOver n s.t → IsSupported n (taken_at b s)
+  pub taken_supported : (s : Step) → MonoIsOver n s.t → IsSupported n (taken_at b s)
   unfolding IsSupported
   taken_supported s h x some = stands n (multiple s.q s.t (vector_at b s.by)) x (multiple_over n s.q s.t (vector_at b s.by) h (vector_over n b s.by over)) some
 
@@ -78,7 +78,7 @@ module _ (n : ℕ) (b : List (List Term)) (entries : AreEntries b) (over : AllBy
   second_over t first second are =
       subst (MonoIsOver n) (sym are.second_monomial) (quotient_over n (pair_place b t.i t.j).m (lead_at b t.j).at.m (place_over t.i t.j) (lead_over n (vector_at b t.j) (vector_over n b t.j over)))
 
-  both_supported : (first second : Step) → MonoIsOver n first.t → MonoIsOver n second.t → IsSupported n (both_at b first second)
+  pub both_supported : (first second : Step) → MonoIsOver n first.t → MonoIsOver n second.t → IsSupported n (both_at b first second)
   unfolding IsSupported
   both_supported first second h k x some =
       either n x (sum_some (taken_at b first x) (taken_at b second x) some) (taken_supported first h x) (taken_supported second k x)
@@ -89,7 +89,7 @@ module _ (n : ℕ) (b : List (List Term)) (entries : AreEntries b) (over : AllBy
       both_supported pair.first pair.second (first_over t pair.first pair.second pair.steps) (second_over t pair.first pair.second pair.steps) x (λ z. some (pair.made.1.is x ∙ z))
 
   -- ---- chains
-  next_over : (f : Coefficients) (s : Step) → IsSupported n f → IsNext b f s → MonoIsOver n s.t
+  pub next_over : (f : Coefficients) (s : Step) → IsSupported n f → IsNext b f s → MonoIsOver n s.t
   unfolding IsSupported
   next_over f s supported next =
       let here : PlaceIsOver n next.place = supported next.place (due_nonzero b entries f s next) in
@@ -111,6 +111,12 @@ module _ (n : ℕ) (b : List (List Term)) (entries : AreEntries b) (over : AllBy
   run_over f g (s ∷ ss) supported run =
       let h : MonoIsOver n s.t = next_over f s supported run.0 in
       (h, run_over (after b f s) g ss (after_supported f s supported h) run.2)
+
+  pub end_supported : (f g : Coefficients) (ss : List Step) → IsSupported n f → Runs b f ss g → IsSupported n g
+  unfolding IsSupported
+  end_supported f g [] supported run = λ x some. supported x (λ z. some (run x ∙ z))
+  end_supported f g (s ∷ ss) supported run =
+      end_supported (after b f s) g ss (after_supported f s supported (next_over f s supported run.0)) run.2
 
   -- ---- recipes
   turned_over : (ss : List Step) → MonosAreOver n ss → MonosAreOver n (map turned ss)
