@@ -8,12 +8,14 @@ use Rattle.module_vec.specs.declared.places.Term.{Term}
 use Rattle.module_vec.specs.Modules.{vector_at}
 use Rattle.module_vec.specs.Vectors.{sum_of}
 use Rattle.module_vec.proofs.Scans.{read_push}
+use Rattle.vector_text.specs.Over.{VectorIsOver}
 use Rattle.fox_calculus.specs.Generators.{AreGenerators}
 use Rattle.fox_calculus.specs.Module.{IsMember}
 use Rattle.basis_entry.specs.declared.TheConstants.{BASE}
 use Rattle.basis_entry.specs.Base.{IsOfGenerator, AreBase}
 use Rattle.basis_entry.specs.Entries.{BasisEntry}
 use Rattle.basis_entry.proofs.Generators.{generator_some, generator_member, few_generators}
+use Rattle.basis_entry.proofs.Over.{generator_over}
 
 pub all_more : {X : Type 0} (P : X → Type 0) (xs : List X) (x : X) → AllByRecursion P xs → P x → AllByRecursion P (xs ++ x ∷ [])
 all_more P [] x h own = (own, tt)
@@ -73,6 +75,9 @@ module _ (p : Presented) (gens done rest : List (List Term)) (g : List Term) (is
 
   pub next_member : IsMember p (sum_of g)
   next_member = subst (λ (v : List Term). IsMember p (sum_of v)) (next_is gens done rest g is) (generator_member p gens are (length done) (next_within gens done rest g is))
+
+  pub next_over : IsPresented p → VectorIsOver (length p.names) g
+  next_over known = subst (VectorIsOver (length p.names)) (next_is gens done rest g is) (generator_over p gens known are (length done) (next_within gens done rest g is))
 
   pub next_few : IsPresented p → length done < BASE
   next_few h = omega (arith, next_within gens done rest g is, few_generators p gens h are)

@@ -3,3 +3,4 @@ pub mod Generators
 pub mod Vectors
 pub mod Growing
 pub mod Sizes
+pub mod Over

@@ -1,10 +1,11 @@
 //! The entries of the generators.
 
-ghost use Rattle.std.specs.Prelude.{◌≡◌, ◌≢◌, negsuc, List, [], map, MatchBool, IfOk};
+ghost use Rattle.std.specs.Prelude.{◌≡◌, ◌≢◌, negsuc, List, [], length, map, MatchBool, IfOk};
 ghost use Rattle.std.specs.Arc.{arc_value};
 ghost use Rattle.formal_sums.specs.FormalSum.{scale};
 ghost use Rattle.module_vec.specs.Reducers.{IsEntry};
 ghost use Rattle.module_vec.specs.Vectors.{sum_of, IsVector};
+ghost use Rattle.vector_text.specs.Over.{VectorIsOver};
 ghost use Rattle.fox_calculus.specs.Module.{IsMember};
 ghost use Rattle.basis_entry.specs.Base.{IsOfGenerator, AreBase, has_negative_lead};
 
@@ -42,6 +43,7 @@ fn generator_entry(
 ) -> Result<Arc<Entry>, AllocError>
     requires some { vector ≢ [] }
     requires member { IsMember (arc_value p.now) (sum_of vector) }
+    requires over { VectorIsOver (length (arc_value p.now).names) vector }
     ensures { IfOk result (λ e. IsOfGenerator (arc_value p.now) number vector (arc_value e)) }
 {
     let (vector, negated) = with_positive_lead(vector);

@@ -1,15 +1,16 @@
 //! `Entry`: a vector of a module, with where it comes from.
 
-ghost use Rattle.std.specs.Prelude.{◌≡◌, ◌↔◌, List, map, IsTrue, IfOk};
+ghost use Rattle.std.specs.Prelude.{◌≡◌, ◌↔◌, List, length, map, IsTrue, IfOk};
 ghost use Rattle.std.specs.Arc.{arc_value};
 ghost use Rattle.module_vec.specs.Modules.{AreSteps, steps_at};
 ghost use Rattle.module_vec.specs.Reducers.{IsEntry};
 ghost use Rattle.module_vec.specs.Results.{Has};
 ghost use Rattle.module_vec.specs.Vectors.{sum_of};
+ghost use Rattle.vector_text.specs.Over.{VectorIsOver};
 ghost use Rattle.fox_calculus.specs.Module.{IsMember};
 ghost use Rattle.basis_entry.specs.declared.recipes.Recipe.TheVariants.{Sum};
 ghost use Rattle.basis_entry.specs.Base.{AreBase};
-ghost use Rattle.basis_entry.specs.Entries.{IsBasisEntry, AreOf};
+ghost use Rattle.basis_entry.specs.Entries.{IsBasisEntry, AreOf, MonosAreOver, RecipeIsOver};
 
 use crate::base::generator_entries;
 use crate::{Front, Recipe};
@@ -48,7 +49,8 @@ impl Entry {
         generator_entries(alloc, p)
     }
 
-    /// The entry that is the sum of these steps over the list. `vector` is that sum.
+    /// The entry that is the sum of these steps over the list. `vector` is that sum. The variables of the steps are those
+    /// of the presentation's generators.
     pub fn sum<F: Front>(
         alloc: Global,
         p: &Arc<Presentation>,
@@ -60,6 +62,7 @@ impl Entry {
         requires steps { AreSteps (F.vectors list.now) steps }
         requires value { Has vector (steps_at (F.vectors list.now) steps) }
         requires entry { IsEntry vector }
+        requires over { MonosAreOver (length (arc_value p.now).names) steps }
         ensures { IfOk result (λ e. arc_value e ≡ record { source = arc_value p.now; vector = vector; recipe = Sum steps }) }
     {
         // The proof needs that the list's entries lie in the module, and the call says so.
@@ -76,6 +79,8 @@ impl Entry {
     ) -> Result<Arc<Entry>, AllocError>
         requires entry { IsEntry vector }
         requires member { IsMember (arc_value p.now) (sum_of vector) }
+        requires over { VectorIsOver (length (arc_value p.now).names) vector }
+        requires recipe { RecipeIsOver (length (arc_value p.now).names) recipe }
         ensures { IfOk result (λ e. arc_value e ≡ record { source = arc_value p.now; vector = vector; recipe = recipe }) }
     {
         let entry = Entry {

@@ -18,3 +18,5 @@ pub mod Composing
 pub mod Halting
 pub mod Closes
 pub mod Using
+pub mod OverSteps
+pub mod OverStops

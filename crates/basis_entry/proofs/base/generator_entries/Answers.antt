@@ -7,7 +7,7 @@ use Rattle.module_vec.specs.declared.places.Term.{Term}
 use Rattle.fox_calculus.specs.Generators.{AreGenerators}
 use Rattle.basis_entry.specs.Base.{IsOfGenerator}
 use Rattle.basis_entry.specs.Entries.{BasisEntry}
-use Rattle.basis_entry.proofs.Growing.{AreOfGenerators, of_more, next_some, next_member, next_few, all_taken}
+use Rattle.basis_entry.proofs.Growing.{AreOfGenerators, of_more, next_some, next_member, next_over, next_few, all_taken}
 use Rattle.basis_entry.proofs.base.generator_entries.Goals as goal
 
 pub generator_entry-requires-clause-some : goal.generator_entry-requires-clause-some
@@ -29,6 +29,17 @@ generator_entry-requires-clause-member c =
     let split : at.yielded ++ c.in-Some.vector ∷ into_iter_items c.next.new.self ≡ gens = ap (λ (r : List (List Term)). at.yielded ++ r) (sym steps) ∙ at.invariant.split in
     let are : AreGenerators p gens = search rules in
     next_member p gens at.yielded (into_iter_items c.next.new.self) c.in-Some.vector split are
+
+pub generator_entry-requires-clause-over : goal.generator_entry-requires-clause-over
+generator_entry-requires-clause-over c =
+    let p : Presented = arc_value c.args.p.now in
+    let at = c.loop-vector in
+    let gens : List (List Term) = into_iter_items c.into_iter-vector-iterator.result in
+    let steps : into_iter_items at.vector-iterator ≡ c.in-Some.vector ∷ into_iter_items c.next.new.self = c.in-Some.ensures.steps.0 in
+    let split : at.yielded ++ c.in-Some.vector ∷ into_iter_items c.next.new.self ≡ gens = ap (λ (r : List (List Term)). at.yielded ++ r) (sym steps) ∙ at.invariant.split in
+    let are : AreGenerators p gens = search rules in
+    let own : IsPresented p = search rules in
+    next_over p gens at.yielded (into_iter_items c.next.new.self) c.in-Some.vector split are own
 
 pub overflow_add-number : goal.overflow_add-number
 overflow_add-number c =

@@ -1,4 +1,5 @@
-use Rattle.std.proofs.Common.{rules, ◌≡◌, ℕ, pos, List, [], ◌∷◌, ◌++◌, sym, ap, subst, ◌∙◌}
+use Rattle.std.proofs.Common.{rules, ◌≡◌, ℕ, pos, List, [], ◌∷◌, ◌++◌, length, sym, ap, subst, ◌∙◌}
+use Rattle.std.specs.Arc.{arc_value}
 use Rattle.std.proofs.lemmas.Option.{get_or_from_slice_get}
 use Rattle.std.specs.List.{AllByRecursion}
 use Rattle.std.specs.Prelude.{Some, slice_get}
@@ -10,7 +11,8 @@ use Rattle.module_vec.specs.declared.steps.Step.{Step}
 use Rattle.module_vec.specs.Modules.{steps_at}
 use Rattle.module_vec.specs.Places.{same_place}
 use Rattle.module_vec.specs.Vectors.{coefficient_at, multiple, IsTerm}
-use Rattle.basis_entry.specs.Entries.{vectors_of}
+use Rattle.vector_text.proofs.Over.{one_over}
+use Rattle.basis_entry.specs.Entries.{MonosAreOver, vectors_of}
 use Rattle.basis_entry.proofs.Generators.{once}
 use Rattle.basis_entry.proofs.tests.once.Goals as goal
 
@@ -29,3 +31,9 @@ sum-requires-clause-value c =
     let terms : AllByRecursion IsTerm v = search rules in
     subst (λ (w : List Term). (x : Place) → coefficient_at w x ≡ steps_at (vectors_of c.args.list.now) c.of.result x) (sym same)
     (once_is (vectors_of c.args.list.now) c.args.at v c.of.result c.vector.ensures.is is terms)
+
+pub sum-requires-clause-over : goal.sum-requires-clause-over
+sum-requires-clause-over c =
+    let n : ℕ = length (arc_value c.args.p.now).names in
+    let is : c.of.result ≡ record { q = pos 1; t = one; by = c.args.at } ∷ [] = search rules in
+    subst (MonosAreOver n) (sym is) (one_over n, tt)

@@ -1,4 +1,4 @@
-use Rattle.std.proofs.Common.{◌≡◌, List, sym, subst, ap, ◌∙◌}
+use Rattle.std.proofs.Common.{◌≡◌, ℕ, List, length, sym, subst, ap, ◌∙◌}
 use Rattle.std.specs.List.{AllByRecursion}
 use Rattle.module_vec.specs.declared.places.Term.{Term}
 use Rattle.module_vec.specs.declared.steps.Step.{Step}
@@ -6,11 +6,14 @@ use Rattle.module_vec.specs.Modules.{AreSteps}
 use Rattle.module_vec.specs.Results.{Has}
 use Rattle.module_vec.specs.Modules.{steps_at}
 use Rattle.module_vec.specs.Vectors.{InRange}
-use Rattle.basis_entry.specs.Entries.{BasisEntry, vectors_of}
+use Rattle.std.specs.Arc.{arc_value}
+use Rattle.basis_entry.specs.Entries.{BasisEntry, MonosAreOver, vectors_of}
+use Rattle.basis_entry.proofs.Over.{entries_over}
 use Rattle.basis_entry.proofs.Vectors.{are_entries}
 use Rattle.pair_book.specs.Works.{signed, recipe_of}
 use Rattle.pair_book.proofs.Chained.{ranges}
 use Rattle.pair_book.proofs.Made.{all_sound, signed_are, signed_has, signed_entry}
+use Rattle.pair_book.proofs.OverSteps.{signed_over}
 use Rattle.pair_book.proofs.working.rest_entry.Goals as goal
 
 pub recipe-requires-clause-steps : goal.recipe-requires-clause-steps
@@ -43,3 +46,13 @@ sum-requires-clause-entry g c =
     let es : List BasisEntry = g.F.Front.entries c.args.list.now in
     let d = c.args.done in
     signed_entry (vectors_of es) (are_entries es c.front.ensures.entries) c.args.task c.requires.pair c.requires.uncovered d.first d.second d.steps.items d.rest c.requires.done c.has_negative_lead-negated.result c.turned_if-vector.result c.requires.some (sym c.has_negative_lead-negated.ensures) c.turned_if-vector.ensures
+
+pub sum-requires-clause-over : goal.sum-requires-clause-over
+sum-requires-clause-over g c =
+    let es : List BasisEntry = g.F.Front.entries c.args.list.now in
+    let n : ℕ = length (arc_value c.args.p.now).names in
+    let d = c.args.done in
+    let steps : List Step = c.of.result in
+    let is : steps ≡ signed c.has_negative_lead-negated.result (recipe_of d.first d.second d.steps.items) = c.of.ensures ∙ c.in_ok-recipe.ensures ∙ ap (λ (ss : List Step). signed c.has_negative_lead-negated.result (recipe_of d.first d.second ss)) c.deref.ensures.value in
+    subst (MonosAreOver n) (sym is)
+    (signed_over n (vectors_of es) (are_entries es c.front.ensures.entries) (entries_over (arc_value c.args.p.now) es c.front.ensures.entries c.requires.entries) c.args.task d.first d.second d.steps.items d.rest c.requires.done c.has_negative_lead-negated.result)
