@@ -1,5 +1,6 @@
 -- The one spelling of the lines of a report, without their line ends, over the names of generators.
-use Rattle.std.specs.Prelude.{ℕ, if◌then◌else◌, codes, decimal, List, ◌++◌}
+use Rattle.std.specs.List.{flat_map}
+use Rattle.std.specs.Prelude.{ℕ, if◌then◌else◌, codes, decimal, List, [], ◌∷◌, ◌++◌}
 use Rattle.presentation.specs.Presented.{Presented}
 use Rattle.presentation.specs.Writing.{written_presentation}
 use Rattle.module_vec.specs.declared.faults.Stop.{Stop}
@@ -92,3 +93,11 @@ line_text p (lines.End end) = codes "end " ++ end_text p.names end
 line_text p (lines.Close session number question verdict) =
     codes "close " ++ spaced (decimal session) (spaced (decimal number) (answer_text p.names question verdict))
 line_text p lines.Done = codes "done"
+
+-- each of these lines, with its end
+abbrev pub lines_text : Presented → List Line → List ℕ
+lines_text p ls = flat_map (λ l. line_text p l ++ 10 ∷ []) ls
+
+-- a whole report: the two lines at the head, and these lines
+abbrev pub report_text : Presented → List Line → List ℕ
+report_text p ls = title ++ 10 ∷ (pres_line p ++ 10 ∷ lines_text p ls)

@@ -19,9 +19,11 @@ mod verdicts;
 mod writing;
 
 pub use heads::{is_pres_line, is_title};
-pub use lines::{Line, Made};
+pub use lines::{Line, Made, QuestionNumber};
 pub use reading::read_line;
-pub use writing::{put_line, write_line};
+pub use writing::{
+    put_closing, put_ending, put_generator, put_line, put_live, put_proof, put_sum, write_line,
+};
 
 #[cfg(test)]
 mod tests;

@@ -1,5 +1,7 @@
 //! The lines of a report.
 
+ghost use Rattle.std.specs.Prelude.{◌≡◌};
+
 use module_vec::ModVec;
 use outcomes::{End, Verdict};
 use session_text::Question;
@@ -50,4 +52,20 @@ pub enum Line {
     },
     /// The last line.
     Done,
+}
+
+/// The numbers of a session and of one of its questions, each counted from 1.
+#[derive(Clone, Copy)]
+pub struct QuestionNumber {
+    pub session: u32,
+    pub number: u32,
+}
+
+impl QuestionNumber {
+    /// This question of this session.
+    pub fn new(session: u32, number: u32) -> QuestionNumber
+        ensures { result ≡ record { session = session; number = number } }
+    {
+        QuestionNumber { session, number }
+    }
 }

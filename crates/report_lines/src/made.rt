@@ -1,15 +1,16 @@
 //! The texts of how entries were made.
 
-ghost use Rattle.std.specs.Prelude.{◌≡◌, ◌++◌, length, OnOk};
+ghost use Rattle.std.specs.Prelude.{◌≡◌, ◌++◌, ℕ, List, length, OnOk};
 ghost use Rattle.vector_text.specs.Reading.{Reads};
+ghost use Rattle.report_lines.specs.declared.lines.Made.TheVariants.{Gen};
 ghost use Rattle.report_lines.specs.Texts.{made_text};
-ghost use Rattle.report_lines.specs.Lines.{MadeIsOver, IsMadeOf};
+ghost use Rattle.report_lines.specs.Lines.{IsMadeOf};
 
 use crate::Made;
 use crate::parts::behind;
 use presentation::Presentation;
 use std::alloc::{AllocError, Global};
-use step_text::{put_steps, read_steps};
+use step_text::read_steps;
 use vector_text::SpellFault;
 
 /// How an entry was made, as the text spells it.
@@ -27,17 +28,13 @@ pub fn read_made(alloc: Global, p: &Presentation, text: &[u8]) -> Result<Made, S
     Ok(Made::Sum { steps })
 }
 
-/// Appends the text of how an entry was made.
-pub fn put_made(out: &mut Vec<u8>, p: &Presentation, made: &Made) -> Result<(), AllocError>
-    requires { MadeIsOver (length p.now.names) made.now }
-    ensures { OnOk result (out.new.items ≡ out.old.items ++ made_text p.now.names made.now) }
+/// Appends the text of how the entry of a generator, or of its negative, was made.
+pub fn put_sign(out: &mut Vec<u8>, negated: bool) -> Result<(), AllocError>
+    ensures { (names : List (List ℕ)) → OnOk result (out.new.items ≡ out.old.items ++ made_text names (Gen negated)) }
 {
-    match made {
-        Made::Gen { negated: true } => out.extend_from_slice(b"gen -"),
-        Made::Gen { negated: false } => out.extend_from_slice(b"gen +"),
-        Made::Sum { steps } => {
-            out.extend_from_slice(b"sum ")?;
-            put_steps(out, p, steps.steps())
-        }
+    if negated {
+        out.extend_from_slice(b"gen -")
+    } else {
+        out.extend_from_slice(b"gen +")
     }
 }

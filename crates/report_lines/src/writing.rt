@@ -2,18 +2,18 @@
 
 ghost use Rattle.std.specs.Prelude.{◌≡◌, ◌++◌, codes, decimal, length, IfOk, OnOk};
 ghost use Rattle.session_text.specs.Questions.{IsQuestion};
-ghost use Rattle.step_text.specs.Spelling.{steps_text};
 ghost use Rattle.step_text.specs.Over.{StepsAreOver};
 ghost use Rattle.vector_text.specs.Over.{VectorIsOver};
-ghost use Rattle.vector_text.specs.Spelling.{vector_text};
-ghost use Rattle.report_lines.specs.Texts.{spaced, coloned, made_text, end_text, answer_text, line_text};
+ghost use Rattle.report_lines.specs.declared.lines.Made.TheVariants.{Gen, Sum};
+ghost use Rattle.report_lines.specs.declared.lines.Line.TheVariants as lines;
+ghost use Rattle.report_lines.specs.Texts.{line_text};
 ghost use Rattle.report_lines.specs.Lines.{MadeIsOver, EndIsOver, VerdictIsOver, LineIsOver, IsLineOf};
 ghost use Rattle.report_lines.specs.Reading.{IsLineReadBack};
 
 use crate::answers::put_answer;
 use crate::ends::put_end;
-use crate::made::put_made;
-use crate::{Line, Made};
+use crate::made::put_sign;
+use crate::{Line, Made, QuestionNumber};
 use module_vec::ModVec;
 use outcomes::{End, Verdict};
 use presentation::Presentation;
@@ -60,10 +60,8 @@ pub fn put_line(
             question,
             verdict,
         } => {
-            put_word_and_numbers(out, b"live ", *session, *number)?;
-            write_number(out, *front)?;
-            out.extend_from_slice(b" ")?;
-            put_answer(alloc, out, p, question, verdict)
+            let at = QuestionNumber::new(*session, *number);
+            put_live(alloc, out, p, at, *front, question, verdict)
         }
         Line::Proof { subject, steps } => put_proof(out, p, *subject, steps),
         Line::End(end) => put_ending(out, p, end),
@@ -72,7 +70,10 @@ pub fn put_line(
             number,
             question,
             verdict,
-        } => put_closing(alloc, out, p, *session, *number, question, verdict),
+        } => {
+            let at = QuestionNumber::new(*session, *number);
+            put_closing(alloc, out, p, at, question, verdict)
+        }
         Line::Done => out.extend_from_slice(b"done"),
     }
 }
@@ -86,24 +87,82 @@ fn put_entry(
 ) -> Result<(), AllocError>
     requires made { MadeIsOver (length p.now.names) made.now }
     requires vector { VectorIsOver (length p.now.names) vector.now }
-    ensures { OnOk result (out.new.items ≡ out.old.items ++ (codes "entry " ++ spaced (decimal number) (coloned (made_text p.now.names made.now) (vector_text p.now.names vector.now)))) }
+    ensures { OnOk result (out.new.items ≡ out.old.items ++ line_text p.now (lines.Entry number made.now vector.now)) }
+{
+    match made {
+        Made::Gen { negated } => put_generator(out, p, number, *negated, vector),
+        Made::Sum { steps } => put_sum(out, p, number, steps, vector),
+    }
+}
+
+/// Appends the line of the entry of a generator, or of its negative.
+pub fn put_generator(
+    out: &mut Vec<u8>,
+    p: &Presentation,
+    number: u32,
+    negated: bool,
+    vector: &ModVec,
+) -> Result<(), AllocError>
+    requires { VectorIsOver (length p.now.names) vector.now }
+    ensures { OnOk result (out.new.items ≡ out.old.items ++ line_text p.now (lines.Entry number (Gen negated) vector.now)) }
 {
     out.extend_from_slice(b"entry ")?;
     write_number(out, number)?;
     out.extend_from_slice(b" ")?;
-    put_made(out, p, made)?;
+    put_sign(out, negated)?;
     out.extend_from_slice(b" : ")?;
     put_vector(out, p, vector)
 }
 
-fn put_proof(
+/// Appends the line of an entry that is the sum of these steps.
+pub fn put_sum(
+    out: &mut Vec<u8>,
+    p: &Presentation,
+    number: u32,
+    steps: &Steps,
+    vector: &ModVec,
+) -> Result<(), AllocError>
+    requires steps { StepsAreOver (length p.now.names) steps.now }
+    requires vector { VectorIsOver (length p.now.names) vector.now }
+    ensures { OnOk result (out.new.items ≡ out.old.items ++ line_text p.now (lines.Entry number (Sum steps.now) vector.now)) }
+{
+    out.extend_from_slice(b"entry ")?;
+    write_number(out, number)?;
+    out.extend_from_slice(b" sum ")?;
+    put_steps(out, p, steps.steps())?;
+    out.extend_from_slice(b" : ")?;
+    put_vector(out, p, vector)
+}
+
+/// Appends the line of an answer after `front` items.
+pub fn put_live(
+    alloc: Global,
+    out: &mut Vec<u8>,
+    p: &Presentation,
+    at: QuestionNumber,
+    front: u32,
+    question: &Question,
+    verdict: &Verdict,
+) -> Result<(), AllocError>
+    requires question { IsQuestion p.now question.now }
+    requires verdict { VerdictIsOver (length p.now.names) verdict.now }
+    ensures { OnOk result (out.new.items ≡ out.old.items ++ line_text p.now (lines.Live at.session at.number front question.now verdict.now)) }
+{
+    put_word_and_numbers(out, b"live ", at)?;
+    write_number(out, front)?;
+    out.extend_from_slice(b" ")?;
+    put_answer(alloc, out, p, question, verdict)
+}
+
+/// Appends the line of a proof.
+pub fn put_proof(
     out: &mut Vec<u8>,
     p: &Presentation,
     subject: u32,
     steps: &Steps,
 ) -> Result<(), AllocError>
     requires { StepsAreOver (length p.now.names) steps.now }
-    ensures { OnOk result (out.new.items ≡ out.old.items ++ (codes "proof " ++ spaced (decimal subject) (steps_text p.now.names steps.now))) }
+    ensures { OnOk result (out.new.items ≡ out.old.items ++ line_text p.now (lines.Proof subject steps.now)) }
 {
     out.extend_from_slice(b"proof ")?;
     write_number(out, subject)?;
@@ -111,43 +170,43 @@ fn put_proof(
     put_steps(out, p, steps.steps())
 }
 
-fn put_ending(out: &mut Vec<u8>, p: &Presentation, end: &End) -> Result<(), AllocError>
+/// Appends the line of the end.
+pub fn put_ending(out: &mut Vec<u8>, p: &Presentation, end: &End) -> Result<(), AllocError>
     requires { EndIsOver (length p.now.names) end.now }
-    ensures { OnOk result (out.new.items ≡ out.old.items ++ (codes "end " ++ end_text p.now.names end.now)) }
+    ensures { OnOk result (out.new.items ≡ out.old.items ++ line_text p.now (lines.End end.now)) }
 {
     out.extend_from_slice(b"end ")?;
     put_end(out, p, end)
 }
 
-fn put_closing(
+/// Appends the line of an answer behind the end.
+pub fn put_closing(
     alloc: Global,
     out: &mut Vec<u8>,
     p: &Presentation,
-    session: u32,
-    number: u32,
+    at: QuestionNumber,
     question: &Question,
     verdict: &Verdict,
 ) -> Result<(), AllocError>
     requires question { IsQuestion p.now question.now }
     requires verdict { VerdictIsOver (length p.now.names) verdict.now }
-    ensures { OnOk result (out.new.items ≡ out.old.items ++ (codes "close " ++ spaced (decimal session) (spaced (decimal number) (answer_text p.now.names question.now verdict.now)))) }
+    ensures { OnOk result (out.new.items ≡ out.old.items ++ line_text p.now (lines.Close at.session at.number question.now verdict.now)) }
 {
-    put_word_and_numbers(out, b"close ", session, number)?;
+    put_word_and_numbers(out, b"close ", at)?;
     put_answer(alloc, out, p, question, verdict)
 }
 
-// A word that ends with a space, and two numbers with a space behind each.
+// A word that ends with a space, and the numbers of a session and of a question with a space behind each.
 fn put_word_and_numbers(
     out: &mut Vec<u8>,
     word: &[u8],
-    session: u32,
-    number: u32,
+    at: QuestionNumber,
 ) -> Result<(), AllocError>
-    ensures { OnOk result (out.new.items ≡ out.old.items ++ (word.now ++ (decimal session ++ (codes " " ++ (decimal number ++ codes " "))))) }
+    ensures { OnOk result (out.new.items ≡ out.old.items ++ (word.now ++ (decimal at.session ++ (codes " " ++ (decimal at.number ++ codes " "))))) }
 {
     out.extend_from_slice(word)?;
-    write_number(out, session)?;
+    write_number(out, at.session)?;
     out.extend_from_slice(b" ")?;
-    write_number(out, number)?;
+    write_number(out, at.number)?;
     out.extend_from_slice(b" ")
 }

@@ -1,0 +1,82 @@
+//! Writing a report.
+
+ghost use Rattle.std.specs.Prelude.{◌≤◌, IfErr, OnOk};
+ghost use Rattle.report_text.specs.Histories.{History};
+ghost use Rattle.report_text.specs.Reports.{reported, IsReportable, IsHistoryOf, text_of};
+ghost use Rattle.report_text.specs.Writing.{Puts, HasCause};
+
+use crate::closing::put_closings;
+use crate::entries::put_items;
+use crate::items::Items;
+use crate::log::Log;
+use crate::pieces::put_with_end;
+use crate::{Report, WriteFault};
+use basis_entry::{Entry, Sealed};
+use mb_io::Sink;
+use outcomes::End;
+use presentation::{Presentation, write_presentation};
+use reducer_index::{Index, Indexed};
+use report_lines::put_ending;
+use std::alloc::{AllocError, Global};
+use std::sync::Arc;
+
+/// Writes the text of the report, line by line. Where the sink tells its bytes, `Ok` has appended that text, and a refusal a
+/// front of it.
+///
+/// `Failed` comes only where the sink has counted a failure.
+pub fn write_report<K: Sink>(alloc: Global, r: &Report, out: &mut K) -> Result<(), WriteFault>
+    requires { IsReportable (reported r.now) }
+    // There is one history of the report alone.
+    ensures text { (h : History) → IsHistoryOf (reported r.now) h →
+        Puts (record { taken = K.taken out.old; faults = K.faults out.old }) (text_of (reported r.now) h) result (record { taken = K.taken out.new; faults = K.faults out.new }) }
+    ensures told { OnOk result ((h : History) × IsHistoryOf (reported r.now) h) }
+    ensures later { K.faults out.old ≤ K.faults out.new }
+    ensures cause { IfErr result (λ fault. HasCause (record { taken = K.taken out.old; faults = K.faults out.old }) fault (record { taken = K.taken out.new; faults = K.faults out.new })) }
+{
+    let index = index_of(alloc, &r.entries)?;
+    let items = Items::of(&r.entries, seal_of(r));
+    let list = Indexed::over(&items, &index);
+    let log = Log::new(&r.pres, &list);
+    put_head(alloc, &r.pres, out)?;
+    put_items(alloc, &log, &r.sessions, out)?;
+    put_end(alloc, &r.pres, &r.end, out)?;
+    put_closings(alloc, &log, &r.sessions, out)?;
+    put_with_end(Vec::from_slice(alloc, b"done")?, out)
+}
+
+/// The seal of the report.
+fn seal_of(r: &Report) -> Option<&Sealed> {
+    match &r.sealed {
+        Some(seal) => Some(seal),
+        None => None,
+    }
+}
+
+/// The leads of the entries.
+fn index_of(alloc: Global, entries: &[Arc<Entry>]) -> Result<Index, AllocError> {
+    let mut index = Index::new(alloc);
+    for entry in entries {
+        index.push(entry.vector().terms()[0])?;
+    }
+    Ok(index)
+}
+
+/// Writes the two lines at the head.
+fn put_head<K: Sink>(alloc: Global, p: &Presentation, out: &mut K) -> Result<(), WriteFault> {
+    put_with_end(Vec::from_slice(alloc, b"metab report 1")?, out)?;
+    let mut line = Vec::from_slice(alloc, b"pres ")?;
+    line.extend_from_slice(&write_presentation(alloc, p)?)?;
+    put_with_end(line, out)
+}
+
+/// Writes the line of the end.
+fn put_end<K: Sink>(
+    alloc: Global,
+    p: &Presentation,
+    end: &End,
+    out: &mut K,
+) -> Result<(), WriteFault> {
+    let mut line = Vec::new(alloc);
+    put_ending(&mut line, p, end)?;
+    put_with_end(line, out)
+}
