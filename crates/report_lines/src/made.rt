@@ -1,8 +1,7 @@
 //! The texts of how entries were made.
 
-ghost use Rattle.std.specs.Prelude.{◌≡◌, ◌++◌, ℕ, List, length, OnOk};
+ghost use Rattle.std.specs.Prelude.{◌≡◌, ◌++◌, codes, length, if◌then◌else◌, OnOk};
 ghost use Rattle.vector_text.specs.Reading.{Reads};
-ghost use Rattle.report_lines.specs.declared.lines.Made.TheVariants.{Gen};
 ghost use Rattle.report_lines.specs.Texts.{made_text};
 ghost use Rattle.report_lines.specs.Lines.{IsMadeOf};
 
@@ -30,7 +29,7 @@ pub fn read_made(alloc: Global, p: &Presentation, text: &[u8]) -> Result<Made, S
 
 /// Appends the text of how the entry of a generator, or of its negative, was made.
 pub fn put_sign(out: &mut Vec<u8>, negated: bool) -> Result<(), AllocError>
-    ensures { (names : List (List ℕ)) → OnOk result (out.new.items ≡ out.old.items ++ made_text names (Gen negated)) }
+    ensures { OnOk result (out.new.items ≡ out.old.items ++ (if negated then codes "gen -" else codes "gen +")) }
 {
     if negated {
         out.extend_from_slice(b"gen -")
