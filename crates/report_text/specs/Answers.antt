@@ -1,5 +1,5 @@
 -- Which answers are right.
-use Rattle.std.specs.Prelude.{◌≡◌, ℕ, ◌+◌, ◌<◌, nat_lt, if◌then◌else◌, List, [], ◌∷◌, length, take, slice_get, Option, Some, None}
+use Rattle.std.specs.Prelude.{◌≡◌, ℕ, nat_lt, if◌then◌else◌, List, [], length, take, slice_get, Option, Some, None}
 use Rattle.free_words.specs.declared.letter.Letter.{Letter}
 use Rattle.presentation.specs.Presented.{Presented}
 use Rattle.module_vec.specs.declared.places.Term.{Term}
@@ -12,7 +12,6 @@ use Rattle.basis_entry.specs.Entries.{BasisEntry, vectors_of}
 use Rattle.basis_entry.specs.Seals.{Seal, item_count}
 use Rattle.session_core.specs.declared.kept.Kept.{Kept}
 use Rattle.session_core.specs.Proofs.{AreStepsOf}
-use Rattle.session_core.specs.Replies.{tag_of}
 use Rattle.session_core.specs.Sessions.{SessionState}
 use Rattle.session_core.specs.Verdicts.{IsVerdict}
 use Rattle.report_text.specs.Histories.{Reply, Answered, SessionAnswers}
@@ -39,11 +38,9 @@ to_show q (verdicts.Unknown j) = []
 to_show q (verdicts.Stop j stop) = []
 
 -- for each word in order the steps of its Fox vector's chain
-abbrev pub AreProofsOf : List (List Term) → List (List Letter) → List (List Step) → Type 0
-AreProofsOf b [] [] = Unit {0}
-AreProofsOf b [] (steps ∷ proofs) = ⊥
-AreProofsOf b (w ∷ ws) [] = ⊥
-AreProofsOf b (w ∷ ws) (steps ∷ proofs) = AreStepsOf b w steps × AreProofsOf b ws proofs
+pub record AreProofsOf (b : List (List Term)) (ws : List (List Letter)) (proofs : List (List Step)) : Type 0 where
+  pub count : length proofs ≡ length ws
+  pub each : (i : ℕ) (w : List Letter) (steps : List Step) → slice_get ws i ≡ Some w → slice_get proofs i ≡ Some steps → AreStepsOf b w steps
 
 -- the reply is the verdict on the question by the items below its front, with its proofs by the entries below it
 pub record IsReplyTo (p : Presented) (es : List BasisEntry) (seal : Option Seal) (q : Question) (r : Reply) : Type 0 where
@@ -62,16 +59,21 @@ IsOpen (verdicts.Fails j) = ⊥
 IsOpen (verdicts.Unknown j) = Unit {0}
 IsOpen (verdicts.Stop j stop) = Unit {0}
 
+-- a reply by all items
+pub record IsClosingReply (p : Presented) (es : List BasisEntry) (seal : Option Seal) (q : Question) (r : Reply) : Type 0 where
+  pub front : r.front ≡ item_count es seal
+  pub reply : IsReplyTo p es seal q r
+
 -- a question that was left open, and no other, is answered once more by all items
 abbrev pub IsClosing : Presented → List BasisEntry → Option Seal → Question → Verdict → Option Reply → Type 0
 IsClosing p es seal q live None = IsOpen live → ⊥
-IsClosing p es seal q live (Some r) = IsOpen live × (r.front ≡ item_count es seal) × IsReplyTo p es seal q r
+IsClosing p es seal q live (Some r) = IsOpen live × IsClosingReply p es seal q r
 
--- the reply that was kept is told, and closed where it left the question open
+-- the verdict on the question by the items below the front of the reply that was kept, and a closing one where that leaves it
+-- open
 pub record IsAnswered (p : Presented) (es : List BasisEntry) (seal : Option Seal) (q : Question) (k : Kept) (a : Answered) : Type 0 where
   pub question : a.question ≡ q
   pub front : a.live.front ≡ k.front
-  pub tag : k.tag ≡ tag_of a.live.verdict
   pub live : IsReplyTo p es seal q a.live
   pub closing : IsClosing p es seal q a.live.verdict a.closing
 

@@ -58,7 +58,7 @@ closing_lines s n q (Some r) = lines.Close s n q r.verdict ∷ proof_lines 1 r.p
 -- of the questions from number n on, those that were answered at the front
 abbrev pub live_from : ℕ → ℕ → ℕ → List Answered → List Line
 live_from front s n [] = []
-live_from front s n (a ∷ as) = (if a.live.front == front then live_lines s n a else []) ++ live_from front s (n + 1) as
+live_from front s n (a ∷ others) = (if a.live.front == front then live_lines s n a else []) ++ live_from front s (n + 1) others
 
 -- by session and question, what was answered at the front
 abbrev pub live_at : ℕ → List SessionAnswers → List Line
@@ -68,7 +68,7 @@ live_at front (s ∷ ss) = live_from front s.number 1 s.answers ++ live_at front
 -- of the questions from number n on, those that are answered behind the end
 abbrev pub closing_from : ℕ → ℕ → List Answered → List Line
 closing_from s n [] = []
-closing_from s n (a ∷ as) = closing_lines s n a.question a.closing ++ closing_from s (n + 1) as
+closing_from s n (a ∷ others) = closing_lines s n a.question a.closing ++ closing_from s (n + 1) others
 
 -- by session and question, what is answered behind the end
 abbrev pub closing_of : List SessionAnswers → List Line

@@ -4,6 +4,7 @@ use Rattle.std.specs.Prelude.{◌≡◌, ◌↔◌, ℕ, ◌+◌, ◌<◌, ◌�
 use Rattle.std.specs.Arc.{arc_value}
 use Rattle.presentation.specs.Presented.{Presented}
 use Rattle.module_vec.specs.declared.places.Term.{Term}
+use Rattle.module_vec.specs.declared.steps.Step.{Step}
 use Rattle.step_lists.specs.Sums.{IsValue}
 use Rattle.vector_text.specs.Over.{VectorIsOver}
 use Rattle.outcomes.specs.declared.ends.End.{End}
@@ -11,8 +12,7 @@ use Rattle.outcomes.specs.declared.ends.End.TheVariants.{Sealed}
 use Rattle.session_text.specs.declared.question.Question.{Question}
 use Rattle.report_lines.specs.Lines.{EndIsOver, MadeIsOver}
 use Rattle.report_lines.specs.Texts.{report_text}
-use Rattle.basis_entry.specs.declared.recipes.Recipe.{Recipe}
-use Rattle.basis_entry.specs.declared.recipes.Recipe.TheVariants.{Gen, Sum}
+use Rattle.basis_entry.specs.declared.recipes.Recipe.TheVariants.{Sum}
 use Rattle.basis_entry.specs.Base.{AreBase}
 use Rattle.basis_entry.specs.Entries.{BasisEntry, AreOf, vectors_of}
 use Rattle.basis_entry.specs.Seals.{Seal}
@@ -57,7 +57,7 @@ text_of r h = report_text r.pres (lines_of h)
 
 -- the entry is the sum of its recipe's steps, none of them with the factor 0, over entries with these vectors
 pub record IsSumOver (b : List (List Term)) (e : BasisEntry) : Type 0 where
-  pub steps : List _
+  pub steps : List Step
   pub recipe : e.recipe ≡ Sum steps
   pub value : IsValue b steps e.vector
 
@@ -73,13 +73,21 @@ pub record EntryIsOver (n : ℕ) (e : BasisEntry) : Type 0 where
   pub vector : VectorIsOver n e.vector
   pub recipe : MadeIsOver n (made_by e.recipe)
 
--- each question has its reply, by the items below a front that is at least `base`
-pub record IsReplied (p : Presented) (base : ℕ) (es : List BasisEntry) (seal : Option Seal) (s : SessionState) : Type 0 where
+-- entries of the presentation, over its generators
+pub record IsLog (p : Presented) (es : List BasisEntry) : Type 0 where
+  pub source : AreOf p es
+  pub over : AllByRecursion (EntryIsOver (length p.names)) es
+
+-- each question can be asked and has its reply, by the items below the reply's front
+pub record IsReplied (p : Presented) (es : List BasisEntry) (seal : Option Seal) (s : SessionState) : Type 0 where
   pub asked : AllByRecursion (CanBeAsked p) s.questions
   pub count : length s.kept ≡ length s.questions
-  pub low : (i : ℕ) (k : Kept) → slice_get s.kept i ≡ Some k → base ≤ k.front
   pub each : (i : ℕ) (q : Question) (k : Kept) → slice_get s.questions i ≡ Some q → slice_get s.kept i ≡ Some k
       → IsReply p (take k.front es) (seal_below es seal k.front) q k
+
+-- no front is below that of the generators' entries
+abbrev pub AreFrom : ℕ → SessionState → Type 0
+AreFrom base s = AllByRecursion (λ k. base ≤ k.front) s.kept
 
 -- what a report has to be, to be written
 pub record IsReportable (r : Reported) : Type 0 where
@@ -90,4 +98,5 @@ pub record IsReportable (r : Reported) : Type 0 where
   pub end : EndIsOver (length r.pres.names) r.end
   pub sealed : IsSome r.seal ↔ (r.end ≡ Sealed)
   pub numbers : (i : ℕ) (s : SessionState) → slice_get r.sessions i ≡ Some s → s.number ≡ i + 1
-  pub replies : (i : ℕ) (s : SessionState) → slice_get r.sessions i ≡ Some s → IsReplied r.pres base r.entries r.seal s
+  pub fronts : AllByRecursion (AreFrom base) r.sessions
+  pub replies : AllByRecursion (IsReplied r.pres r.entries r.seal) r.sessions

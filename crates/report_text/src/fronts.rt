@@ -1,6 +1,7 @@
 //! `Below`: the items below a front.
 
-ghost use Rattle.std.specs.Prelude.{◌≡◌, take, length};
+ghost use Rattle.std.specs.Prelude.{◌≡◌, take};
+ghost use Rattle.basis_entry.specs.Entries.{vectors_of};
 ghost use Rattle.report_text.specs.Answers.{seal_below};
 
 use basis_entry::{Entry, Front, Sealed};
@@ -15,7 +16,7 @@ pub struct Below<'a, L: Front> {
 }
 
 impl<'a, L: Front> VecList for Below<'a, L> {
-    ghost vectors = { λ x. take x.front (L.vectors x.list.now) };
+    ghost vectors = { λ x. vectors_of (take x.front (L.entries x.list.now)) };
 
     fn count(&self) -> u32 {
         self.list.count().min(self.front)
@@ -31,13 +32,13 @@ impl<'a, L: Front> VecList for Below<'a, L> {
 }
 
 impl<'a, L: Front> Front for Below<'a, L> {
-    ghost use Rattle.report_text.proofs.Lists.{vectors_taken};
+    ghost use Rattle.std.proofs.Common.{refl};
 
     ghost entries = { λ x. take x.front (L.entries x.list.now) };
 
     ghost seal = { λ x. seal_below (L.entries x.list.now) (L.seal x.list.now) x.front };
 
-    ghost vectors_are = { λ x. vectors_taken x.front (L.vectors x.list.now) (L.entries x.list.now) (L.vectors_are x.list.now) };
+    ghost vectors_are = { λ x. refl };
 
     fn front(&self) -> u32 {
         self.list.front().min(self.front)

@@ -14,8 +14,8 @@ mod items;
 mod live;
 mod log;
 mod pieces;
-mod proofs;
 mod report;
+mod showing;
 mod writing;
 
 pub use faults::WriteFault;

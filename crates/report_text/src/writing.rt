@@ -1,9 +1,16 @@
 //! Writing a report.
 
-ghost use Rattle.std.specs.Prelude.{◌≤◌, IfErr, OnOk};
+ghost use Rattle.std.specs.List.{AllByRecursion};
+ghost use Rattle.std.specs.Prelude.{◌≡◌, ◌+◌, ◌<◌, ◌^◌, ◌++◌, ◌∷◌, [], length, map, option_map, IfOk, OnOk};
+ghost use Rattle.std.specs.Arc.{arc_value};
+ghost use Rattle.reducer_index.specs.Leads.{AreLeads};
+ghost use Rattle.report_lines.specs.declared.lines.Line.TheVariants as lines;
+ghost use Rattle.report_lines.specs.Lines.{EndIsOver};
+ghost use Rattle.report_lines.specs.Texts.{title, pres_line, line_text};
+ghost use Rattle.basis_entry.specs.Entries.{IsBasisEntry, vectors_of};
 ghost use Rattle.report_text.specs.Histories.{History};
 ghost use Rattle.report_text.specs.Reports.{reported, IsReportable, IsHistoryOf, text_of};
-ghost use Rattle.report_text.specs.Writing.{Puts, HasCause};
+ghost use Rattle.report_text.specs.Writing.{Puts, Counts};
 
 use crate::closing::put_closings;
 use crate::entries::put_items;
@@ -28,15 +35,17 @@ pub fn write_report<K: Sink>(alloc: Global, r: &Report, out: &mut K) -> Result<(
     requires { IsReportable (reported r.now) }
     // There is one history of the report alone.
     ensures text { (h : History) → IsHistoryOf (reported r.now) h →
-        Puts (record { taken = K.taken out.old; faults = K.faults out.old }) (text_of (reported r.now) h) result (record { taken = K.taken out.new; faults = K.faults out.new }) }
+        Puts (K.taken out.old) (text_of (reported r.now) h) result (K.taken out.new) }
     ensures told { OnOk result ((h : History) × IsHistoryOf (reported r.now) h) }
-    ensures later { K.faults out.old ≤ K.faults out.new }
-    ensures cause { IfErr result (λ fault. HasCause (record { taken = K.taken out.old; faults = K.faults out.old }) fault (record { taken = K.taken out.new; faults = K.faults out.new })) }
+    ensures counts { Counts (K.faults out.old) result (K.faults out.new) }
 {
     let index = index_of(alloc, &r.entries)?;
     let items = Items::of(&r.entries, seal_of(r));
     let list = Indexed::over(&items, &index);
-    let log = Log::new(&r.pres, &list);
+    let log = Log {
+        p: &r.pres,
+        list: &list,
+    };
     put_head(alloc, &r.pres, out)?;
     put_items(alloc, &log, &r.sessions, out)?;
     put_end(alloc, &r.pres, &r.end, out)?;
@@ -45,7 +54,9 @@ pub fn write_report<K: Sink>(alloc: Global, r: &Report, out: &mut K) -> Result<(
 }
 
 /// The seal of the report.
-fn seal_of(r: &Report) -> Option<&Sealed> {
+fn seal_of(r: &Report) -> Option<&Sealed>
+    ensures { option_map (λ s. s.now) result ≡ option_map arc_value r.now.sealed }
+{
     match &r.sealed {
         Some(seal) => Some(seal),
         None => None,
@@ -53,7 +64,11 @@ fn seal_of(r: &Report) -> Option<&Sealed> {
 }
 
 /// The leads of the entries.
-fn index_of(alloc: Global, entries: &[Arc<Entry>]) -> Result<Index, AllocError> {
+fn index_of(alloc: Global, entries: &[Arc<Entry>]) -> Result<Index, AllocError>
+    requires { length entries.now + 1 < 2 ^ 32 }
+    ensures leads { IfOk result (AreLeads (vectors_of (map arc_value entries.now))) }
+    ensures known { OnOk result (AllByRecursion IsBasisEntry (map arc_value entries.now)) }
+{
     let mut index = Index::new(alloc);
     for entry in entries {
         index.push(entry.vector().terms()[0])?;
@@ -62,7 +77,10 @@ fn index_of(alloc: Global, entries: &[Arc<Entry>]) -> Result<Index, AllocError> 
 }
 
 /// Writes the two lines at the head.
-fn put_head<K: Sink>(alloc: Global, p: &Presentation, out: &mut K) -> Result<(), WriteFault> {
+fn put_head<K: Sink>(alloc: Global, p: &Presentation, out: &mut K) -> Result<(), WriteFault>
+    ensures text { Puts (K.taken out.old) ((title ++ 10 ∷ []) ++ (pres_line p.now ++ 10 ∷ [])) result (K.taken out.new) }
+    ensures counts { Counts (K.faults out.old) result (K.faults out.new) }
+{
     put_with_end(Vec::from_slice(alloc, b"metab report 1")?, out)?;
     let mut line = Vec::from_slice(alloc, b"pres ")?;
     line.extend_from_slice(&write_presentation(alloc, p)?)?;
@@ -75,7 +93,11 @@ fn put_end<K: Sink>(
     p: &Presentation,
     end: &End,
     out: &mut K,
-) -> Result<(), WriteFault> {
+) -> Result<(), WriteFault>
+    requires { EndIsOver (length p.now.names) end.now }
+    ensures text { Puts (K.taken out.old) (line_text p.now (lines.End end.now) ++ 10 ∷ []) result (K.taken out.new) }
+    ensures counts { Counts (K.faults out.old) result (K.faults out.new) }
+{
     let mut line = Vec::new(alloc);
     put_ending(&mut line, p, end)?;
     put_with_end(line, out)
