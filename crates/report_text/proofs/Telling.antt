@@ -1,6 +1,6 @@
 -- One more piece of the text of all sessions, of the items, and of the answers behind the end.
 use Rattle.std.proofs.Common.{◌≡◌, ◌≢◌, ◌⊎◌, inl, inr, ℕ, zero, suc, ◌+◌, ◌-◌, ◌<◌, ◌≤◌, Bool, true, false, nat_lt, if◌then◌else◌, List, [], ◌∷◌, ◌++◌, length, take, drop, slice_get, Option, Some, None, Result, Ok, Err, refl, sym, ap, subst, ◌∙◌, append-nil, arith}
-use Rattle.std.proofs.lemmas.List.{take_all, drop_all}
+use Rattle.std.proofs.lemmas.List.{take_all, drop_all, length-map}
 use Rattle.std.proofs.lemmas.Bool.{cases_eq}
 use Rattle.std.specs.List.{AllByRecursion}
 use Rattle.std.specs.Prelude.{OnOk}
@@ -345,3 +345,55 @@ module _ (p : Presented) (es : List BasisEntry) (seal : Option Seal) (s : Seal) 
       subst (λ t. Puts o t r e) seal_text
       (then_puts o m e (line_piece p lines.Seal) (lines_text p (live_at (length es + 1) ts)) r (subst (λ t. TakesPrefix o (t ++ 10 ∷ []) m) line took)
       (subst (λ f. Puts m (lines_text p (live_at f ts)) r e) (all ∙ ap (λ x. item_count es x) is) puts))
+
+-- ---- a question that was left open, or not
+
+module _ (p : Presented) (es : List BasisEntry) (seal : Option Seal) (s : SessionState) (replied : IsReplied p es seal s) (i : ℕ) (q : Question) (k : Kept) (a : Answered)
+    (question : slice_get s.questions i ≡ Some q) (kept : slice_get s.kept i ≡ Some k) (h : IsAnswered p es seal q k a) where
+  kept_reply : IsReply p (take k.front es) (seal_below es seal k.front) q k
+  kept_reply = replied.each i q k question kept
+
+  same_live : a.live.verdict ≡ kept_reply.verdict
+  same_live = live_is p es seal q k a kept_reply h
+
+  pub nothing_closes : (o : Option (List ℕ)) (n : ℕ) → is_left_open k.tag ≡ false → TakesPrefix o (lines_text p (closing_lines s.number n a.question a.closing)) o
+  nothing_closes o n not_left = by a.closing h.closing
+    where
+      shut : IsOpen a.live.verdict → ⊥
+      shut open_one = closed_tag kept_reply.verdict (ap is_left_open (sym kept_reply.tag) ∙ not_left) (subst IsOpen same_live open_one)
+
+      by : (c : Option Reply) → IsClosing p es seal q a.live.verdict c → TakesPrefix o (lines_text p (closing_lines s.number n a.question c)) o
+      by None g = puts_nothing o
+      by (Some r) g = absurd (shut g.0)
+
+  pub reply_closes : (o e : Option (List ℕ)) (n : ℕ) (r : Result (Unit {0}) WriteFault) → is_left_open k.tag ≡ true
+      → ((x : Reply) → IsClosingReply p es seal q x → Puts o (lines_text p (closing_lines s.number n q (Some x))) r e)
+      → Puts o (lines_text p (closing_lines s.number n a.question a.closing)) r e
+  reply_closes o e n r left puts = by a.closing h.closing
+    where
+      opened : IsOpen a.live.verdict
+      opened = subst IsOpen (sym same_live) (open_tag kept_reply.verdict (ap is_left_open (sym kept_reply.tag) ∙ left))
+
+      by : (c : Option Reply) → IsClosing p es seal q a.live.verdict c → Puts o (lines_text p (closing_lines s.number n a.question c)) r e
+      by None g = absurd (g opened)
+      by (Some x) g = subst (λ y. Puts o (lines_text p (closing_lines s.number n y (Some x))) r e) (sym h.question) (puts x g.1)
+
+pub on_map : {A B : Type 0} (r : Result (Unit {0}) WriteFault) → OnOk r A → (A → B) → OnOk r B
+on_map (Ok u) h f = f h
+on_map (Err e) h f = tt
+
+-- the replies behind the end so far, with one more
+pub told_more : (p : Presented) (es : List BasisEntry) (seal : Option Seal) (s : SessionState) (i : ℕ)
+    → ((j : ℕ) (q : Question) (k : Kept) → j < i → slice_get s.questions j ≡ Some q → slice_get s.kept j ≡ Some k → is_left_open k.tag ≡ true → HasClosing p es seal q)
+    → ((q : Question) (k : Kept) → slice_get s.questions (i + 1 - 1) ≡ Some q → slice_get s.kept (i + 1 - 1) ≡ Some k → is_left_open k.tag ≡ true → HasClosing p es seal q)
+    → (j : ℕ) (q : Question) (k : Kept) → j < i + 1 → slice_get s.questions j ≡ Some q → slice_get s.kept j ≡ Some k → is_left_open k.tag ≡ true → HasClosing p es seal q
+told_more p es seal s i before now j q k lt question kept left = by (cases_eq j i)
+  where
+    by : (j ≡ i) ⊎ (j ≢ i) → HasClosing p es seal q
+    by (inl e) =
+        let back : j ≡ i + 1 - 1 = omega (arith, e) in
+        now q k (subst (λ x. slice_get s.questions x ≡ Some q) back question) (subst (λ x. slice_get s.kept x ≡ Some k) back kept) left
+    by (inr other) = before j q k (omega (arith, lt, other)) question kept left
+
+pub entries_count : (vs : List (List Term)) (es : List BasisEntry) → vs ≡ vectors_of es → length vs ≡ length es
+entries_count vs es is = ap length is ∙ length-map es (λ e. e.vector)

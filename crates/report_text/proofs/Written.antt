@@ -88,3 +88,7 @@ puts_nothing a = took_nothing a
 pub goes_puts : (a b c : Option (List ℕ)) (text rest : List ℕ) (r : Result (Unit {0}) WriteFault) → Goes a text rest b → Puts b rest r c → Puts a text r c
 goes_puts a b c text rest (Ok u) g h = subst (λ t. TakesPrefix a t c) (sym g.is) (took_more a b c g.front rest g.took h)
 goes_puts a b c text rest (Err e) g h = goes_stops a b c text rest [] (subst (λ t. Goes a text t b) (sym (append-nil rest)) g) h
+
+-- the first text was written, and nothing behind it
+pub stops_between : (a b : Option (List ℕ)) (x y : List ℕ) → TakesPrefix a x b → Stops a (x ++ y) b
+stops_between a b x y h = record { front = x; rest = y; is = refl; took = h }

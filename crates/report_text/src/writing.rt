@@ -24,6 +24,7 @@ use outcomes::End;
 use presentation::{Presentation, write_presentation};
 use reducer_index::{Index, Indexed};
 use report_lines::put_ending;
+use session_core::Session;
 use std::alloc::{AllocError, Global};
 use std::sync::Arc;
 
@@ -39,18 +40,19 @@ pub fn write_report<K: Sink>(alloc: Global, r: &Report, out: &mut K) -> Result<(
     ensures told { OnOk result ((h : History) × IsHistoryOf (reported r.now) h) }
     ensures counts { Counts (K.faults out.old) result (K.faults out.new) }
 {
-    let index = index_of(alloc, &r.entries)?;
-    let items = Items::of(&r.entries, seal_of(r));
+    let p: &Presentation = &r.pres;
+    let entries: &[Arc<Entry>] = &r.entries;
+    let sessions: &[Session] = &r.sessions;
+    let index = index_of(alloc, entries)?;
+    let items = Items::of(entries, seal_of(r));
     let list = Indexed::over(&items, &index);
-    let log = Log {
-        p: &r.pres,
-        list: &list,
-    };
-    put_head(alloc, &r.pres, out)?;
-    put_items(alloc, &log, &r.sessions, out)?;
-    put_end(alloc, &r.pres, &r.end, out)?;
-    put_closings(alloc, &log, &r.sessions, out)?;
-    put_with_end(Vec::from_slice(alloc, b"done")?, out)
+    let log = Log { p, list: &list };
+    put_head(alloc, p, out)?;
+    put_items(alloc, &log, sessions, out)?;
+    put_end(alloc, p, &r.end, out)?;
+    put_closings(alloc, &log, sessions, out)?;
+    let last = Vec::from_slice(alloc, b"done")?;
+    put_with_end(last, out)
 }
 
 /// The seal of the report.
@@ -81,7 +83,8 @@ fn put_head<K: Sink>(alloc: Global, p: &Presentation, out: &mut K) -> Result<(),
     ensures text { Puts (K.taken out.old) ((title ++ 10 ∷ []) ++ (pres_line p.now ++ 10 ∷ [])) result (K.taken out.new) }
     ensures counts { Counts (K.faults out.old) result (K.faults out.new) }
 {
-    put_with_end(Vec::from_slice(alloc, b"metab report 1")?, out)?;
+    let first = Vec::from_slice(alloc, b"metab report 1")?;
+    put_with_end(first, out)?;
     let mut line = Vec::from_slice(alloc, b"pres ")?;
     line.extend_from_slice(&write_presentation(alloc, p)?)?;
     put_with_end(line, out)
