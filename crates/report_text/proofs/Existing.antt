@@ -27,6 +27,7 @@ module _ (p : Presented) (es : List BasisEntry) (seal : Option Seal) (s : Sessio
   answer : (i : ℕ) (at : Told p es seal s replied i) → (a : Answered) × IsAnswered p es seal at.q at.k a
   answer i at = by (is_left_open at.k.tag) refl
     where
+      shown : (proofs : List (List Step)) × AreProofsOf (vectors_below es at.k.front) (to_show at.q at.reply.verdict) proofs
       shown = proofs_there (vectors_below es at.k.front) (to_show at.q at.reply.verdict) (yes_is_shown p (vectors_below es at.k.front) (seal_below es seal at.k.front) at.q at.reply.verdict at.reply.is)
 
       live : Reply

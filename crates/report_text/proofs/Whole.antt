@@ -1,6 +1,7 @@
 -- The text of a whole report, piece by piece.
 use Rattle.std.proofs.Common.{◌≡◌, ℕ, List, [], ◌∷◌, ◌++◌, Option, Result, refl, sym, ap, subst, ◌∙◌, append_assoc, append-nil}
 use Rattle.mb_io.specs.Shelf.{TakesPrefix}
+use Rattle.presentation.specs.Presented.{Presented}
 use Rattle.basis_entry.specs.Entries.{BasisEntry}
 use Rattle.basis_entry.specs.Seals.{Seal}
 use Rattle.session_core.specs.Sessions.{SessionState}
