@@ -1,5 +1,5 @@
 -- Chains by vectors over some generators stay over them: their steps, their rests and the places of their stops.
-use Rattle.std.proofs.Common.{◌≡◌, ◌≢◌, ◌⊎◌, inl, inr, ℕ, zero, suc, ◌+◌, ◌<◌, ◌≤◌, Bool, true, false, ℤ, pos, negsuc, ◌+ℤ◌, ◌-ℤ◌, ◌*ℤ◌, ◌<ℤ◌, unsigned_abs, if◌then◌else◌, List, [], ◌∷◌, ◌++◌, length, map, slice_get, Some, refl, sym, ap, subst, ◌∙◌, arith}
+use Rattle.std.proofs.Common.{◌≡◌, ◌≢◌, ◌⊎◌, inl, inr, ℕ, zero, suc, ◌≤◌, Bool, true, false, ℤ, pos, negsuc, ◌+ℤ◌, ◌-ℤ◌, ◌<ℤ◌, unsigned_abs, if◌then◌else◌, List, [], ◌∷◌, ◌++◌, length, slice_get, Some, refl, sym, subst, ◌∙◌, arith}
 use borrow.Author.Differences.{ints}
 use Rattle.std.proofs.Math.IntN.{+ℤ_idl}
 use Rattle.std.specs.Int.{int_div_euclid}
@@ -7,17 +7,15 @@ use Rattle.std.specs.List.{AllByRecursion}
 use Rattle.free_words.specs.declared.letter.Letter.{Letter}
 use Rattle.free_words.specs.declared.TheConstants.{COMPOSED}
 use Rattle.free_words.specs.Words.{IsOver}
-use Rattle.formal_sums.specs.FormalSum.{FormalSum, coefficient, scale, rename}
+use Rattle.formal_sums.specs.FormalSum.{FormalSum, coefficient}
 use Rattle.formal_sums.proofs.Floors.{zero_floor}
-use Rattle.laurent_terms.specs.Monomials.{quotient}
-use Rattle.module_vec.specs.declared.TheConstants.{COEFFICIENT}
 use Rattle.module_vec.specs.declared.places.Place.{Place}
 use Rattle.module_vec.specs.declared.places.Term.{Term}
 use Rattle.module_vec.specs.declared.steps.Step.{Step}
 use Rattle.module_vec.specs.declared.faults.Stop.{Stop}
 use Rattle.module_vec.specs.declared.faults.Stop.TheVariants.{Wide, Long, Deep, Steep}
-use Rattle.module_vec.specs.Places.{same_place, moved}
-use Rattle.module_vec.specs.Vectors.{Coefficients, coefficient_at, sum_of, multiple, multiple_at, InRange, IsWide}
+use Rattle.module_vec.specs.Places.{same_place}
+use Rattle.module_vec.specs.Vectors.{Coefficients, coefficient_at, multiple, InRange, IsWide}
 use Rattle.module_vec.specs.Modules.{vector_at}
 use Rattle.module_vec.specs.Reducers.{AreEntries, IsEntry}
 use Rattle.module_vec.specs.Results.{DifferenceIsWide}

@@ -1,22 +1,18 @@
 -- Each report that is written whole has its history.
-use Rattle.std.proofs.Common.{◌≡◌, ℕ, zero, suc, ◌+◌, ◌<◌, ◌≤◌, Bool, true, false, List, [], ◌∷◌, length, take, slice_get, Option, Some, None, refl, sym, ap, subst, ◌∙◌, arith}
+use Rattle.std.proofs.Common.{◌≡◌, ℕ, Bool, true, false, List, length, slice_get, Option, Some, None, refl, sym, subst, ◌∙◌}
 use Rattle.std.specs.List.{AllByRecursion}
-use Rattle.free_words.specs.declared.letter.Letter.{Letter}
 use Rattle.presentation.specs.Presented.{Presented}
-use Rattle.module_vec.specs.declared.places.Term.{Term}
 use Rattle.module_vec.specs.declared.steps.Step.{Step}
 use Rattle.session_text.specs.declared.question.Question.{Question}
-use Rattle.hom_check.specs.Shown.{IsShown}
 use Rattle.basis_entry.specs.Entries.{BasisEntry}
 use Rattle.basis_entry.specs.Seals.{Seal}
 use Rattle.session_core.specs.declared.kept.Kept.{Kept}
-use Rattle.session_core.specs.Proofs.{AreStepsOf}
 use Rattle.session_core.specs.Sessions.{SessionState}
-use Rattle.report_text.specs.Answers.{AreProofsOf, IsReplyTo, IsAnswered, IsSessionAnswered, AreAnswered, IsClosing, IsOpen, to_show, seal_below, vectors_below}
+use Rattle.report_text.specs.Answers.{AreProofsOf, IsReplyTo, IsAnswered, IsSessionAnswered, to_show, seal_below, vectors_below}
 use Rattle.report_text.specs.Closing.{is_left_open, HasClosing, HasClosings}
 use Rattle.report_text.specs.Histories.{Reply, Answered, SessionAnswers, History}
 use Rattle.report_text.specs.Reports.{Reported, IsReplied, IsReportable, IsHistoryOf}
-use Rattle.report_text.proofs.Lists.{StandsAt, stands_at, at_place}
+use Rattle.report_text.proofs.Lists.{stands_at, at_place}
 use Rattle.report_text.proofs.Building.{Listed, listed, proofs_there}
 use Rattle.report_text.proofs.Telling.{Told, told_at, open_verdict, closed_verdict}
 use Rattle.report_text.proofs.Verdicts.{yes_is_shown}

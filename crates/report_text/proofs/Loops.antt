@@ -1,8 +1,6 @@
 -- One more piece of a text that is written in a loop.
-use Rattle.std.proofs.Common.{◌≡◌, ◌≢◌, ℕ, zero, suc, ◌+◌, ◌-◌, ◌/◌, ◌<◌, ◌≤◌, Bool, true, false, List, [], ◌∷◌, ◌++◌, length, drop, slice_get, slice_index_or, Option, Some, None, refl, sym, ap, subst, ◌∙◌, arith}
-use Rattle.std.specs.List.{AllByRecursion}
+use Rattle.std.proofs.Common.{◌≡◌, ◌≢◌, ℕ, zero, suc, ◌+◌, ◌-◌, ◌/◌, ◌<◌, ◌≤◌, List, [], ◌∷◌, ◌++◌, length, drop, slice_get, slice_index_or, Option, Some, refl, sym, ap, subst, ◌∙◌, arith}
 use Rattle.mb_io.specs.Shelf.{TakesPrefix}
-use Rattle.free_words.specs.declared.letter.Letter.{Letter}
 use Rattle.presentation.specs.Presented.{Presented}
 use Rattle.module_vec.specs.declared.places.Term.{Term}
 use Rattle.module_vec.specs.declared.steps.Step.{Step}
@@ -16,11 +14,11 @@ use Rattle.basis_entry.specs.Seals.{Seal}
 use Rattle.session_core.specs.declared.kept.Kept.{Kept}
 use Rattle.session_core.specs.Sessions.{SessionState, AreRising}
 use Rattle.session_core.specs.Proofs.{AreStepsOf}
-use Rattle.report_text.specs.Answers.{AreProofsOf, IsAnswered, IsSessionAnswered, AreAnswered}
-use Rattle.report_text.specs.Histories.{Answered, SessionAnswers, proof_lines, live_lines, live_from, live_at}
+use Rattle.report_text.specs.Answers.{AreProofsOf, IsAnswered, IsSessionAnswered}
+use Rattle.report_text.specs.Histories.{Answered, SessionAnswers, proof_lines, live_lines, live_from}
 use Rattle.report_text.specs.Writing.{Stops}
 use Rattle.report_text.proofs.Lists.{StandsAt, stands_at}
-use Rattle.report_text.proofs.Orders.{line_piece, proofs_left, no_proofs_left, live_skipped, none_live, live_left, sessions_left, no_sessions_left, rising_to}
+use Rattle.report_text.proofs.Orders.{line_piece, proofs_left, no_proofs_left, live_skipped, none_live, live_left, rising_to}
 use Rattle.report_text.proofs.Written.{Goes, goes_from, goes_more, goes_all, goes_stops}
 
 index_there : {A : Type 0} (xs : List A) (i : ℕ) (d : A) → i < length xs → slice_get xs i ≡ Some (slice_index_or xs i d)

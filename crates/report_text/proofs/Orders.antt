@@ -1,5 +1,5 @@
 -- The lines that are left, behind those that were written.
-use Rattle.std.proofs.Common.{◌≡◌, ◌≢◌, ℕ, zero, suc, ◌+◌, ◌-◌, ◌<◌, ◌≤◌, ◌==◌, Bool, true, false, if◌then◌else◌, List, [], ◌∷◌, ◌++◌, length, drop, slice_get, Option, Some, None, refl, sym, ap, subst, ◌∙◌, append_assoc, append-nil, arith}
+use Rattle.std.proofs.Common.{◌≡◌, ◌≢◌, ℕ, zero, suc, ◌+◌, ◌<◌, ◌≤◌, ◌==◌, true, false, if◌then◌else◌, List, [], ◌∷◌, ◌++◌, length, drop, slice_get, Option, Some, None, refl, ap, subst, ◌∙◌, append-nil, arith}
 use Rattle.std.proofs.lemmas.Bool.Decides.{nat_tests}
 use Rattle.std.proofs.lemmas.List.{drop_all}
 use Rattle.presentation.specs.Presented.{Presented}
@@ -11,8 +11,8 @@ use Rattle.basis_entry.specs.Entries.{BasisEntry}
 use Rattle.basis_entry.specs.Seals.{Seal}
 use Rattle.session_core.specs.declared.kept.Kept.{Kept}
 use Rattle.session_core.specs.Sessions.{AreRising}
-use Rattle.report_text.specs.Histories.{Answered, SessionAnswers, proof_lines, live_lines, closing_lines, live_from, live_at, closing_from, closing_of, made_by, entry_lines, seal_lines, item_lines, told_from}
-use Rattle.report_text.proofs.Lists.{StandsAt, stands_at}
+use Rattle.report_text.specs.Histories.{Answered, SessionAnswers, proof_lines, live_lines, closing_lines, live_from, live_at, closing_from, closing_of, made_by, entry_lines, seal_lines, told_from}
+use Rattle.report_text.proofs.Lists.{StandsAt}
 use Rattle.report_text.proofs.Written.{lines_append}
 
 -- the text of one line

@@ -1,5 +1,5 @@
 -- Verdicts by their tags.
-use Rattle.std.proofs.Common.{◌≡◌, ℕ, List, Option, refl, sym, ap, subst, ◌∙◌}
+use Rattle.std.proofs.Common.{◌≡◌, List, Option, refl, ap, subst, ◌∙◌}
 use Rattle.presentation.specs.Presented.{Presented}
 use Rattle.module_vec.specs.declared.places.Term.{Term}
 use Rattle.session_text.specs.declared.question.Question.{Question}

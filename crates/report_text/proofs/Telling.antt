@@ -1,5 +1,5 @@
 -- One more piece of the text of all sessions, of the items, and of the answers behind the end.
-use Rattle.std.proofs.Common.{◌≡◌, ◌≢◌, ◌⊎◌, inl, inr, ℕ, zero, suc, ◌+◌, ◌-◌, ◌<◌, ◌≤◌, Bool, true, false, nat_lt, if◌then◌else◌, List, [], ◌∷◌, ◌++◌, length, take, drop, slice_get, Option, Some, None, Result, Ok, Err, refl, sym, ap, subst, ◌∙◌, append-nil, arith}
+use Rattle.std.proofs.Common.{◌≡◌, ◌≢◌, ◌⊎◌, inl, inr, ℕ, ◌+◌, ◌-◌, ◌<◌, ◌≤◌, Bool, true, false, nat_lt, if◌then◌else◌, List, [], ◌∷◌, ◌++◌, length, take, drop, slice_get, Option, Some, None, Result, Ok, Err, refl, sym, ap, subst, ◌∙◌, append-nil, arith}
 use Rattle.std.proofs.lemmas.List.{take_all, drop_all, length-map}
 use Rattle.std.proofs.lemmas.Bool.{cases_eq}
 use Rattle.std.specs.List.{AllByRecursion}
@@ -17,8 +17,6 @@ use Rattle.basis_entry.specs.Seals.{Seal, item_count}
 use Rattle.outcomes.specs.declared.verdicts.Verdict.{Verdict}
 use Rattle.outcomes.specs.declared.verdicts.Verdict.TheVariants as verdicts
 use Rattle.session_core.specs.declared.kept.Kept.{Kept}
-use Rattle.session_core.specs.declared.kept.Tag.{Tag}
-use Rattle.session_core.specs.declared.kept.Tag.TheVariants as tags
 use Rattle.session_core.specs.Replies.{IsReply, tag_of}
 use Rattle.session_core.specs.Sessions.{SessionState}
 use Rattle.session_core.specs.Verdicts.{IsVerdict}
@@ -37,7 +35,7 @@ use Rattle.report_text.specs.Writing.{Stops, Puts}
 use Rattle.report_text.proofs.Lists.{StandsAt, stands_at, same_item, vectors_over}
 use Rattle.report_text.proofs.Orders.{line_piece, told_after, items_left, sessions_left, no_sessions_left, closing_left, no_closing_left, closings_left, no_closings_left}
 use Rattle.report_text.proofs.Verdicts.{one_verdict, yes_is_shown, verdict_over}
-use Rattle.report_text.proofs.Written.{Goes, goes_from, goes_more, goes_all, goes_stops, then_puts, stops_before, puts_nothing}
+use Rattle.report_text.proofs.Written.{Goes, goes_more, goes_all, goes_stops, then_puts, stops_before, puts_nothing}
 
 -- ---- all sessions
 

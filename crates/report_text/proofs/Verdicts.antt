@@ -1,5 +1,5 @@
 -- A question has one verdict, and what is shown has one proof.
-use Rattle.std.proofs.Common.{◌≡◌, ◌≢◌, ◌⊎◌, inl, inr, ℕ, zero, suc, ◌+◌, ◌-◌, ◌<◌, ◌≤◌, List, [], ◌∷◌, length, Option, slice_get, slice_index_or, Some, refl, sym, ap, subst, ◌∙◌, arith}
+use Rattle.std.proofs.Common.{◌≡◌, ◌⊎◌, inl, inr, ℕ, zero, suc, ◌<◌, List, [], length, Option, refl, sym, ap, subst, ◌∙◌, arith}
 use Rattle.std.specs.List.{AllByRecursion}
 use Rattle.free_words.specs.declared.letter.Letter.{Letter}
 use Rattle.presentation.specs.Presented.{Presented}
@@ -7,14 +7,11 @@ use Rattle.module_vec.specs.declared.places.Term.{Term}
 use Rattle.module_vec.specs.declared.steps.Step.{Step}
 use Rattle.module_vec.specs.declared.faults.Stop.{Stop}
 use Rattle.module_vec.specs.Reducers.{AreEntries}
-use Rattle.module_vec.specs.Chains.{ChainStops}
 use Rattle.vector_text.specs.Over.{VectorIsOver}
-use Rattle.reduce_cofactor.specs.Answers.{IsRest}
 use Rattle.reduce_cofactor.proofs.Answering.{one_rest, rest_or_stop, one_stop}
 use Rattle.report_lines.specs.Lines.{VerdictIsOver}
 use Rattle.session_text.specs.declared.question.Question.{Question}
 use Rattle.session_text.specs.declared.question.Question.TheVariants as questions
-use Rattle.session_text.specs.Questions.{subjects}
 use Rattle.hom_check.specs.Subjects.{subject_at}
 use Rattle.hom_check.specs.Shown.{fox_at, EndsIn, IsShown, LeavesRest, StopsAt, IsFirstUnshown}
 use Rattle.hom_check.proofs.Fitting.{Fits, all_at, subject_fits}
@@ -23,7 +20,7 @@ use Rattle.outcomes.specs.declared.verdicts.Verdict.{Verdict}
 use Rattle.outcomes.specs.declared.verdicts.Verdict.TheVariants as verdicts
 use Rattle.session_core.specs.Proofs.{AreStepsOf}
 use Rattle.session_core.specs.Questions.{CanBeAsked, AsksWhetherTrivial, AsksForNormal, AsksWhetherExtends}
-use Rattle.session_core.specs.Verdicts.{IsSealedFor, AllAreShown, LeavesSome, IsVerdict}
+use Rattle.session_core.specs.Verdicts.{AllAreShown, LeavesSome, IsVerdict}
 use Rattle.report_text.specs.Answers.{to_show}
 use Rattle.report_text.proofs.Chains.{rest_over, stop_over}
 

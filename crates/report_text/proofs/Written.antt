@@ -1,14 +1,11 @@
 -- Texts that are written piece by piece.
-use Rattle.std.proofs.Common.{◌≡◌, ℕ, ◌≤◌, List, [], ◌∷◌, ◌++◌, take, drop, Option, Some, None, Result, Ok, Err, refl, sym, ap, subst, ◌∙◌, append_assoc, append-nil, take-append-drop}
-use Rattle.std.specs.Prelude.{OnOk, OnErr}
-use Rattle.std.specs.List.{flat_map}
-use Rattle.mb_io.specs.Shelf.{TakesPrefix, CountRose}
+use Rattle.std.proofs.Common.{◌≡◌, ℕ, List, [], ◌∷◌, ◌++◌, take, drop, Option, Some, None, Result, Ok, Err, refl, sym, ap, subst, ◌∙◌, append_assoc, append-nil, take-append-drop}
+use Rattle.mb_io.specs.Shelf.{TakesPrefix}
 use Rattle.presentation.specs.Presented.{Presented}
 use Rattle.report_lines.specs.declared.lines.Line.{Line}
 use Rattle.report_lines.specs.Texts.{line_text, lines_text}
 use Rattle.report_text.specs.declared.faults.WriteFault.{WriteFault}
-use Rattle.report_text.specs.declared.faults.WriteFault.TheVariants as faults
-use Rattle.report_text.specs.Writing.{Stops, Puts, Counts}
+use Rattle.report_text.specs.Writing.{Stops, Puts}
 
 -- some of a text was written, and this is the rest
 pub record Goes (old : Option (List ℕ)) (text rest : List ℕ) (new : Option (List ℕ)) : Type 0 where

@@ -1,11 +1,9 @@
-use Rattle.std.proofs.Common.{rules, ◌≡◌, ◌++◌, ◌∷◌, [], ◌-◌, ℕ, List, length, Some, ap, sym, subst, ◌∙◌}
+use Rattle.std.proofs.Common.{rules, ◌≡◌, ◌++◌, ◌-◌, ℕ, List, Some, ap, subst, ◌∙◌}
 use Rattle.std.proofs.lemmas.Result.{err_from_is_err_and}
-use Rattle.module_vec.specs.declared.places.Term.{Term}
 use Rattle.report_lines.specs.declared.lines.Line.TheVariants as lines
 use Rattle.report_lines.specs.declared.lines.QuestionNumber.{QuestionNumber}
 use Rattle.report_lines.specs.Texts.{line_text, lines_text}
 use Rattle.session_text.proofs.QuestionLemmas.{written_is_over}
-use Rattle.basis_entry.specs.Seals.{item_count}
 use Rattle.session_core.specs.Questions.{CanBeAsked}
 use Rattle.report_text.specs.Closing.{HasClosing}
 use Rattle.report_text.specs.Histories.{closing_lines}

@@ -1,4 +1,4 @@
-use Rattle.std.proofs.Common.{rules, arith, ◌≤◌, ◌<◌, ◌+◌, length}
+use Rattle.std.proofs.Common.{rules, arith, ◌≤◌, ◌<◌, length}
 use Rattle.std.proofs.lemmas.Result.{err_from_is_err_and}
 use Rattle.report_text.proofs.Loops.{read_within}
 use Rattle.report_text.proofs.Telling.{closing_goes_on, closing_stops, closing_ends, told_more}

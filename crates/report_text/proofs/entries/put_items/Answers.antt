@@ -1,9 +1,7 @@
-use Rattle.std.proofs.Common.{rules, arith, ◌≡◌, ◌≤◌, ◌<◌, ◌+◌, ◌++◌, length, slice_get, Some, sym}
+use Rattle.std.proofs.Common.{rules, arith, ◌≡◌, ◌<◌, ◌+◌, length, slice_get, Some}
 use Rattle.std.proofs.lemmas.Result.{err_from_is_err_and}
 use Rattle.report_lines.specs.Texts.{lines_text}
 use Rattle.report_text.specs.Histories.{live_at, told_from, item_lines, seal_lines}
-use Rattle.report_text.specs.Reports.{EntryIsOver}
-use Rattle.report_text.proofs.Lists.{at_place}
 use Rattle.report_text.proofs.Orders.{told_after}
 use Rattle.report_text.proofs.Telling.{entries_count, entry_stops, entry_goes_on, seal_is_left}
 use Rattle.report_text.proofs.Written.{goes_more, goes_stops, goes_puts}

@@ -1,4 +1,4 @@
-use Rattle.std.proofs.Common.{◌≤◌, List, drop}
+use Rattle.std.proofs.Common.{◌≤◌, List}
 use Rattle.report_lines.specs.Texts.{lines_text}
 use Rattle.report_text.specs.Answers.{AreAnswered}
 use Rattle.report_text.specs.Histories.{SessionAnswers, item_lines, told_from}

@@ -1,4 +1,4 @@
-use Rattle.std.proofs.Common.{rules, ◌≡◌, ◌++◌, ◌∷◌, [], List, ℕ, length, sym, ap, subst}
+use Rattle.std.proofs.Common.{rules, length, sym, subst}
 use Rattle.std.proofs.lemmas.Result.{err_from_is_err_and}
 use Rattle.basis_entry.specs.Seals.{Seal}
 use Rattle.std.specs.Prelude.{Option}

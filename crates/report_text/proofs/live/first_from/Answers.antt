@@ -1,4 +1,4 @@
-use Rattle.std.proofs.Common.{◌≡◌, ℕ, ◌+◌, ◌-◌, ◌<◌, ◌≤◌, ◌/◌, length, true, false, sym, ◌∙◌, arith, rules}
+use Rattle.std.proofs.Common.{◌≡◌, ℕ, ◌+◌, ◌-◌, ◌<◌, ◌/◌, true, false, sym, ◌∙◌, arith, rules}
 use Rattle.report_text.proofs.Loops.{half_below, before_step, behind_step}
 use Rattle.report_text.proofs.live.first_from.Goals as goal
 

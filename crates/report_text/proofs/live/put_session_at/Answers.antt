@@ -1,4 +1,4 @@
-use Rattle.std.proofs.Common.{arith, ◌≡◌, ◌+◌, ◌≤◌, length}
+use Rattle.std.proofs.Common.{arith}
 use Rattle.std.proofs.lemmas.Result.{err_from_is_err_and}
 use Rattle.report_text.proofs.Loops.{session_starts, session_goes_on, session_stops, session_ends}
 use Rattle.report_text.proofs.live.put_session_at.Goals as goal

@@ -1,4 +1,4 @@
-use Rattle.std.proofs.Common.{List, length, take, sym, subst}
+use Rattle.std.proofs.Common.{List, length, take, subst}
 use Rattle.free_words.specs.declared.letter.Letter.{Letter}
 use Rattle.module_vec.specs.declared.places.Term.{Term}
 use Rattle.reduce_cofactor.specs.declared.faults.ReduceFault.TheVariants as faults

@@ -1,4 +1,4 @@
-use Rattle.std.proofs.Common.{length, map, take}
+use Rattle.std.proofs.Common.{map, take}
 use Rattle.std.specs.Arc.{arc_value}
 use Rattle.std.specs.List.{AllByRecursion}
 use Rattle.reducer_index.specs.Leads.{AreLeads}
