@@ -1,0 +1,11 @@
+pub mod Lists
+pub mod Written
+pub mod Chains
+pub mod Verdicts
+pub mod Tags
+pub mod Orders
+pub mod Loops
+pub mod Building
+pub mod Telling
+pub mod Existing
+pub mod Whole

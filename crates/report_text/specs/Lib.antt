@@ -1,0 +1,6 @@
+pub mod Items
+pub mod Histories
+pub mod Answers
+pub mod Closing
+pub mod Reports
+pub mod Writing

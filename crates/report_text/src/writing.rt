@@ -1,0 +1,107 @@
+//! Writing a report.
+
+ghost use Rattle.std.specs.List.{AllByRecursion};
+ghost use Rattle.std.specs.Prelude.{◌≡◌, ◌+◌, ◌<◌, ◌^◌, ◌++◌, ◌∷◌, [], length, map, option_map, IfOk, OnOk};
+ghost use Rattle.std.specs.Arc.{arc_value};
+ghost use Rattle.reducer_index.specs.Leads.{AreLeads};
+ghost use Rattle.report_lines.specs.declared.lines.Line.TheVariants as lines;
+ghost use Rattle.report_lines.specs.Lines.{EndIsOver};
+ghost use Rattle.report_lines.specs.Texts.{title, pres_line, line_text};
+ghost use Rattle.basis_entry.specs.Entries.{IsBasisEntry, vectors_of};
+ghost use Rattle.report_text.specs.Histories.{History};
+ghost use Rattle.report_text.specs.Reports.{reported, IsReportable, IsHistoryOf, text_of};
+ghost use Rattle.report_text.specs.Writing.{Puts, Counts};
+
+use crate::closing::put_closings;
+use crate::entries::put_items;
+use crate::items::Items;
+use crate::log::Log;
+use crate::pieces::put_with_end;
+use crate::{Report, WriteFault};
+use basis_entry::{Entry, Sealed};
+use mb_io::Sink;
+use outcomes::End;
+use presentation::{Presentation, write_presentation};
+use reducer_index::{Index, Indexed};
+use report_lines::put_ending;
+use session_core::Session;
+use std::alloc::{AllocError, Global};
+use std::sync::Arc;
+
+/// Writes the text of the report, line by line. Where the sink tells its bytes, `Ok` has appended that text, and a refusal a
+/// front of it.
+///
+/// `Failed` comes only where the sink has counted a failure.
+pub fn write_report<K: Sink>(alloc: Global, r: &Report, out: &mut K) -> Result<(), WriteFault>
+    requires { IsReportable (reported r.now) }
+    // There is one history of the report alone.
+    ensures text { (h : History) → IsHistoryOf (reported r.now) h →
+        Puts (K.taken out.old) (text_of (reported r.now) h) result (K.taken out.new) }
+    ensures told { OnOk result ((h : History) × IsHistoryOf (reported r.now) h) }
+    ensures counts { Counts (K.faults out.old) result (K.faults out.new) }
+{
+    let p: &Presentation = &r.pres;
+    let entries: &[Arc<Entry>] = &r.entries;
+    let sessions: &[Session] = &r.sessions;
+    let index = index_of(alloc, entries)?;
+    let items = Items::of(entries, seal_of(r));
+    let list = Indexed::over(&items, &index);
+    let log = Log { p, list: &list };
+    put_head(alloc, p, out)?;
+    put_items(alloc, &log, sessions, out)?;
+    put_end(alloc, p, &r.end, out)?;
+    put_closings(alloc, &log, sessions, out)?;
+    let last = Vec::from_slice(alloc, b"done")?;
+    put_with_end(last, out)
+}
+
+/// The seal of the report.
+fn seal_of(r: &Report) -> Option<&Sealed>
+    ensures { option_map (λ s. s.now) result ≡ option_map arc_value r.now.sealed }
+{
+    match &r.sealed {
+        Some(seal) => Some(seal),
+        None => None,
+    }
+}
+
+/// The leads of the entries.
+fn index_of(alloc: Global, entries: &[Arc<Entry>]) -> Result<Index, AllocError>
+    requires { length entries.now + 1 < 2 ^ 32 }
+    ensures leads { IfOk result (AreLeads (vectors_of (map arc_value entries.now))) }
+    ensures known { OnOk result (AllByRecursion IsBasisEntry (map arc_value entries.now)) }
+{
+    let mut index = Index::new(alloc);
+    for entry in entries {
+        index.push(entry.vector().terms()[0])?;
+    }
+    Ok(index)
+}
+
+/// Writes the two lines at the head.
+fn put_head<K: Sink>(alloc: Global, p: &Presentation, out: &mut K) -> Result<(), WriteFault>
+    ensures text { Puts (K.taken out.old) ((title ++ 10 ∷ []) ++ (pres_line p.now ++ 10 ∷ [])) result (K.taken out.new) }
+    ensures counts { Counts (K.faults out.old) result (K.faults out.new) }
+{
+    let first = Vec::from_slice(alloc, b"metab report 1")?;
+    put_with_end(first, out)?;
+    let mut line = Vec::from_slice(alloc, b"pres ")?;
+    line.extend_from_slice(&write_presentation(alloc, p)?)?;
+    put_with_end(line, out)
+}
+
+/// Writes the line of the end.
+fn put_end<K: Sink>(
+    alloc: Global,
+    p: &Presentation,
+    end: &End,
+    out: &mut K,
+) -> Result<(), WriteFault>
+    requires { EndIsOver (length p.now.names) end.now }
+    ensures text { Puts (K.taken out.old) (line_text p.now (lines.End end.now) ++ 10 ∷ []) result (K.taken out.new) }
+    ensures counts { Counts (K.faults out.old) result (K.faults out.new) }
+{
+    let mut line = Vec::new(alloc);
+    put_ending(&mut line, p, end)?;
+    put_with_end(line, out)
+}
