@@ -1,0 +1,23 @@
+//! Laws of written reports.
+
+ghost use Rattle.std.specs.Prelude.{List, Result, Ok};
+ghost use Rattle.cert_checker.specs.declared.checked.Checked.{Checked};
+ghost use Rattle.cert_checker.specs.declared.faults.CertFault.{CertFault};
+ghost use Rattle.cert_checker.specs.Texts.{Answers, TellsWhole};
+ghost use Rattle.report_text.specs.Histories.{History};
+ghost use Rattle.report_text.specs.Reports.{Reported, IsReportable, IsHistoryOf, text_of};
+ghost use Rattle.report_acceptance.specs.Accepting.{IsKnown, IsAccepted, told_amount};
+
+/// The checker accepts the text that is written of a report, unless memory runs out.
+#[tactic(auto, using(crate::proofs::Acceptance::is_accepted))]
+pub fn written_reports_are_accepted()
+    ensures { (r : Reported) (h : History) (c : Result Checked CertFault) → IsKnown r → IsReportable r → IsHistoryOf r h
+        → Answers r.pres (text_of r h) c → IsAccepted r h c }
+{}
+
+/// It holds of that text that the checker may accept it.
+#[tactic(auto, using(crate::proofs::Acceptance::is_told))]
+pub fn written_reports_hold()
+    ensures { (r : Reported) (h : History) → IsKnown r → IsReportable r → IsHistoryOf r h
+        → TellsWhole r.pres (text_of r h) (Ok (told_amount r h)) }
+{}
