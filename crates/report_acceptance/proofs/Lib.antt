@@ -6,3 +6,9 @@ pub mod Told
 pub mod Generating
 pub mod Placing
 pub mod Stepping
+pub mod Proving
+pub mod Stopping
+pub mod Verdicts
+pub mod Replying
+pub mod Entries
+pub mod Sessions

@@ -24,7 +24,8 @@ use Rattle.hom_check.specs.Shown.{fox_at}
 abbrev pub IsPlaced : Coefficients → Type 0
 IsPlaced f = (x : Place) → f x ≢ pos 0 → IsPlace x
 
-stands : (P : Place → Type 0) (f : FormalSum Place) (x : Place) → AllByRecursion (λ t. P t.1) f → coefficient same_place f x ≢ pos 0 → P x
+-- a place whose coefficient isn't 0 stands in the sum
+pub stands : (P : Place → Type 0) (f : FormalSum Place) (x : Place) → AllByRecursion (λ t. P t.1) f → coefficient same_place f x ≢ pos 0 → P x
 stands P [] x h some = absurd (some refl)
 stands P (t ∷ f) x h some = by (same_place t.1 x) refl (stands P f x h.1) where
   by : (b : Bool) → same_place t.1 x ≡ b → (coefficient same_place f x ≢ pos 0 → P x) → P x

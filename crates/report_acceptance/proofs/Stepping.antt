@@ -39,18 +39,18 @@ steps_there b (s ∷ ss) h = (h.0.1, steps_there b ss h.1)
 
 -- ---- its steps are in reach
 
-entry_there : (b : List (List Term)) (i : ℕ) (v : List Term) → slice_get b i ≡ Some v → vector_at b i ≡ v
+pub entry_there : (b : List (List Term)) (i : ℕ) (v : List Term) → slice_get b i ≡ Some v → vector_at b i ≡ v
 entry_there [] i v is = absurd cc
 entry_there (u ∷ b) zero v is = cc
 entry_there (u ∷ b) (suc i) v is = entry_there b i v is
 
 -- what a step has besides its factor
-record IsReached (b : List (List Term)) (s : Step) : Type 0 where
-  near : IsNear b s
-  mono : IsMonomial s.t
+pub record IsReached (b : List (List Term)) (s : Step) : Type 0 where
+  pub near : IsNear b s
+  pub mono : IsMonomial s.t
 
 module _ (b : List (List Term)) (entries : AreEntries b) where
-  next_reached : (f : Coefficients) (s : Step) → IsPlaced f → IsNext b f s → IsReached b s
+  pub next_reached : (f : Coefficients) (s : Step) → IsPlaced f → IsNext b f s → IsReached b s
   next_reached f s placed next =
       let lead : IsEntry (next.lead ∷ next.others) = entry_at b s.by next.lead next.others entries next.due.reducer.entry in
       let positive : pos 0 <ℤ next.lead.k = lead_positive next.lead next.others lead in

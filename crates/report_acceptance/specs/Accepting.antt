@@ -3,20 +3,32 @@ use Rattle.std.specs.List.{AllByRecursion}
 use Rattle.std.specs.Prelude.{◌≡◌, ℕ, ◌+◌, List, [], ◌∷◌, length, Result, Ok, Err}
 use Rattle.spelling.specs.Spelling.{IsSmall}
 use Rattle.word_text.specs.Place.{capped}
+use Rattle.laurent_terms.specs.Monomials.{IsMonomial}
 use Rattle.presentation.specs.Presented.{IsPresented}
 use Rattle.session_text.specs.Questions.{HasSource}
+use Rattle.report_lines.specs.declared.lines.Made.{Made}
+use Rattle.report_lines.specs.declared.lines.Made.TheVariants.{Gen, Sum}
 use Rattle.report_lines.specs.declared.lines.Line.{Line}
 use Rattle.report_lines.specs.declared.lines.Line.TheVariants as lines
 use Rattle.report_lines.specs.Lines.{IsEndOf}
-use Rattle.basis_entry.specs.Entries.{IsBasisEntry}
+use Rattle.basis_entry.specs.Entries.{BasisEntry, IsBasisEntry}
 use Rattle.session_core.specs.Sessions.{SessionState}
 use Rattle.cert_checker.specs.declared.checked.Checked.{Checked}
 use Rattle.cert_checker.specs.declared.faults.CertFault.{CertFault}
 use Rattle.cert_checker.specs.declared.faults.CertFault.TheVariants.{Line as AtLine, NoMemory}
-use Rattle.report_text.specs.Histories.{History, lines_of}
+use Rattle.report_text.specs.Histories.{History, made_by, lines_of}
 use Rattle.report_text.specs.Reports.{Reported}
 
 -- ---- what holds of the parts of every report
+
+-- the factors of a recipe's steps are monomials of the reach
+abbrev pub HasMonomials : Made → Type 0
+HasMonomials (Gen negated) = Unit {0}
+HasMonomials (Sum steps) = AllByRecursion (λ s. IsMonomial s.t) steps
+
+pub record IsKnownEntry (e : BasisEntry) : Type 0 where
+  pub entry : IsBasisEntry e
+  pub recipe : HasMonomials (made_by e.recipe)
 
 -- a session's questions can be numbered, and the source of each map is a presentation
 pub record IsKnownSession (s : SessionState) : Type 0 where
@@ -25,7 +37,7 @@ pub record IsKnownSession (s : SessionState) : Type 0 where
 
 pub record IsKnown (r : Reported) : Type 0 where
   pub presented : IsPresented r.pres
-  pub entries : AllByRecursion IsBasisEntry r.entries
+  pub entries : AllByRecursion IsKnownEntry r.entries
   pub end : IsEndOf (length r.pres.names) r.end
   pub few : IsSmall (length r.sessions)
   pub sessions : AllByRecursion IsKnownSession r.sessions
