@@ -12,3 +12,6 @@ pub mod Verdicts
 pub mod Replying
 pub mod Entries
 pub mod Sessions
+pub mod Answering
+pub mod Items
+pub mod Acceptance

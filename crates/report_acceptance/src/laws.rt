@@ -11,8 +11,8 @@ ghost use Rattle.report_acceptance.specs.Accepting.{IsKnown, IsAccepted, told_am
 /// The checker accepts the text that is written of a report, unless memory runs out.
 #[tactic(auto, using(crate::proofs::Acceptance::is_accepted))]
 pub fn written_reports_are_accepted()
-    ensures { (r : Reported) (h : History) (c : Result Checked CertFault) → IsKnown r → IsReportable r → IsHistoryOf r h
-        → Answers r.pres (text_of r h) c → IsAccepted r h c }
+    ensures { (r : Reported) (h : History) → IsKnown r → IsReportable r → IsHistoryOf r h
+        → (c : Result Checked CertFault) → Answers r.pres (text_of r h) c → IsAccepted r h c }
 {}
 
 /// It holds of that text that the checker may accept it.
