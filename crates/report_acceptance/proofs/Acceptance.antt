@@ -1,37 +1,31 @@
 -- The text of a history is told to hold, and nothing else is told of it.
-use Rattle.std.proofs.Common.{◌≡◌, ℕ, ◌+◌, ◌<◌, ◌≤◌, ◌^◌, List, [], ◌∷◌, ◌++◌, length, take, drop, slice_get, Option, Some, None, refl, sym, ap, subst, ◌∙◌, append_assoc, arith}
+use Rattle.std.proofs.Common.{◌≡◌, ℕ, ◌+◌, List, [], ◌∷◌, ◌++◌, length, take, Option, Some, None, refl, sym, ap, subst, ◌∙◌, arith}
 use Rattle.std.proofs.lemmas.List.{length-map, take_all}
 use Rattle.std.specs.Prelude.{Result, Ok, Err}
 use Rattle.std.specs.List.{AllByRecursion}
 use Rattle.word_text.specs.Place.{capped}
 use Rattle.presentation.specs.Presented.{Presented, IsPresented}
 use Rattle.module_vec.specs.declared.places.Term.{Term}
-use Rattle.vector_text.specs.Over.{VectorIsOver}
-use Rattle.module_vec.specs.Reducers.{AreEntries}
-use Rattle.fox_calculus.specs.Generators.{AreGenerators}
 use Rattle.basis_entry.specs.Entries.{BasisEntry, vectors_of}
 use Rattle.basis_entry.specs.Seals.{Seal, item_count}
 use Rattle.basis_entry.proofs.Vectors.{are_entries}
 use Rattle.outcomes.specs.declared.ends.End.{End}
-use Rattle.report_lines.specs.declared.lines.Line.{Line}
 use Rattle.report_lines.specs.declared.lines.Line.TheVariants as lines
 use Rattle.report_lines.specs.Lines.{IsEndOf}
 use Rattle.cert_checker.specs.declared.checked.Checked.{Checked}
 use Rattle.cert_checker.specs.declared.faults.CertFault.{CertFault}
 use Rattle.cert_checker.specs.declared.faults.CertFault.TheVariants as faults
-use Rattle.cert_checker.specs.declared.phase.Phase.{Phase}
-use Rattle.cert_checker.specs.declared.phase.Phase.TheVariants.{Entries, Sealed, Closing, Finished}
-use Rattle.cert_checker.specs.States.{State, start, IsOpen}
+use Rattle.cert_checker.specs.declared.phase.Phase.TheVariants.{Entries, Closing, Finished}
+use Rattle.cert_checker.specs.States.{start, IsOpen}
 use Rattle.cert_checker.specs.Texts.{IsComplete, counts, Tells, TellsWhole, Answers}
-use Rattle.report_text.specs.Histories.{SessionAnswers, History, entry_lines, seal_lines, item_lines, told_from, closing_of, lines_of}
+use Rattle.report_text.specs.Histories.{SessionAnswers, History, item_lines, told_from, closing_of, lines_of}
 use Rattle.report_text.specs.Reports.{Reported, IsReportable, IsHistoryOf, text_of}
-use Rattle.report_text.specs.Answers.{AreAnswered}
 use Rattle.report_acceptance.specs.Accepting.{IsKnown, IsAccepted, told_amount, proof_count}
 use Rattle.report_acceptance.proofs.Generating.{one_generating}
-use Rattle.report_acceptance.proofs.Taking.{after, AllHold, Leads, one, both, proofs_after}
+use Rattle.report_acceptance.proofs.Taking.{after, Leads, one, both, proofs_after}
 use Rattle.report_acceptance.proofs.Told.{told_whole, alone_whole}
 use Rattle.report_acceptance.proofs.Proving.{IsAt}
-use Rattle.report_acceptance.proofs.Sessions.{IsSessionTold, sessions_told, small_numbers}
+use Rattle.report_acceptance.proofs.Sessions.{IsSessionTold, sessions_told}
 use Rattle.report_acceptance.proofs.Answering.{all_closed}
 use Rattle.report_acceptance.proofs.Items.{AreKnown, phase_of, get_first, length_take, basis_entries, vectors_over, items_taken}
 
@@ -91,7 +85,7 @@ module _ (r : Reported) (h : History) (known : IsKnown r) (can : IsReportable r)
   }
 
   all_told : AllByRecursion (IsSessionTold r.pres r.entries r.seal can.base) h.sessions
-  all_told = sessions_told r.pres r.entries r.seal can.base r.sessions h.sessions (small_numbers r.sessions known.few can.numbers) known.sessions can.fronts can.replies is.answered
+  all_told = sessions_told r.pres r.entries r.seal can.base r.sessions h.sessions known.sessions can.fronts can.replies is.answered
 
   history_taken : Leads r.pres can.entries.begins.gens (IsAt Entries []) (lines_of h) (IsAt Finished (vectors_of r.entries))
   history_taken =

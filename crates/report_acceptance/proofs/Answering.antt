@@ -1,5 +1,5 @@
 -- The lines of all answers at a front, and of those behind the end, are taken.
-use Rattle.std.proofs.Common.{◌≡◌, ℕ, suc, ◌+◌, ◌<◌, ◌≤◌, ◌^◌, ◌==◌, Bool, true, false, if◌then◌else◌, List, [], ◌∷◌, ◌++◌, length, take, Option, Some, None, refl, sym, ap, subst, ◌∙◌, arith}
+use Rattle.std.proofs.Common.{◌≡◌, ℕ, ◌+◌, ◌<◌, ◌≤◌, ◌^◌, ◌==◌, Bool, true, false, if◌then◌else◌, List, [], ◌∷◌, length, Option, Some, None, refl, ap, subst, ◌∙◌, arith}
 use Rattle.std.proofs.lemmas.Bool.Decides.{nat_tests}
 use Rattle.std.specs.List.{AllByRecursion}
 use Rattle.spelling.specs.Spelling.{IsSmall}
@@ -8,15 +8,12 @@ use Rattle.module_vec.specs.declared.places.Term.{Term}
 use Rattle.module_vec.specs.Reducers.{AreEntries}
 use Rattle.vector_text.specs.Over.{VectorIsOver}
 use Rattle.session_text.specs.declared.question.Question.{Question}
-use Rattle.session_text.specs.Questions.{HasSource}
 use Rattle.basis_entry.specs.Entries.{BasisEntry}
 use Rattle.basis_entry.specs.Seals.{Seal, item_count}
-use Rattle.report_lines.specs.declared.lines.Line.{Line}
-use Rattle.session_core.specs.Questions.{CanBeAsked}
 use Rattle.session_core.specs.Verdicts.{IsVerdict}
 use Rattle.cert_checker.specs.declared.phase.Phase.{Phase}
 use Rattle.cert_checker.specs.declared.phase.Phase.TheVariants.{Closing}
-use Rattle.cert_checker.specs.States.{State, IsOpen, seals}
+use Rattle.cert_checker.specs.States.{IsOpen, seals}
 use Rattle.report_text.specs.Histories.{Reply, Answered, SessionAnswers, live_lines, live_from, live_at, closing_lines, closing_from, closing_of}
 use Rattle.report_text.specs.Answers.{vectors_below, seal_below, to_show, AreProofsOf, IsReplyTo, IsClosing}
 use Rattle.report_acceptance.proofs.Taking.{Leads, nothing, both}

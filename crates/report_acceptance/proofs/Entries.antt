@@ -1,5 +1,5 @@
 -- The line of an entry is taken.
-use Rattle.std.proofs.Common.{◌≡◌, ℕ, ◌+◌, ◌<◌, ◌≤◌, ◌^◌, Bool, true, false, negsuc, List, [], ◌∷◌, ◌++◌, length, map, take, slice_get, Some, refl, sym, ap, subst, ◌∙◌, arith}
+use Rattle.std.proofs.Common.{◌≡◌, ℕ, ◌<◌, ◌≤◌, ◌^◌, Bool, true, false, negsuc, List, [], ◌∷◌, ◌++◌, length, sym, ap, subst, ◌∙◌, arith}
 use Rattle.std.specs.Prelude.{MatchBool}
 use Rattle.std.specs.List.{AllByRecursion}
 use Rattle.spelling.specs.Spelling.{IsSmall}
@@ -11,21 +11,17 @@ use Rattle.module_vec.specs.declared.places.Term.{Term}
 use Rattle.module_vec.specs.declared.steps.Step.{Step}
 use Rattle.module_vec.specs.Vectors.{sum_of, coefficient_at}
 use Rattle.module_vec.specs.Modules.{vector_at}
-use Rattle.step_lists.specs.Sums.{IsInReach, IsValue}
+use Rattle.step_lists.specs.Sums.{IsInReach}
 use Rattle.step_text.specs.Over.{StepsAreOver, AreStepsOf}
-use Rattle.vector_text.specs.Over.{VectorIsOver}
 use Rattle.basis_entry.specs.declared.recipes.Recipe.{Recipe}
-use Rattle.basis_entry.specs.declared.recipes.Recipe.TheVariants as recipes
 use Rattle.basis_entry.specs.Base.{has_negative_lead, IsOfGenerator}
 use Rattle.basis_entry.specs.Entries.{BasisEntry}
 use Rattle.report_lines.specs.declared.lines.Made.{Made}
 use Rattle.report_lines.specs.declared.lines.Made.TheVariants.{Gen, Sum}
-use Rattle.report_lines.specs.declared.lines.Line.{Line}
 use Rattle.report_lines.specs.declared.lines.Line.TheVariants as lines
 use Rattle.report_lines.specs.Lines.{MadeIsOver, IsMadeOf as IsMadeOver, IsLineOf}
-use Rattle.cert_checker.specs.declared.phase.Phase.{Phase}
 use Rattle.cert_checker.specs.declared.phase.Phase.TheVariants.{Entries}
-use Rattle.cert_checker.specs.States.{State, AreNear, IsInTurn}
+use Rattle.cert_checker.specs.States.{AreNear, IsInTurn}
 use Rattle.cert_checker.specs.Checking.{AreThere, IsMadeOf, signed}
 use Rattle.cert_checker.proofs.Signs.{negative}
 use Rattle.report_text.specs.Histories.{made_by}

@@ -1,6 +1,5 @@
 -- A line that holds doesn't fail.
-use Rattle.std.proofs.Common.{◌≡◌, ◌≢◌, ◌⊎◌, inl, inr, ℕ, ◌<◌, ◌≤◌, Bool, List, [], ◌∷◌, length, refl, sym, ap, subst, ◌∙◌, arith}
-use Rattle.module_vec.specs.declared.TheConstants.{TERMS}
+use Rattle.std.proofs.Common.{◌≡◌, inl, inr, ℕ, ◌<◌, List, [], ◌∷◌, length, sym, ap, ◌∙◌, arith}
 use Rattle.module_vec.specs.declared.places.Place.{Place}
 use Rattle.module_vec.specs.declared.places.Term.{Term}
 use Rattle.module_vec.specs.declared.steps.Step.{Step}
@@ -17,7 +16,7 @@ use Rattle.report_lines.specs.declared.lines.Line.TheVariants as lines
 use Rattle.cert_checker.specs.declared.faults.CertKind.{CertKind}
 use Rattle.cert_checker.specs.declared.faults.CertKind.TheVariants.{Text, NoEntry, NotEqual, NotZero, Wide, Long}
 use Rattle.cert_checker.specs.States.{State, MayFollow}
-use Rattle.cert_checker.specs.Checking.{StepFails, StepsFail, StepsLead, IsMadeOf, RecipeFails, EntryFails, ProofFails, PartAt, fox_at, due, Agrees, Disagrees, LineFails}
+use Rattle.cert_checker.specs.Checking.{StepFails, StepsFail, StepsLead, IsMadeOf, RecipeFails, EntryFails, PartAt, fox_at, due, Agrees, Disagrees, LineFails}
 
 -- ---- steps
 

@@ -1,7 +1,6 @@
 -- The lines of all items, with the answers between them, are taken.
-use Rattle.std.proofs.Common.{◌≡◌, ◌⊎◌, inl, inr, ℕ, zero, suc, ◌+◌, ◌<◌, ◌≤◌, ◌^◌, nat_lt, Bool, true, false, List, [], ◌∷◌, ◌++◌, length, map, take, drop, slice_get, Option, Some, None, refl, sym, ap, subst, ◌∙◌, append-nil, take-append-drop, arith}
+use Rattle.std.proofs.Common.{◌≡◌, ℕ, zero, suc, ◌+◌, ◌<◌, ◌≤◌, ◌^◌, nat_lt, Bool, true, false, List, [], ◌∷◌, ◌++◌, length, take, drop, slice_get, Option, Some, None, refl, sym, ap, subst, ◌∙◌, append-nil, take-append-drop, arith}
 use Rattle.std.proofs.lemmas.List.{length-map, map-append, take_all}
-use Rattle.std.proofs.lemmas.Bool.{cases_eq}
 use Rattle.std.proofs.lemmas.Option.{slice_get_within}
 use Rattle.std.specs.List.{AllByRecursion}
 use Rattle.presentation.specs.Presented.{Presented, IsPresented}
@@ -10,17 +9,15 @@ use Rattle.module_vec.specs.Modules.{vector_at}
 use Rattle.module_vec.specs.Reducers.{AreEntries}
 use Rattle.module_vec.proofs.Scans.{take_read}
 use Rattle.vector_text.specs.Over.{VectorIsOver}
-use Rattle.basis_entry.specs.Base.{IsOfGenerator, AreBase}
+use Rattle.basis_entry.specs.Base.{IsOfGenerator}
 use Rattle.basis_entry.specs.Entries.{BasisEntry, IsBasisEntry, vectors_of}
 use Rattle.basis_entry.specs.Seals.{Seal}
 use Rattle.basis_entry.proofs.Vectors.{are_entries}
-use Rattle.report_lines.specs.declared.lines.Line.{Line}
 use Rattle.report_lines.specs.declared.lines.Line.TheVariants as lines
 use Rattle.cert_checker.specs.declared.phase.Phase.{Phase}
 use Rattle.cert_checker.specs.declared.phase.Phase.TheVariants.{Entries, Sealed}
-use Rattle.cert_checker.specs.States.{State}
 use Rattle.report_text.specs.Histories.{SessionAnswers, made_by, live_at, entry_lines, seal_lines, told_from}
-use Rattle.report_text.specs.Reports.{IsSumOver, IsRecord, EntryIsOver}
+use Rattle.report_text.specs.Reports.{IsSumOver, EntryIsOver}
 use Rattle.report_text.proofs.Lists.{all_first, at_place}
 use Rattle.report_acceptance.specs.Accepting.{IsKnownEntry}
 use Rattle.report_acceptance.proofs.Taking.{Leads, nothing, one, both}

@@ -1,5 +1,5 @@
 -- No line end stands within a line of a report.
-use Rattle.std.proofs.Common.{◌≡◌, ◌≢◌, inl, inr, ℕ, ◌<◌, ◌^◌, ◌==◌, true, false, List, [], ◌∷◌, ◌++◌, length, codes, decimal, refl, arith}
+use Rattle.std.proofs.Common.{inl, ℕ, true, false, List, [], ◌∷◌, ◌++◌, length, codes, decimal, refl, arith}
 use Rattle.std.specs.List.{AllByRecursion}
 use Rattle.spelling.specs.Spelling.{IsSmall, coefficient}
 use Rattle.spelling.proofs.Lacking.{coefficient_lacks}

@@ -1,8 +1,7 @@
 -- The places of Fox vectors of words within the limit, and of chains from there on, are in reach.
-use Rattle.std.proofs.Common.{◌≡◌, ◌≢◌, ◌⊎◌, inl, inr, ℕ, zero, suc, ◌+◌, ◌<◌, ◌≤◌, Bool, true, false, ℤ, pos, negsuc, ◌+ℤ◌, if◌then◌else◌, List, [], ◌∷◌, ◌++◌, length, refl, sym, ap, subst, ◌∙◌, append_assoc, arith}
-use borrow.Author.Differences.{ints}
+use Rattle.std.proofs.Common.{◌≡◌, ◌≢◌, ℕ, ◌+◌, ◌≤◌, Bool, true, false, ℤ, pos, negsuc, if◌then◌else◌, List, [], ◌∷◌, ◌++◌, length, refl, sym, subst, ◌∙◌, arith}
 use Rattle.std.proofs.Math.IntN.{+ℤ_idl}
-use Rattle.std.specs.List.{AllByRecursion, sum_by}
+use Rattle.std.specs.List.{AllByRecursion}
 use Rattle.free_words.specs.declared.letter.Letter.{Letter}
 use Rattle.free_words.specs.declared.TheConstants.{COMPOSED}
 use Rattle.free_words.specs.Words.{IsOver}
@@ -13,7 +12,7 @@ use Rattle.laurent_terms.proofs.IntegerVectors.{monomial_of_is}
 use Rattle.module_vec.specs.declared.places.Place.{Place}
 use Rattle.module_vec.specs.declared.places.Term.{Term}
 use Rattle.module_vec.specs.Places.{same_place, IsPlace}
-use Rattle.module_vec.specs.Vectors.{Coefficients, coefficient_at, sum_of, IsTerm}
+use Rattle.module_vec.specs.Vectors.{Coefficients, sum_of, IsTerm}
 use Rattle.module_vec.specs.Results.{HasTerms}
 use Rattle.module_vec.proofs.Order.{test}
 use Rattle.fox_calculus.specs.Fox.{exponent_sums, image, place_of, letter_term, fox_after, fox}

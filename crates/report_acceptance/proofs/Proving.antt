@@ -1,12 +1,12 @@
 -- The proofs of an answer are taken.
-use Rattle.std.proofs.Common.{◌≡◌, ◌≢◌, ℕ, zero, suc, ◌+◌, ◌<◌, ◌≤◌, ◌^◌, List, [], ◌∷◌, ◌++◌, length, get_or, slice_get, Some, refl, sym, ap, subst, ◌∙◌, append_assoc, append-nil, length-append, arith}
+use Rattle.std.proofs.Common.{◌≡◌, ℕ, suc, ◌+◌, ◌<◌, ◌^◌, List, [], ◌∷◌, ◌++◌, length, get_or, refl, sym, ap, subst, ◌∙◌, append_assoc, append-nil, length-append, arith}
 use Rattle.std.specs.List.{AllByRecursion}
 use Rattle.free_words.specs.declared.letter.Letter.{Letter}
 use Rattle.free_words.proofs.OverLemmas.{IsOver-more}
 use Rattle.presentation.specs.Presented.{Presented, IsPresented}
 use Rattle.module_vec.specs.declared.places.Term.{Term}
 use Rattle.module_vec.specs.declared.steps.Step.{Step}
-use Rattle.module_vec.specs.Vectors.{Coefficients, coefficient_at}
+use Rattle.module_vec.specs.Vectors.{coefficient_at}
 use Rattle.module_vec.specs.Reducers.{AreEntries}
 use Rattle.step_lists.specs.declared.way.Way.TheVariants.{Take}
 use Rattle.step_lists.specs.Sums.{zero_vector}
@@ -15,18 +15,17 @@ use Rattle.reduce_cofactor.specs.Answers.{IsRest}
 use Rattle.reduce_cofactor.proofs.Answering.{one_rest}
 use Rattle.hom_check.specs.Shown.{fox_at, IsShown}
 use Rattle.hom_check.proofs.Fitting.{Fits}
-use Rattle.report_lines.specs.declared.lines.Line.{Line}
 use Rattle.report_lines.specs.declared.lines.Line.TheVariants as lines
 use Rattle.report_lines.specs.Lines.{IsLineOf}
 use Rattle.cert_checker.specs.declared.phase.Phase.{Phase}
-use Rattle.cert_checker.specs.States.{State, IsSettled, AreNear, MayFollow, next}
-use Rattle.cert_checker.specs.Checking.{AreThere, StepsLead, due, Agrees}
+use Rattle.cert_checker.specs.States.{State, IsSettled, AreNear}
+use Rattle.cert_checker.specs.Checking.{StepsLead, due}
 use Rattle.report_text.specs.Answers.{AreProofsOf}
 use Rattle.report_text.specs.Histories.{proof_lines}
 use Rattle.report_text.proofs.Chains.{steps_over}
 use Rattle.report_acceptance.proofs.Placing.{IsPlaced, fox_placed}
 use Rattle.report_acceptance.proofs.Stepping.{runs_lead, steps_there, runs_near, runs_read}
-use Rattle.report_acceptance.proofs.Taking.{Leads, nothing, one, both}
+use Rattle.report_acceptance.proofs.Taking.{Leads, one, both}
 
 -- these entries were taken in this phase, and no proof is due
 pub record IsAt (at : Phase) (b : List (List Term)) (s : State) : Type 0 where

@@ -1,5 +1,5 @@
 -- The lines of one answer are taken.
-use Rattle.std.proofs.Common.{◌≡◌, ℕ, ◌+◌, ◌<◌, ◌≤◌, ◌^◌, List, [], ◌∷◌, ◌++◌, length, Option, refl, sym, ap, subst, ◌∙◌, arith}
+use Rattle.std.proofs.Common.{◌≡◌, ℕ, ◌+◌, ◌<◌, ◌≤◌, ◌^◌, List, [], ◌∷◌, length, Option, refl, sym, ap, subst, ◌∙◌, arith}
 use Rattle.std.specs.List.{AllByRecursion}
 use Rattle.spelling.specs.Spelling.{IsSmall}
 use Rattle.presentation.specs.Presented.{Presented, IsPresented}
@@ -11,13 +11,12 @@ use Rattle.vector_text.specs.Over.{VectorIsOver}
 use Rattle.session_text.specs.declared.question.Question.{Question}
 use Rattle.session_text.specs.Questions.{HasSource}
 use Rattle.basis_entry.specs.Seals.{Seal}
-use Rattle.report_lines.specs.declared.lines.Line.{Line}
 use Rattle.report_lines.specs.declared.lines.Line.TheVariants as lines
 use Rattle.session_core.specs.Questions.{CanBeAsked}
 use Rattle.session_core.specs.Verdicts.{IsVerdict}
 use Rattle.cert_checker.specs.declared.phase.Phase.{Phase}
 use Rattle.cert_checker.specs.declared.phase.Phase.TheVariants.{Closing}
-use Rattle.cert_checker.specs.States.{State, IsOpen, seals}
+use Rattle.cert_checker.specs.States.{IsOpen, seals}
 use Rattle.report_text.specs.Answers.{to_show, AreProofsOf}
 use Rattle.report_text.specs.Histories.{proof_lines}
 use Rattle.report_text.proofs.Verdicts.{yes_is_shown}

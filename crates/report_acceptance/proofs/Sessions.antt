@@ -1,10 +1,8 @@
 -- What is told of the questions of sessions, one after another.
-use Rattle.std.proofs.Common.{◌≡◌, ℕ, zero, suc, ◌+◌, ◌<◌, ◌≤◌, ◌^◌, List, [], ◌∷◌, length, slice_get, Option, Some, None, refl, sym, ap, subst, ◌∙◌, arith}
-use Rattle.std.proofs.lemmas.Option.{slice_get_within}
+use Rattle.std.proofs.Common.{◌≡◌, ℕ, suc, ◌<◌, ◌≤◌, ◌^◌, List, [], ◌∷◌, length, slice_get, Option, Some, refl, sym, subst, arith}
 use Rattle.std.specs.List.{AllByRecursion}
 use Rattle.spelling.specs.Spelling.{IsSmall}
 use Rattle.presentation.specs.Presented.{Presented}
-use Rattle.outcomes.specs.declared.verdicts.Verdict.{Verdict}
 use Rattle.session_text.specs.declared.question.Question.{Question}
 use Rattle.session_text.specs.Questions.{HasSource}
 use Rattle.basis_entry.specs.Entries.{BasisEntry}
@@ -12,7 +10,7 @@ use Rattle.basis_entry.specs.Seals.{Seal}
 use Rattle.session_core.specs.declared.kept.Kept.{Kept}
 use Rattle.session_core.specs.Questions.{CanBeAsked}
 use Rattle.session_core.specs.Sessions.{SessionState}
-use Rattle.report_text.specs.Histories.{Reply, Answered, SessionAnswers}
+use Rattle.report_text.specs.Histories.{Answered, SessionAnswers}
 use Rattle.report_text.specs.Answers.{IsReplyTo, IsClosing, IsAnswered, IsSessionAnswered, AreAnswered}
 use Rattle.report_text.specs.Reports.{IsReplied, AreFrom}
 use Rattle.report_acceptance.specs.Accepting.{IsKnownSession}
@@ -50,29 +48,21 @@ module _ (p : Presented) (es : List BasisEntry) (seal : Option Seal) (base : ℕ
       (one_told q k a ask.0 source.0 low.0 (each 0 q k a refl refl refl),
       all_told qs ks answers (omega (arith, m)) (omega (arith, n)) ask.1 source.1 low.1 (λ i r l b x y z. each (suc i) r l b x y z))
 
-  session_told : (s : SessionState) (t : SessionAnswers) → IsSmall s.number → IsKnownSession s → AreFrom base s → IsReplied p es seal s → IsSessionAnswered p es seal s t → IsSessionTold t
-  session_told s t small known from replied is = record {
-    number = let e = is.number in omega (arith, e, small);
-    few = let e = is.count in omega (arith, e, known.questions);
+  session_told : (s : SessionState) (t : SessionAnswers) → IsKnownSession s → AreFrom base s → IsReplied p es seal s → IsSessionAnswered p es seal s t → IsSessionTold t
+  session_told s t known from replied is = record {
+    number = let e = is.number in omega (arith, e, known.number);
+    few = let e = is.count in omega (arith, e, known.session.few);
     answers = all_told s.questions s.kept t.answers replied.count is.count replied.asked known.sources from is.each;
   }
 
-  sessions_from : (ss : List SessionState) (ts : List SessionAnswers) → length ts ≡ length ss → AllByRecursion (λ s. IsSmall s.number) ss → AllByRecursion IsKnownSession ss
+  sessions_from : (ss : List SessionState) (ts : List SessionAnswers) → length ts ≡ length ss → AllByRecursion IsKnownSession ss
       → AllByRecursion (AreFrom base) ss → AllByRecursion (IsReplied p es seal) ss
       → ((j : ℕ) (s : SessionState) (t : SessionAnswers) → slice_get ss j ≡ Some s → slice_get ts j ≡ Some t → IsSessionAnswered p es seal s t) → AllByRecursion IsSessionTold ts
-  sessions_from ss [] n small known from replied each = tt
-  sessions_from [] (t ∷ ts) n small known from replied each = absurd (omega (arith, n))
-  sessions_from (s ∷ ss) (t ∷ ts) n small known from replied each =
-      (session_told s t small.0 known.0 from.0 replied.0 (each 0 s t refl refl), sessions_from ss ts (omega (arith, n)) small.1 known.1 from.1 replied.1 (λ j r u x y. each (suc j) r u x y))
+  sessions_from ss [] n known from replied each = tt
+  sessions_from [] (t ∷ ts) n known from replied each = absurd (omega (arith, n))
+  sessions_from (s ∷ ss) (t ∷ ts) n known from replied each =
+      (session_told s t known.0 from.0 replied.0 (each 0 s t refl refl), sessions_from ss ts (omega (arith, n)) known.1 from.1 replied.1 (λ j r u x y. each (suc j) r u x y))
 
-  pub sessions_told : (ss : List SessionState) (ts : List SessionAnswers) → AllByRecursion (λ s. IsSmall s.number) ss → AllByRecursion IsKnownSession ss
+  pub sessions_told : (ss : List SessionState) (ts : List SessionAnswers) → AllByRecursion IsKnownSession ss
       → AllByRecursion (AreFrom base) ss → AllByRecursion (IsReplied p es seal) ss → AreAnswered p es seal ss ts → AllByRecursion IsSessionTold ts
-  sessions_told ss ts small known from replied is = sessions_from ss ts is.count small known from replied is.each
-
--- what holds at each place
-pub all_by_place : {A : Type 0} (P : A → Type 0) (xs : List A) → ((i : ℕ) (x : A) → slice_get xs i ≡ Some x → P x) → AllByRecursion P xs
-all_by_place P [] each = tt
-all_by_place P (x ∷ xs) each = (each 0 x refl, all_by_place P xs (λ i y e. each (suc i) y e))
-
-pub small_numbers : (ss : List SessionState) → IsSmall (length ss) → ((i : ℕ) (s : SessionState) → slice_get ss i ≡ Some s → s.number ≡ i + 1) → AllByRecursion (λ s. IsSmall s.number) ss
-small_numbers ss few each = all_by_place (λ s. IsSmall s.number) ss (λ i s e. let n = each i s e in let lt = slice_get_within ss i s e in omega (arith, n, lt, few))
+  sessions_told ss ts known from replied is = sessions_from ss ts is.count known from replied is.each

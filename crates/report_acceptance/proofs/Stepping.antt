@@ -1,25 +1,23 @@
 -- The steps of a chain may stand in a proof.
-use Rattle.std.proofs.Common.{◌≡◌, ◌≢◌, ◌⊎◌, inl, inr, ℕ, zero, suc, ◌+◌, ◌<◌, ◌≤◌, ◌^◌, ℤ, pos, ◌<ℤ◌, List, [], ◌∷◌, length, refl, sym, ap, subst, ◌∙◌, arith}
+use Rattle.std.proofs.Common.{◌≡◌, ℕ, zero, suc, ◌+◌, ◌<◌, ◌^◌, pos, ◌<ℤ◌, List, [], ◌∷◌, length, sym, ap, subst, ◌∙◌, arith}
 use Rattle.std.specs.Prelude.{slice_get, Some}
 use Rattle.std.specs.Int.{int_div_euclid}
 use Rattle.std.specs.List.{AllByRecursion}
 use borrow.Author.Differences.{ints}
 use Rattle.formal_sums.proofs.Floors.{zero_floor}
-use Rattle.laurent_terms.specs.declared.TheConstants.{DEGREE}
 use Rattle.laurent_terms.specs.Monomials.{degree, quotient, IsMonomial}
 use Rattle.laurent_terms.proofs.Combining.{sum-quotient, length-combined}
-use Rattle.module_vec.specs.declared.places.Place.{Place}
 use Rattle.module_vec.specs.declared.places.Term.{Term}
 use Rattle.module_vec.specs.declared.steps.Step.{Step}
 use Rattle.module_vec.specs.Places.{IsPlace}
-use Rattle.module_vec.specs.Vectors.{Coefficients, coefficient_at, InRange, HasRoom}
+use Rattle.module_vec.specs.Vectors.{Coefficients, HasRoom}
 use Rattle.module_vec.specs.Modules.{vector_at, AreSteps}
 use Rattle.module_vec.specs.Reducers.{IsEntry, AreEntries}
-use Rattle.module_vec.specs.Chains.{IsNext, Goes, Runs, after, taken_at}
+use Rattle.module_vec.specs.Chains.{IsNext, Goes, Runs, after}
 use Rattle.step_lists.specs.declared.way.Way.TheVariants.{Take}
 use Rattle.step_lists.specs.Sums.{CanPass, Leads}
 use Rattle.reduce_cofactor.proofs.Resting.{entry_at, lead_positive}
-use Rattle.step_text.specs.Over.{StepsAreOver, IsStepOf, AreStepsOf}
+use Rattle.step_text.specs.Over.{StepsAreOver, AreStepsOf}
 use Rattle.cert_checker.specs.States.{IsNear, AreNear}
 use Rattle.cert_checker.specs.Checking.{AreThere}
 use Rattle.report_acceptance.proofs.Placing.{IsPlaced, written_placed}

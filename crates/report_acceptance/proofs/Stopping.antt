@@ -1,5 +1,5 @@
 -- The stop of a chain of a Fox vector can be written and read.
-use Rattle.std.proofs.Common.{◌≡◌, ◌≢◌, ◌⊎◌, inl, inr, ℕ, zero, suc, ◌+◌, ◌<◌, ◌≤◌, ◌^◌, ℤ, pos, negsuc, ◌-ℤ◌, ◌+ℤ◌, ◌*ℤ◌, neg_ℤ, List, [], ◌∷◌, ◌++◌, length, map, refl, sym, ap, subst, ◌∙◌, length-append, arith}
+use Rattle.std.proofs.Common.{◌≡◌, ◌≢◌, ◌⊎◌, inl, inr, ℕ, zero, suc, ◌+◌, ◌≤◌, ℤ, pos, negsuc, ◌-ℤ◌, ◌*ℤ◌, List, [], ◌∷◌, ◌++◌, length, refl, sym, subst, ◌∙◌, length-append, arith}
 use borrow.Author.Differences.{ints}
 use Rattle.std.proofs.lemmas.List.{length-map}
 use Rattle.std.proofs.lemmas.Option.{slice_get_within}
@@ -7,7 +7,7 @@ use Rattle.std.specs.List.{AllByRecursion}
 use Rattle.free_words.specs.declared.letter.Letter.{Letter}
 use Rattle.free_words.specs.declared.TheConstants.{COMPOSED}
 use Rattle.free_words.specs.Words.{IsOver}
-use Rattle.formal_sums.specs.FormalSum.{FormalSum, coefficient, scale, rename}
+use Rattle.formal_sums.specs.FormalSum.{FormalSum, coefficient, scale}
 use Rattle.formal_sums.proofs.Shortest.{falling_shortest}
 use Rattle.formal_sums.proofs.Coefficients.{coefficient-scale, coefficient-append}
 use Rattle.laurent_terms.specs.declared.TheConstants.{DEGREE}
@@ -20,7 +20,7 @@ use Rattle.module_vec.specs.declared.steps.Step.{Step}
 use Rattle.module_vec.specs.declared.faults.Stop.{Stop}
 use Rattle.module_vec.specs.declared.faults.Stop.TheVariants.{Wide, Long, Deep, Steep}
 use Rattle.module_vec.specs.Places.{same_place, moved, IsPlace}
-use Rattle.module_vec.specs.Vectors.{Coefficients, coefficient_at, sum_of, multiple, HasRoom, IsTerm, IsVector}
+use Rattle.module_vec.specs.Vectors.{Coefficients, sum_of, multiple, HasRoom, IsTerm, IsVector}
 use Rattle.module_vec.specs.Modules.{vector_at}
 use Rattle.module_vec.specs.Reducers.{IsEntry, AreEntries}
 use Rattle.module_vec.specs.Results.{DifferenceIsWide, HasTerms}

@@ -1,7 +1,7 @@
 -- What is told of the text of lines that are taken.
-use Rattle.std.proofs.Common.{◌≡◌, ◌≢◌, ◌⊎◌, inl, inr, ℕ, ◌+◌, List, [], ◌∷◌, ◌++◌, length, refl, sym, ap, subst, ◌∙◌, append_assoc, arith}
+use Rattle.std.proofs.Common.{◌≡◌, ◌≢◌, inl, inr, ℕ, ◌+◌, List, [], ◌∷◌, ◌++◌, refl, sym, ap, subst, ◌∙◌, append_assoc}
 use Rattle.std.proofs.lemmas.Option.{none-some}
-use Rattle.std.specs.Prelude.{Some, None, Option, Result, Ok, Err}
+use Rattle.std.specs.Prelude.{Some, None, Result, Ok}
 use Rattle.spelling.specs.Spelling.{cut}
 use Rattle.spelling.proofs.Cuts.{cut_here}
 use Rattle.word_text.specs.Place.{capped}
@@ -20,7 +20,7 @@ use Rattle.cert_checker.specs.declared.phase.Phase.TheVariants.{Title, Presentat
 use Rattle.cert_checker.specs.declared.faults.CertKind.{CertKind}
 use Rattle.cert_checker.specs.declared.faults.CertFault.{CertFault}
 use Rattle.cert_checker.specs.States.{State, start, MayFollow, next}
-use Rattle.cert_checker.specs.Checking.{Agrees, LineHolds, LineFails}
+use Rattle.cert_checker.specs.Checking.{Agrees, LineFails}
 use Rattle.cert_checker.specs.Texts.{BodyHolds, BodyFails, HoldsIn, FailsIn, BytesHold, BytesFail, IsComplete, counts, Tells}
 use Rattle.report_acceptance.proofs.LineBytes.{line_line, pres_line_line}
 use Rattle.report_acceptance.proofs.Exclusion.{never_fails}

@@ -12,7 +12,7 @@ use Rattle.report_lines.specs.declared.lines.Line.{Line}
 use Rattle.report_lines.specs.declared.lines.Line.TheVariants as lines
 use Rattle.report_lines.specs.Lines.{IsEndOf}
 use Rattle.basis_entry.specs.Entries.{BasisEntry, IsBasisEntry}
-use Rattle.session_core.specs.Sessions.{SessionState}
+use Rattle.session_core.specs.Sessions.{SessionState, IsSession}
 use Rattle.cert_checker.specs.declared.checked.Checked.{Checked}
 use Rattle.cert_checker.specs.declared.faults.CertFault.{CertFault}
 use Rattle.cert_checker.specs.declared.faults.CertFault.TheVariants.{Line as AtLine, NoMemory}
@@ -30,16 +30,16 @@ pub record IsKnownEntry (e : BasisEntry) : Type 0 where
   pub entry : IsBasisEntry e
   pub recipe : HasMonomials (made_by e.recipe)
 
--- a session's questions can be numbered, and the source of each map is a presentation
+-- the source of each map of a session is a presentation
 pub record IsKnownSession (s : SessionState) : Type 0 where
-  pub questions : IsSmall (length s.questions)
+  pub session : IsSession s
+  pub number : IsSmall s.number
   pub sources : AllByRecursion HasSource s.questions
 
 pub record IsKnown (r : Reported) : Type 0 where
   pub presented : IsPresented r.pres
   pub entries : AllByRecursion IsKnownEntry r.entries
   pub end : IsEndOf (length r.pres.names) r.end
-  pub few : IsSmall (length r.sessions)
   pub sessions : AllByRecursion IsKnownSession r.sessions
 
 -- ---- what is answered
