@@ -52,7 +52,7 @@ module _ (p : Presented) (gens : List (List Term)) (pres : IsPresented p) (es : 
       let within = known.within in
       one p gens (IsAt (phase_of seal) (vectors_of es)) (IsAt Closing (vectors_of es)) (lines.End end) valid
       (λ s h. let same : length s.entries ≡ length (vectors_of es) = ap length h.entries in
-          ((subst IsOpen (sym h.phase) (is_open seal), h.settled, omega (arith, same, number, all, within)), (tt, record { phase = refl; entries = h.entries; settled = h.settled })))
+      ((subst IsOpen (sym h.phase) (is_open seal), h.settled, omega (arith, same, number, all, within)), (tt, record { phase = refl; entries = h.entries; settled = h.settled })))
 
   closed : Leads p gens (IsAt Closing (vectors_of es)) (closing_of ts) (IsAt Closing (vectors_of es))
   closed =
@@ -72,7 +72,6 @@ module _ (p : Presented) (gens : List (List Term)) (pres : IsPresented p) (es : 
 -- ---- reports that can be written
 
 module _ (r : Reported) (h : History) (known : IsKnown r) (can : IsReportable r) (is : IsHistoryOf r h) where
-
   are_known : AreKnown r.pres can.entries.begins.gens can.base r.entries
   are_known = record {
     entries = known.entries;

@@ -91,14 +91,22 @@ next_small gens b (Sum ss) v few h = there_small b ss few h.0
 module _ (p : Presented) (gens : List (List Term)) where
   entry_line : (b : List (List Term)) (k : ℕ) (e : BasisEntry) → k ≡ length b → length b < 2 ^ 32 → IsKnownEntry e → EntryIsOver (length p.names) e → IsNextEntry gens b e
       → IsLineOf p (lines.Entry k (made_by e.recipe) e.vector)
-  entry_line b k e at few known over next =
-      (omega (arith, at, few), (made_read (length p.names) (made_by e.recipe) over.recipe known.recipe (next_small gens b (made_by e.recipe) e.vector few next.is),
-      record { vector = known.entry.entry.vector; over = over.vector }))
+  entry_line b k e at few known over next = (
+    omega (arith, at, few),
+    (
+      made_read (length p.names) (made_by e.recipe) over.recipe known.recipe (next_small gens b (made_by e.recipe) e.vector few next.is),
+      record { vector = known.entry.entry.vector; over = over.vector },
+    ),
+  )
 
   pub entry_taken : (b : List (List Term)) (k : ℕ) (e : BasisEntry) → k ≡ length b → length b < 2 ^ 32 → IsKnownEntry e → EntryIsOver (length p.names) e → IsNextEntry gens b e
       → Leads p gens (IsAt Entries b) (lines.Entry k (made_by e.recipe) e.vector ∷ []) (IsAt Entries (b ++ e.vector ∷ []))
   entry_taken b k e at few known over next =
       one p gens (IsAt Entries b) (IsAt Entries (b ++ e.vector ∷ [])) (lines.Entry k (made_by e.recipe) e.vector) (entry_line b k e at few known over next)
-      (λ s h. ((h.phase, h.settled, at ∙ sym (ap length h.entries), subst (λ c. IsInTurn gens c (made_by e.recipe)) (sym h.entries) next.turn),
-          (subst (λ c. IsMadeOf gens c (made_by e.recipe) (coefficient_at e.vector)) (sym h.entries) next.is,
-          record { phase = h.phase; entries = ap (λ c. c ++ e.vector ∷ []) h.entries; settled = h.settled })))
+      (λ s h. (
+        (h.phase, h.settled, at ∙ sym (ap length h.entries), subst (λ c. IsInTurn gens c (made_by e.recipe)) (sym h.entries) next.turn),
+        (
+          subst (λ c. IsMadeOf gens c (made_by e.recipe) (coefficient_at e.vector)) (sym h.entries) next.is,
+          record { phase = h.phase; entries = ap (λ c. c ++ e.vector ∷ []) h.entries; settled = h.settled },
+        ),
+      ))

@@ -131,7 +131,7 @@ module _ (p : Presented) (gens : List (List Term)) (pres : IsPresented p) (es : 
         let within = known.within in
         one p gens (IsAt Entries (vectors_of es)) (IsAt Sealed (vectors_of es)) lines.Seal tt
         (λ s h. let same : length s.entries ≡ length (vectors_of es) = ap length h.entries in
-            ((h.phase, h.settled, omega (arith, same, number, all, within)), (tt, record { phase = refl; entries = h.entries; settled = h.settled })))
+        ((h.phase, h.settled, omega (arith, same, number, all, within)), (tt, record { phase = refl; entries = h.entries; settled = h.settled })))
 
     end_taken : (o : Option Seal) (k : ℕ) → k ≡ length es → Leads p gens (IsAt Entries (vectors_of es)) (told_from ts k (seal_lines o)) (IsAt (phase_of o) (vectors_of es))
     end_taken None k at = nothing p gens (IsAt Entries (vectors_of es))

@@ -128,29 +128,29 @@ module _ (p : Presented) (known : IsPresented p) where
   answer_line : (q : Question) (v : Verdict) → IsAnswer p q v → IsOneLine (answer_text p.names q v)
   answer_line q v h = coloned_line (written_question p.names q) (verdict_text p.names v) (question_line p known q h.question) (verdict_line p.names (names_of p known) v h.verdict)
 
-  pub line_line : (l : Line) → IsLineOf p l → IsOneLine (line_text p l)
-  line_line (lines.Entry number made vector) h =
+  pub whole_line : (l : Line) → IsLineOf p l → IsOneLine (line_text p l)
+  whole_line (lines.Entry number made vector) h =
       join_line (codes "entry ") (spaced (decimal number) (coloned (made_text p.names made) (vector_text p.names vector))) (literal 10 (codes "entry ") refl)
       (spaced_line (decimal number) (coloned (made_text p.names made) (vector_text p.names vector)) (small_line number h.0)
       (coloned_line (made_text p.names made) (vector_text p.names vector) (made_line p.names (names_of p known) made h.1.0) (vector_line p.names (names_of p known) vector h.1.1)))
-  line_line lines.Seal h = literal 10 (codes "seal") refl
-  line_line (lines.Live session number front question verdict) h =
+  whole_line lines.Seal h = literal 10 (codes "seal") refl
+  whole_line (lines.Live session number front question verdict) h =
       let answer : IsOneLine (answer_text p.names question verdict) = answer_line question verdict h.1.1.1 in
       let from : IsOneLine (spaced (decimal front) (answer_text p.names question verdict)) = spaced_line (decimal front) (answer_text p.names question verdict) (small_line front h.1.1.0) answer in
       let numbered : IsOneLine (spaced (decimal number) (spaced (decimal front) (answer_text p.names question verdict))) =
       spaced_line (decimal number) (spaced (decimal front) (answer_text p.names question verdict)) (small_line number h.1.0) from in
       join_line (codes "live ") (spaced (decimal session) (spaced (decimal number) (spaced (decimal front) (answer_text p.names question verdict)))) (literal 10 (codes "live ") refl)
       (spaced_line (decimal session) (spaced (decimal number) (spaced (decimal front) (answer_text p.names question verdict))) (small_line session h.0) numbered)
-  line_line (lines.Proof subject steps) h =
+  whole_line (lines.Proof subject steps) h =
       join_line (codes "proof ") (spaced (decimal subject) (steps_text p.names steps)) (literal 10 (codes "proof ") refl)
       (spaced_line (decimal subject) (steps_text p.names steps) (small_line subject h.0) (steps_line p.names (names_of p known) steps h.1))
-  line_line (lines.End end) h = join_line (codes "end ") (end_text p.names end) (literal 10 (codes "end ") refl) (end_line p.names (names_of p known) end h)
-  line_line (lines.Close session number question verdict) h =
+  whole_line (lines.End end) h = join_line (codes "end ") (end_text p.names end) (literal 10 (codes "end ") refl) (end_line p.names (names_of p known) end h)
+  whole_line (lines.Close session number question verdict) h =
       let answer : IsOneLine (answer_text p.names question verdict) = answer_line question verdict h.1.1 in
       join_line (codes "close ") (spaced (decimal session) (spaced (decimal number) (answer_text p.names question verdict))) (literal 10 (codes "close ") refl)
       (spaced_line (decimal session) (spaced (decimal number) (answer_text p.names question verdict)) (small_line session h.0)
       (spaced_line (decimal number) (answer_text p.names question verdict) (small_line number h.1.0) answer))
-  line_line lines.Done h = literal 10 (codes "done") refl
+  whole_line lines.Done h = literal 10 (codes "done") refl
 
-  pub pres_line_line : IsOneLine (pres_line p)
-  pres_line_line = join_line (codes "pres ") (written_presentation p) (literal 10 (codes "pres ") refl) (presentation_line p known)
+  pub head_line : IsOneLine (pres_line p)
+  head_line = join_line (codes "pres ") (written_presentation p) (literal 10 (codes "pres ") refl) (presentation_line p known)

@@ -95,11 +95,14 @@ module _ (p : Presented) (gens : List (List Term)) (known : IsPresented p) (b : 
         let word : (s : State) → IsProving phase b ws j s → due s ≡ w = λ s h. (λ i. get_or (h.subjects i) (h.shown i) []) ∙ (λ i. get_or (parts i) (at i) []) ∙ middle before w others in
         one p gens (IsProving phase b ws j) (IsProving phase b ws (j + 1)) (lines.Proof (j + 1) ss) (proof_line (j + 1) w ss (omega (arith, long, at, count)) fits is)
         (λ s h.
-            let own : length s.subjects ≡ length ws = ap length h.subjects in
-            let number = h.shown in
-            ((omega (arith, own, number, long, at), omega (arith, number), subst (λ c. AreNear c ss) (sym h.entries) proof.near),
-            (subst (λ c. StepsLead Take c (fox_at (due s)) ss zero_vector) (sym h.entries) (subst (λ v. StepsLead Take b (fox_at v) ss zero_vector) (sym (word s h)) proof.leads),
-            record { phase = h.phase; entries = h.entries; subjects = h.subjects; shown = ap (λ n. n + 1) h.shown })))
+        let own : length s.subjects ≡ length ws = ap length h.subjects in
+        let number = h.shown in (
+          (omega (arith, own, number, long, at), omega (arith, number), subst (λ c. AreNear c ss) (sym h.entries) proof.near),
+          (
+            subst (λ c. StepsLead Take c (fox_at (due s)) ss zero_vector) (sym h.entries) (subst (λ v. StepsLead Take b (fox_at v) ss zero_vector) (sym (word s h)) proof.leads),
+            record { phase = h.phase; entries = h.entries; subjects = h.subjects; shown = ap (λ n. n + 1) h.shown },
+          ),
+        ))
 
     all_shown : (j : ℕ) (before : List (List Letter)) → ws ≡ before → j ≡ length before → (s : State) → IsProving phase b ws j s → IsAt phase b s
     all_shown j before parts at s h =

@@ -35,9 +35,10 @@ module _ (p : Presented) (gens : List (List Term)) (known : IsPresented p) (b : 
     live_line at s n front small_s small_n small_front opened low is_front =
         one p gens (IsAt at b) (IsProving at b (to_show q v) 0) (lines.Live s n front q v) (small_s, (small_n, (small_front, is_answer p known b seal q ask source entries over v is)))
         (λ st h.
-            let own : length st.entries ≡ length b = ap length h.entries in
-            ((subst IsOpen (sym h.phase) opened, h.settled, omega (arith, own, low), is_front ∙ sym (λ i. length (h.entries i) + seals (h.phase i)), ask.1),
-            (tt, record { phase = h.phase; entries = h.entries; subjects = asked_is q v; shown = refl })))
+        let own : length st.entries ≡ length b = ap length h.entries in (
+          (subst IsOpen (sym h.phase) opened, h.settled, omega (arith, own, low), is_front ∙ sym (λ i. length (h.entries i) + seals (h.phase i)), ask.1),
+          (tt, record { phase = h.phase; entries = h.entries; subjects = asked_is q v; shown = refl }),
+        ))
 
     pub live_taken : (at : Phase) (s n front : ℕ) → IsSmall s → IsSmall n → IsSmall front → IsOpen at → length gens ≤ length b → front ≡ length b + seals at
         → Leads p gens (IsAt at b) (lines.Live s n front q v ∷ proof_lines 1 proofs) (IsAt at b)

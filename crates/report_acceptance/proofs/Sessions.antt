@@ -44,9 +44,10 @@ module _ (p : Presented) (es : List BasisEntry) (seal : Option Seal) (base : ℕ
   all_told qs ks [] m n ask source low each = tt
   all_told [] ks (a ∷ answers) m n ask source low each = absurd (omega (arith, n))
   all_told (q ∷ qs) [] (a ∷ answers) m n ask source low each = absurd (omega (arith, m))
-  all_told (q ∷ qs) (k ∷ ks) (a ∷ answers) m n ask source low each =
-      (one_told q k a ask.0 source.0 low.0 (each 0 q k a refl refl refl),
-      all_told qs ks answers (omega (arith, m)) (omega (arith, n)) ask.1 source.1 low.1 (λ i r l b x y z. each (suc i) r l b x y z))
+  all_told (q ∷ qs) (k ∷ ks) (a ∷ answers) m n ask source low each = (
+    one_told q k a ask.0 source.0 low.0 (each 0 q k a refl refl refl),
+    all_told qs ks answers (omega (arith, m)) (omega (arith, n)) ask.1 source.1 low.1 (λ i r l b x y z. each (suc i) r l b x y z),
+  )
 
   session_told : (s : SessionState) (t : SessionAnswers) → IsKnownSession s → AreFrom base s → IsReplied p es seal s → IsSessionAnswered p es seal s t → IsSessionTold t
   session_told s t known from replied is = record {

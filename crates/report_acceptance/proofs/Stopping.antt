@@ -74,7 +74,7 @@ difference_few f q t g n brief most h =
     let whole : FormalSum Place = brief.sum ++ minus in
     let turned : (x : Place) → coefficient same_place minus x ≡ negsuc 0 *ℤ coefficient same_place (multiple q t g) x = λ x. coefficient-scale same_place (negsuc 0) (multiple q t g) x in
     let same : (x : Place) → coefficient same_place (sum_of h.v) x ≡ coefficient same_place whole x = λ x.
-        let a = h.is x in let c = brief.is x in let d = turned x in let e = coefficient-append same_place brief.sum minus x in omega (arith, ints, a, c, d, e) in
+    let a = h.is x in let c = brief.is x in let d = turned x in let e = coefficient-append same_place brief.sum minus x in omega (arith, ints, a, c, d, e) in
     let le = falling_shortest test order (sum_of h.v) whole h.sparse.falling (nonzero h.v h.sparse.terms) same in
     let m = length-map {B = ℤ × Place} h.v (λ t. (t.k, t.at)) in
     let long = length-append brief.sum minus in

@@ -22,7 +22,7 @@ use Rattle.cert_checker.specs.declared.faults.CertFault.{CertFault}
 use Rattle.cert_checker.specs.States.{State, start, MayFollow, next}
 use Rattle.cert_checker.specs.Checking.{Agrees, LineFails}
 use Rattle.cert_checker.specs.Texts.{BodyHolds, BodyFails, HoldsIn, FailsIn, BytesHold, BytesFail, IsComplete, counts, Tells}
-use Rattle.report_acceptance.proofs.LineBytes.{line_line, pres_line_line}
+use Rattle.report_acceptance.proofs.LineBytes.{whole_line, head_line}
 use Rattle.report_acceptance.proofs.Exclusion.{never_fails}
 use Rattle.report_acceptance.proofs.Taking.{after, AllHold}
 
@@ -75,7 +75,7 @@ parts_of text line others front rest cuts is = some_pair (line, others) (front, 
 
 module _ (p : Presented) (gens : List (List Term)) (known : IsPresented p) where
   line_cut : (l : Line) (ls : List Line) → IsLineOf p l → cut 10 (lines_text p (l ∷ ls)) ≡ Some (line_text p l, lines_text p ls)
-  line_cut l ls h = ap (cut 10) (append_assoc (line_text p l) (10 ∷ []) (lines_text p ls)) ∙ cut_here 10 (line_text p l) (lines_text p ls) (line_line p known l h)
+  line_cut l ls h = ap (cut 10) (append_assoc (line_text p l) (10 ∷ []) (lines_text p ls)) ∙ cut_here 10 (line_text p l) (lines_text p ls) (whole_line p known l h)
 
   line_held : (s : State) (l : Line) → IsBehindHead s.phase → IsLineOf p l → MayFollow gens s l → Agrees gens s l → BytesHold p gens s (line_text p l) (next s l)
   line_held s l behind valid follows agrees =
@@ -134,7 +134,7 @@ module _ (p : Presented) (gens : List (List Term)) (known : IsPresented p) where
   head_cut ls = cut_here 10 title (pres_line p ++ 10 ∷ lines_text p ls) (literal 10 title refl)
 
   pres_cut : (ls : List Line) → cut 10 (pres_line p ++ 10 ∷ lines_text p ls) ≡ Some (pres_line p, lines_text p ls)
-  pres_cut ls = cut_here 10 (pres_line p) (lines_text p ls) (pres_line_line p known)
+  pres_cut ls = cut_here 10 (pres_line p) (lines_text p ls) (head_line p known)
 
   pub told_whole : (ls : List Line) → AllHold p gens (record start { phase = Entries }) ls → IsComplete (after (record start { phase = Entries }) ls) []
       → Tells p gens 1 start (report_text p ls) (Ok (counts (after (record start { phase = Entries }) ls)))

@@ -117,7 +117,7 @@ presentation_line p h =
     let head : IsOneLine (codes "<" ++ names) = join_line (codes "<") names (refl, tt) (joined_line (codes ", ") p.names comma (name_lines p.names h.names)) in
     let middle : IsOneLine (codes "<" ++ names ++ codes " | ") = join_line (codes "<" ++ names) (codes " | ") head (literal 10 (codes " | ") refl) in
     let front : IsOneLine (codes "<" ++ names ++ codes " | " ++ relators) = join_line (codes "<" ++ names ++ codes " | ") relators middle
-        (joined_line (codes ", ") (map (written_word p.names) p.relators) comma (word_lines p.names p.relators (names_of p h) h.relators)) in
+    (joined_line (codes ", ") (map (written_word p.names) p.relators) comma (word_lines p.names p.relators (names_of p h) h.relators)) in
     let bare : IsOneLine (written_bare p.names p.relators) = join_line (codes "<" ++ names ++ codes " | " ++ relators) (codes ">") front (refl, tt) in
     join_line (written_bare p.names p.relators) (written_modulus p.modulus) bare (modulus_line p.modulus h.modulus)
 
