@@ -4,4 +4,6 @@
 //! that can be written is enough for each of its lines to hold. Each function does nothing: its contract is the law.
 #![tactic(auto)]
 
+mod known;
 pub mod laws;
+pub mod reports;
