@@ -4,16 +4,15 @@ ghost use Rattle.std.specs.List.{AllByRecursion};
 ghost use Rattle.std.specs.Prelude.{length, map};
 ghost use Rattle.std.specs.Arc.{arc_value};
 ghost use Rattle.laurent_terms.specs.Monomials.{IsMonomial};
-ghost use Rattle.spelling.specs.Spelling.{IsSmall};
 ghost use Rattle.session_text.specs.Questions.{HasSource};
-ghost use Rattle.report_lines.specs.Lines.{StopIsOver, EndIsOver, IsStopOf, IsTask, IsEndOf};
+ghost use Rattle.report_lines.specs.Lines.{EndIsOver, IsEndOf};
 ghost use Rattle.report_text.specs.Histories.{made_by};
 ghost use Rattle.report_text.specs.Reports.{reported, IsReportable};
 ghost use Rattle.report_acceptance.specs.Accepting.{HasMonomials, IsKnownEntry, IsKnownSession, IsKnown};
 
 use basis_entry::{Entry, Recipe};
-use module_vec::{Step, Stop};
-use outcomes::{End, Task};
+use module_vec::Step;
+use outcomes::End;
 use report_text::Report;
 use session_core::Session;
 use session_text::Question;
@@ -69,51 +68,6 @@ fn steps_are_known(steps: &[Step])
 fn end_is_known(end: End, count: u8)
     requires { EndIsOver count end }
     ensures { IsEndOf count end }
-{
-    match end {
-        End::Sealed => {}
-        End::Stopped { task, stop } => {
-            task_is_known(task);
-            stop_is_known(stop, count);
-        }
-        End::Full { count, .. } => is_small(count),
-        End::Spent { commits, task } => {
-            is_small(commits);
-            task_is_known(task);
-        }
-    }
-}
-
-/// A task.
-fn task_is_known(task: Task)
-    ensures { IsTask task }
-{
-    is_small(task.i);
-    is_small(task.j);
-}
-
-/// Why a computation stops.
-fn stop_is_known(stop: Stop, count: u8)
-    requires { StopIsOver count stop }
-    ensures { IsStopOf count stop }
-{
-    match stop {
-        Stop::Wide { at, step } => {
-            at.m.degree();
-            is_small(step);
-        }
-        Stop::Long { terms, step } => {
-            is_small(terms);
-            is_small(step);
-        }
-        Stop::Deep => {}
-        Stop::Steep { degree } => is_small(degree),
-    }
-}
-
-/// A number of 32 bits.
-fn is_small(n: u32)
-    ensures { IsSmall n }
 {}
 
 /// Sessions.
