@@ -21,21 +21,23 @@ use Rattle.report_text.specs.Reports.{Reported}
 
 -- ---- what holds of the parts of every report
 
--- the factors of a recipe's steps are monomials of the reach
+-- the steps of a recipe have monomials, within the limit on degrees
 abbrev pub HasMonomials : Made → Type 0
 HasMonomials (Gen negated) = Unit {0}
 HasMonomials (Sum steps) = AllByRecursion (λ s. IsMonomial s.t) steps
 
+-- a vector of the module with a positive lead, made so
 pub record IsKnownEntry (e : BasisEntry) : Type 0 where
   pub entry : IsBasisEntry e
   pub recipe : HasMonomials (made_by e.recipe)
 
--- the source of each map of a session is a presentation
+-- a session with a number of 32 bits, where the source of each map is a presentation
 pub record IsKnownSession (s : SessionState) : Type 0 where
   pub session : IsSession s
   pub number : IsSmall s.number
   pub sources : AllByRecursion HasSource s.questions
 
+-- the end has numbers of 32 bits too, and names a place in reach, if any
 pub record IsKnown (r : Reported) : Type 0 where
   pub presented : IsPresented r.pres
   pub entries : AllByRecursion IsKnownEntry r.entries
