@@ -1,0 +1,17 @@
+pub mod Taking
+pub mod WordBytes
+pub mod LineBytes
+pub mod Exclusion
+pub mod Told
+pub mod Generating
+pub mod Placing
+pub mod Stepping
+pub mod Proving
+pub mod Stopping
+pub mod Verdicts
+pub mod Replying
+pub mod Entries
+pub mod Sessions
+pub mod Answering
+pub mod Items
+pub mod Acceptance
