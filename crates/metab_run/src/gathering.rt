@@ -96,6 +96,22 @@ fn answer<F: Front>(
     Ok(())
 }
 
+/// The sessions with each question that had no reply yet answered by all items of the list.
+fn answered<F: Front>(
+    alloc: Global,
+    p: &Presentation,
+    list: &F,
+    sessions: Vec<Session>,
+) -> Result<Vec<Session>, AllocError>
+    requires entries { AreOf p.now (F.entries list.now) }
+    requires sessions { (i : ℕ) (s : SessionState) → slice_get sessions.items i ≡ Some s → CanGoOn p.now (F.entries list.now) (F.seal list.now) s }
+    ensures { IfOk result (λ news. AreAnsweredOn p.now (F.entries list.now) (F.seal list.now) sessions.items news.items) }
+{
+    let mut sessions = sessions;
+    answer(alloc, p, list, &mut sessions)?;
+    Ok(sessions)
+}
+
 /// The same entries.
 #[tactic(auto, using(basis_entry::proofs::Growing::map_more))]
 fn shared(alloc: Global, entries: &[Arc<Entry>]) -> Result<Vec<Arc<Entry>>, AllocError>
@@ -185,7 +201,6 @@ pub fn gather(
     let mut book = book;
     let end = finished(alloc, p, &mut book)?;
     let index = leads(alloc, &book)?;
-    let mut sessions = sessions;
-    answer(alloc, p, &Indexed::over(&book, &index), &mut sessions)?;
+    let sessions = answered(alloc, p, &Indexed::over(&book, &index), sessions)?;
     report(alloc, p, book, end, sessions)
 }
