@@ -4,3 +4,11 @@ pub mod Wording
 pub mod Reports
 mod Found
 mod Options
+mod Asked
+mod Rows
+mod Fronts
+mod Legality
+mod Indexing
+mod Completed
+mod Asking
+mod Answering
