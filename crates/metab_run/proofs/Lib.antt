@@ -12,3 +12,6 @@ mod Indexing
 mod Completed
 mod Asking
 mod Answering
+pub mod SessionFiles
+mod Ranges
+pub mod Reportable

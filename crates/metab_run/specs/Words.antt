@@ -1,5 +1,5 @@
 -- The words of the command line.
-use Rattle.std.specs.Prelude.{ℕ, Bool, ◌&&◌, ◌||◌, not, nat_lt, List, [], ◌∷◌, length, Option, Some, None, option_map, option_and_then, map, codes, if◌then◌else◌}
+use Rattle.std.specs.Prelude.{◌≤◌, ℕ, Bool, ◌&&◌, ◌||◌, not, nat_lt, List, [], ◌∷◌, length, Option, Some, None, option_map, option_and_then, map, codes, if◌then◌else◌}
 use Rattle.std.specs.Str.{bytes_eq}
 use denote.Bor.{Bor}
 use Rattle.word_text.specs.Scan.{digits_at, after_digits, number, within}
@@ -140,3 +140,15 @@ asked (commands.Steps w) = Steps (steps_asked w)
 asked (commands.Fox w) = Fox (fox_asked w)
 asked (commands.Check w) = Check (check_asked w)
 asked (commands.Solo w) = Solo (solo_asked w)
+
+-- the limit on entries lies in its range, and there aren't too many sessions
+pub record IsWithinTable (w : SoloWords) : Type 0 where
+  pub least : LEAST_ENTRIES ≤ w.entries
+  pub most : w.entries ≤ MOST_ENTRIES
+  pub few : length w.sessions.items ≤ SESSIONS
+
+abbrev pub HasLimits : Command → Type 0
+HasLimits (commands.Steps w) = Unit {0}
+HasLimits (commands.Fox w) = Unit {0}
+HasLimits (commands.Check w) = Unit {0}
+HasLimits (commands.Solo w) = IsWithinTable w

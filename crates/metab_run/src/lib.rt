@@ -7,6 +7,7 @@ mod files;
 mod fox;
 mod gathering;
 mod parsing;
+mod sessions;
 mod solo;
 mod status;
 mod steps;

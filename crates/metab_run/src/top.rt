@@ -4,7 +4,7 @@ ghost use Rattle.std.specs.Prelude.{◌≡◌, ℕ, ◌≤◌, List, IfOk, map, 
 ghost use Rattle.mb_io.specs.Shelf.{CountRose};
 ghost use Rattle.metab_run.specs.Words.{command};
 ghost use Rattle.metab_run.specs.Ends.{Ends};
-ghost use Rattle.metab_run.specs.Top.{IsDue, ShownTrivial};
+ghost use Rattle.metab_run.specs.Top.{IsDue, ShownTrivial, AsksReport, Finds};
 
 use crate::answer::{Answer, Halt};
 use crate::checking::check;
@@ -26,7 +26,10 @@ enum Found {
 }
 
 // What is found for these words.
-fn find<S: Shelf>(alloc: Global, words: &[String], shelf: &mut S) -> Result<Found, AllocError> {
+fn find<S: Shelf>(alloc: Global, words: &[String], shelf: &mut S) -> Result<Found, AllocError>
+    ensures finds { IfOk result (Finds (CountRose (S.faults shelf.old) (S.faults shelf.new)) (S.under shelf.old) (map string_bytes words.now)) }
+    ensures later { S.faults shelf.old ≤ S.faults shelf.new }
+{
     let Some(asked) = read_command(alloc, words)? else {
         return Ok(Found::Says(Answer::refused_words(alloc)?));
     };
@@ -47,12 +50,29 @@ fn find<S: Shelf>(alloc: Global, words: &[String], shelf: &mut S) -> Result<Foun
 }
 
 /// Does what the words of the command line ask, over the texts on the shelf, writes the answer, and says how it ended.
+///
+/// The words are those after the program's name. It waits for nobody and always returns. Words that ask for no command
+/// that is built are refused. Texts are read in the order of the command line, each whole and then parsed before the
+/// next is opened.
+#[tactic(auto, using(crate::proofs::ReportEnds::report_ends, crate::proofs::ReportEnds::report_status))]
 pub fn metab_alone<S: Shelf, K: Sink>(
     alloc: Global,
     words: &[String],
     shelf: &mut S,
     out: &mut K,
-) -> Status {
+) -> Status
+    // The answer that is due was written whole, with its status; or the sink failed and took a front of it; or memory
+    // ran out, and nothing was written, or a front of a report.
+    ensures ends { Ends (AsksReport (command (map string_bytes words.now))) (IsDue (CountRose (S.faults shelf.old) (S.faults shelf.new)) (S.under shelf.old) (map string_bytes words.now))
+        (CountRose (K.faults out.old) (K.faults out.new)) (K.taken out.old) (K.taken out.new) result }
+
+    // `steps` says yes only to a word that moves carry to the empty word, and `check` only to a report that is true.
+    ensures trivial { result ≡ Status.Done → ShownTrivial (S.under shelf.old) (command (map string_bytes words.now)) }
+
+    // A read fault is answered only where the shelf has counted one, and a write fault where the sink has.
+    ensures read_fault { result ≡ Status.ReadFault → CountRose (S.faults shelf.old) (S.faults shelf.new) }
+    ensures write_fault { result ≡ Status.WriteFault → CountRose (K.faults out.old) (K.faults out.new) }
+{
     match find(alloc, words, shelf) {
         Ok(Found::Says(answer)) => deliver(out, &answer),
         Ok(Found::Reports(report)) => deliver_report(alloc, &report, out),

@@ -71,7 +71,8 @@ pub enum Command<'a> {
 // The number that one to nine digits spell, if it lies in this range.
 fn number_between(text: &str, least: u32, most: u32) -> Option<u32>
     requires { most < 2 ^ 31 }
-    ensures { result ≡ number_between least most text.now }
+    ensures is { result ≡ number_between least most text.now }
+    ensures within { IfSome result (λ n. (least ≤ n) × (n ≤ most)) }
 {
     let (digits, rest) = split_digits(text.as_bytes());
     if digits.is_empty() || digits.len() > 9 || !rest.is_empty() {
@@ -122,7 +123,8 @@ fn two_names<'a>(words: &[&'a str]) -> Option<CheckWords<'a>>
 
 // The limit on entries that these options give.
 fn entries_in(found: &ArgMatches) -> Option<u32>
-    ensures { result ≡ entries_of (first_of (codes "entries") (rows_of (found_of found.now))) }
+    ensures within { IfSome result (λ n. (LEAST_ENTRIES ≤ n) × (n ≤ MOST_ENTRIES)) }
+    ensures is { result ≡ entries_of (first_of (codes "entries") (rows_of (found_of found.now))) }
 {
     match value(found, "entries") {
         None => Some(ENTRIES),
@@ -142,7 +144,8 @@ fn budget_in(found: &ArgMatches) -> Option<Option<u32>>
 
 // A presentation and one to so many sessions, as `solo` wants them.
 fn solo_names<'m, 'a>(words: &'m [&'a str]) -> Option<(&'a str, &'m [&'a str])>
-    ensures { option_map (λ p. (p.0.now, shown p.1.now)) result ≡ solo_names (shown words.now) }
+    ensures is { option_map (λ p. (p.0.now, shown p.1.now)) result ≡ solo_names (shown words.now) }
+    ensures few { IfSome result (λ p. length p.1.now ≤ SESSIONS) }
 {
     let (presentation, sessions) = words.split_first()?;
     if sessions.is_empty() || sessions.len() > SESSIONS {
@@ -153,7 +156,8 @@ fn solo_names<'m, 'a>(words: &'m [&'a str]) -> Option<(&'a str, &'m [&'a str])>
 
 // What `solo` is asked by these words, if its numbers and names are of its form.
 fn solo_asked<'a>(alloc: Global, found: &ArgMatches<'a>) -> Result<Option<SoloWords<'a>>, AllocError>
-    ensures { IfOk result (λ words. option_map solo_asked words ≡ solo_in (rows_of (found_of found.now))) }
+    ensures within { IfOk result (λ words. IfSome words IsWithinTable) }
+    ensures is { IfOk result (λ words. option_map solo_asked words ≡ solo_in (rows_of (found_of found.now))) }
 {
     let Some(entries) = entries_in(found) else {
         return Ok(None);
@@ -191,7 +195,8 @@ fn plain<'a>(
 
 // What `steps` is asked by the words after it.
 fn steps<'a>(alloc: Global, words: &'a [String]) -> Result<Option<Command<'a>>, AllocError>
-    ensures { IfOk result (λ found. option_map asked found ≡ option_map Steps (option_and_then three (plain (codes "steps") (map string_bytes words.now)))) }
+    ensures within { IfOk result (λ found. IfSome found HasLimits) }
+    ensures is { IfOk result (λ found. option_map asked found ≡ option_map Steps (option_and_then three (plain (codes "steps") (map string_bytes words.now)))) }
 {
     match plain(alloc, "steps", words)? {
         None => Ok(None),
@@ -201,7 +206,8 @@ fn steps<'a>(alloc: Global, words: &'a [String]) -> Result<Option<Command<'a>>, 
 
 // What `fox` is asked by the words after it.
 fn fox<'a>(alloc: Global, words: &'a [String]) -> Result<Option<Command<'a>>, AllocError>
-    ensures { IfOk result (λ found. option_map asked found ≡ option_map Fox (option_and_then two (plain (codes "fox") (map string_bytes words.now)))) }
+    ensures within { IfOk result (λ found. IfSome found HasLimits) }
+    ensures is { IfOk result (λ found. option_map asked found ≡ option_map Fox (option_and_then two (plain (codes "fox") (map string_bytes words.now)))) }
 {
     match plain(alloc, "fox", words)? {
         None => Ok(None),
@@ -211,7 +217,8 @@ fn fox<'a>(alloc: Global, words: &'a [String]) -> Result<Option<Command<'a>>, Al
 
 // What `check` is asked by the words after it.
 fn check<'a>(alloc: Global, words: &'a [String]) -> Result<Option<Command<'a>>, AllocError>
-    ensures { IfOk result (λ found. option_map asked found ≡ option_map Check (option_and_then two_names (plain (codes "check") (map string_bytes words.now)))) }
+    ensures within { IfOk result (λ found. IfSome found HasLimits) }
+    ensures is { IfOk result (λ found. option_map asked found ≡ option_map Check (option_and_then two_names (plain (codes "check") (map string_bytes words.now)))) }
 {
     match plain(alloc, "check", words)? {
         None => Ok(None),
@@ -221,7 +228,8 @@ fn check<'a>(alloc: Global, words: &'a [String]) -> Result<Option<Command<'a>>, 
 
 // What `solo` is asked by the words after it.
 fn solo<'a>(alloc: Global, words: &'a [String]) -> Result<Option<Command<'a>>, AllocError>
-    ensures { IfOk result (λ found. option_map asked found ≡ option_map Solo (option_and_then solo_in (parsed (declared (codes "solo") solo_options) (map string_bytes words.now)))) }
+    ensures within { IfOk result (λ found. IfSome found HasLimits) }
+    ensures is { IfOk result (λ found. option_map asked found ≡ option_map Solo (option_and_then solo_in (parsed (declared (codes "solo") solo_options) (map string_bytes words.now)))) }
 {
     let Some(found) = parse(alloc, "solo", &["entries", "budget"], words)? else {
         return Ok(None);
@@ -238,7 +246,8 @@ fn command_of<'a>(
     name: &str,
     words: &'a [String],
 ) -> Result<Option<Command<'a>>, AllocError>
-    ensures { IfOk result (λ found. option_map asked found ≡ command_of name.now (map string_bytes words.now)) }
+    ensures within { IfOk result (λ found. IfSome found HasLimits) }
+    ensures is { IfOk result (λ found. option_map asked found ≡ command_of name.now (map string_bytes words.now)) }
 {
     if name == "steps" {
         steps(alloc, words)
@@ -255,7 +264,8 @@ fn command_of<'a>(
 
 /// What the words ask for, if there is such a command and they are of its form.
 pub fn read_command(alloc: Global, words: &[String]) -> Result<Option<Command<'_>>, AllocError>
-    ensures { IfOk result (λ found. option_map asked found ≡ command (map string_bytes words.now)) }
+    ensures within { IfOk result (λ found. IfSome found HasLimits) }
+    ensures is { IfOk result (λ found. option_map asked found ≡ command (map string_bytes words.now)) }
 {
     match words.split_first() {
         None => Ok(None),
