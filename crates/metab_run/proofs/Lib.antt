@@ -15,3 +15,4 @@ mod Answering
 pub mod SessionFiles
 mod Ranges
 pub mod Reportable
+mod ReportEnds

@@ -54,7 +54,7 @@ fn find<S: Shelf>(alloc: Global, words: &[String], shelf: &mut S) -> Result<Foun
 /// The words are those after the program's name. It waits for nobody and always returns. Words that ask for no command
 /// that is built are refused. Texts are read in the order of the command line, each whole and then parsed before the
 /// next is opened.
-#[tactic(auto, using(crate::proofs::ReportEnds::report_ends, crate::proofs::ReportEnds::report_status))]
+#[tactic(auto, using(crate::proofs::ReportEnds::report_ends, crate::proofs::ReportEnds::report_shown, crate::proofs::ReportEnds::never_read, crate::proofs::ReportEnds::write_failed))]
 pub fn metab_alone<S: Shelf, K: Sink>(
     alloc: Global,
     words: &[String],

@@ -1,11 +1,11 @@
 //! The words of the command line.
 
-ghost use Rattle.std.specs.Prelude.{◌≡◌, ◌<◌, ◌^◌, [], true, map, string_bytes, option_map, option_and_then, IfOk, codes};
+ghost use Rattle.std.specs.Prelude.{◌≡◌, ◌<◌, ◌≤◌, ◌^◌, [], true, length, map, string_bytes, option_map, option_and_then, IfOk, IfSome, codes};
 ghost use Rattle.clap.specs.Words.{found_of, rows_of};
 ghost use Rattle.clap.specs.Walk.{first_of};
 ghost use Rattle.clap.specs.Faults.{is_simple_and_free};
 ghost use Rattle.metab_run.specs.Parsing.{declared, parsed};
-ghost use Rattle.metab_run.specs.Words.{number_between, entries_of, budget_of, three, two, two_names, solo_names, solo_in, command_of, command, shown, plain, solo_options, steps_asked, fox_asked, check_asked, solo_asked, asked, Steps, Fox, Check, Solo};
+ghost use Rattle.metab_run.specs.Words.{number_between, entries_of, budget_of, three, two, two_names, solo_names, solo_in, command_of, command, shown, plain, solo_options, steps_asked, fox_asked, check_asked, solo_asked, asked, Steps, Fox, Check, Solo, IsWithinTable, HasLimits};
 
 use crate::parsing::{names, parse, value};
 use clap::ArgMatches;
