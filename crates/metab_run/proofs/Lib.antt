@@ -16,3 +16,5 @@ pub mod SessionFiles
 mod Ranges
 pub mod Reportable
 mod ReportEnds
+mod SoloFound
+mod Settling

@@ -1,6 +1,8 @@
 -- Sessions that are read one after another.
-use Rattle.std.proofs.Common.{◌≡◌, ◌≢◌, ℕ, zero, suc, ◌+◌, ◌<◌, ◌≤◌, ◌⊎◌, inl, inr, List, [], ◌∷◌, ◌++◌, append-nil, length, take, map, Option, Some, None, Result, Ok, Err, slice_get, sym, ap, subst, ◌∙◌, arith, refl}
+use Rattle.std.proofs.Common.{◌≡◌, ◌≢◌, ℕ, zero, suc, ◌+◌, ◌<◌, ◌≤◌, ◌⊎◌, inl, inr, List, [], ◌∷◌, ◌++◌, append-nil, length, take, map, Option, Some, None, Result, Ok, Err, slice_get, slice_index_or, sym, ap, subst, ◌∙◌, arith, refl}
 use Rattle.std.specs.Prelude.{IfSome}
+use denote.Bor.{Bor}
+use Rattle.metab_run.specs.Words.{shown}
 use Rattle.std.proofs.lemmas.List.{append_assoc, map-append}
 use Rattle.presentation.specs.Presented.{Presented}
 use Rattle.session_text.specs.declared.question.Question.{Question}
@@ -120,3 +122,9 @@ all_read under p least names n ss read le = subst (λ (ns : List (List ℕ)). Ar
     whole [] (suc m) le = refl
     whole (x ∷ xs) zero le = absurd (omega (arith, le))
     whole (x ∷ xs) (suc m) le = ap (λ (ys : List (List ℕ)). x ∷ ys) (whole xs m (omega (arith, le)))
+
+-- the name at a place
+pub name_at : (xs : List (Bor (List ℕ))) (i : ℕ) (x : Bor (List ℕ)) → i < length xs → slice_get (shown xs) i ≡ Some (slice_index_or xs i x).now
+name_at [] i x lt = absurd (omega (arith, lt))
+name_at (y ∷ xs) zero x lt = refl
+name_at (y ∷ xs) (suc i) x lt = name_at xs i x (omega (arith, lt))

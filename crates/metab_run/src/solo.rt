@@ -42,6 +42,7 @@ fn limits(words: &SoloWords) -> Limits
 }
 
 /// What `solo` finds over these texts: the report of a completion and of the answers to all questions.
+#[tactic(auto, using(crate::proofs::SoloFound::askers, crate::proofs::SoloFound::found))]
 pub fn solo<S: Shelf>(alloc: Global, shelf: &mut S, words: &SoloWords) -> Result<Report, Halt>
     requires least { LEAST_ENTRIES ≤ words.now.entries }
     requires most { words.now.entries ≤ MOST_ENTRIES }
@@ -61,6 +62,7 @@ pub fn solo<S: Shelf>(alloc: Global, shelf: &mut S, words: &SoloWords) -> Result
 }
 
 /// Whether no reply of the session is a stop.
+#[tactic(auto, using(crate::proofs::Settling::none_yet, crate::proofs::Settling::one_more, crate::proofs::Settling::none_stops, crate::proofs::Settling::one_stops))]
 fn has_no_stop(session: &Session) -> bool
     requires { length session.now.kept ≡ length session.now.questions }
     ensures { IsTrue result ↔ HasNoStop session.now }
@@ -76,6 +78,7 @@ fn has_no_stop(session: &Session) -> bool
 }
 
 /// Whether no reply of the sessions is a stop.
+#[tactic(auto, using(report_text::proofs::Lists::all_more, report_text::proofs::Lists::all_taken))]
 fn have_no_stop(sessions: &[Session]) -> bool
     requires { AllByRecursion (λ s. length s.kept ≡ length s.questions) sessions.now }
     ensures { IsTrue result ↔ AllByRecursion HasNoStop sessions.now }
