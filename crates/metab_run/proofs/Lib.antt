@@ -4,3 +4,9 @@ pub mod Wording
 pub mod Reports
 mod Found
 mod Options
+mod Fronts
+mod Legality
+mod Indexing
+mod Completed
+mod Asking
+mod Answering

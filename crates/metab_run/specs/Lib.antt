@@ -7,3 +7,5 @@ pub mod Steps
 pub mod FoxAnswers
 pub mod CheckAnswers
 pub mod Top
+pub mod Legal
+pub mod Gathering

@@ -5,6 +5,7 @@ mod answer;
 mod checking;
 mod files;
 mod fox;
+mod gathering;
 mod parsing;
 mod status;
 mod steps;
@@ -14,6 +15,7 @@ mod top;
 mod words;
 mod writing;
 
+pub use gathering::gather;
 pub use status::Status;
 pub use top::metab_alone;
 
