@@ -55,15 +55,15 @@ factored : (k l q r : ℤ) → pos 0 <ℤ l → (f : AreFactors S k l q r) → F
 factored k l q r h (d, g, first, second) = record { divisor = g; positive = some_divisor q d l h first; first = sym first; second = negative r (pos d) k second }
 
 -- by which multiples the S-vectors of i with k, and of k with j, add up to that of i with j
-record Mixed (q r q1 r1 q2 r2 : ℤ) : Type 0 where
+record Mixed (q r qik rik qkj rkj : ℤ) : Type 0 where
   x : ℤ
   y : ℤ
-  first : q ≡ x *ℤ q1
-  third : r ≡ y *ℤ r2
-  middle : x *ℤ r1 +ℤ y *ℤ q2 ≡ pos 0
+  first : q ≡ x *ℤ qik
+  third : r ≡ y *ℤ rkj
+  middle : x *ℤ rik +ℤ y *ℤ qkj ≡ pos 0
 
-module _ (ci cj ck d q r d1 q1 r1 d2 q2 r2 : ℤ) (hi : pos 0 <ℤ ci) (hj : pos 0 <ℤ cj) (hk : pos 0 <ℤ ck)
-    (ij : Factored ci cj d q r) (ik : Factored ci ck d1 q1 r1) (kj : Factored ck cj d2 q2 r2) where
+module _ (ci cj ck d q r dik qik rik dkj qkj rkj : ℤ) (hi : pos 0 <ℤ ci) (hj : pos 0 <ℤ cj) (hk : pos 0 <ℤ ck)
+    (ij : Factored ci cj d q r) (ik : Factored ci ck dik qik rik) (kj : Factored ck cj dkj qkj rkj) where
   -- the least common multiple of both lead coefficients
   multiple : q *ℤ ci ≡ neg_ℤ r *ℤ cj
   multiple = ap (λ z. q *ℤ z) ij.second ∙ swap q (neg_ℤ r) d ∙ ap (λ z. neg_ℤ r *ℤ z) (sym ij.first)
@@ -71,20 +71,20 @@ module _ (ci cj ck d q r d1 q1 r1 d2 q2 r2 : ℤ) (hi : pos 0 <ℤ ci) (hj : pos
       swap : (a b c : ℤ) → a *ℤ (b *ℤ c) ≡ b *ℤ (a *ℤ c)
       swap a b c = sym (*ℤ_assoc a b c) ∙ ap (λ z. z *ℤ c) (*ℤ_comm a b) ∙ *ℤ_assoc b a c
 
-  middle_of : (x y : ℤ) → q ≡ x *ℤ q1 → r ≡ y *ℤ r2 → x *ℤ r1 +ℤ y *ℤ q2 ≡ pos 0
-  middle_of x y ex ey = cancel (x *ℤ r1 +ℤ y *ℤ q2) (pos 0) ck hk (+ℤ-*ℤ (x *ℤ r1) (y *ℤ q2) ck ∙ nothing ((x *ℤ r1) *ℤ ck) ((y *ℤ q2) *ℤ ck) (q *ℤ ci) (r *ℤ cj) (pos 0 *ℤ ck) one two both zero)
+  middle_of : (x y : ℤ) → q ≡ x *ℤ qik → r ≡ y *ℤ rkj → x *ℤ rik +ℤ y *ℤ qkj ≡ pos 0
+  middle_of x y ex ey = cancel (x *ℤ rik +ℤ y *ℤ qkj) (pos 0) ck hk (+ℤ-*ℤ (x *ℤ rik) (y *ℤ qkj) ck ∙ nothing ((x *ℤ rik) *ℤ ck) ((y *ℤ qkj) *ℤ ck) (q *ℤ ci) (r *ℤ cj) (pos 0 *ℤ ck) one two both zero)
     where
-      one : (x *ℤ r1) *ℤ ck ≡ neg_ℤ (q *ℤ ci)
-      one = ap (λ z. (x *ℤ r1) *ℤ z) ik.first ∙ exchanged x r1 q1 d1 ∙ (λ n. sym ex n *ℤ turned n) ∙ *ℤ-neg_ℤ q ci
+      one : (x *ℤ rik) *ℤ ck ≡ neg_ℤ (q *ℤ ci)
+      one = ap (λ z. (x *ℤ rik) *ℤ z) ik.first ∙ exchanged x rik qik dik ∙ (λ n. sym ex n *ℤ turned n) ∙ *ℤ-neg_ℤ q ci
         where
-          turned : r1 *ℤ d1 ≡ neg_ℤ ci
-          turned = let e : ci ≡ neg_ℤ r1 *ℤ d1 = ik.second in let f : neg_ℤ r1 *ℤ d1 ≡ neg_ℤ (r1 *ℤ d1) = neg_ℤ-*ℤ r1 d1 in omega (arith, ints, e, f)
+          turned : rik *ℤ dik ≡ neg_ℤ ci
+          turned = let e : ci ≡ neg_ℤ rik *ℤ dik = ik.second in let f : neg_ℤ rik *ℤ dik ≡ neg_ℤ (rik *ℤ dik) = neg_ℤ-*ℤ rik dik in omega (arith, ints, e, f)
 
-      two : (y *ℤ q2) *ℤ ck ≡ neg_ℤ (r *ℤ cj)
-      two = ap (λ z. (y *ℤ q2) *ℤ z) kj.second ∙ exchanged y q2 (neg_ℤ r2) d2 ∙ (λ n. outer n *ℤ sym kj.first n) ∙ neg_ℤ-*ℤ r cj
+      two : (y *ℤ qkj) *ℤ ck ≡ neg_ℤ (r *ℤ cj)
+      two = ap (λ z. (y *ℤ qkj) *ℤ z) kj.second ∙ exchanged y qkj (neg_ℤ rkj) dkj ∙ (λ n. outer n *ℤ sym kj.first n) ∙ neg_ℤ-*ℤ r cj
         where
-          outer : y *ℤ neg_ℤ r2 ≡ neg_ℤ r
-          outer = *ℤ-neg_ℤ y r2 ∙ ap neg_ℤ (sym ey)
+          outer : y *ℤ neg_ℤ rkj ≡ neg_ℤ r
+          outer = *ℤ-neg_ℤ y rkj ∙ ap neg_ℤ (sym ey)
 
       both : q *ℤ ci ≡ neg_ℤ (r *ℤ cj)
       both = multiple ∙ neg_ℤ-*ℤ r cj
@@ -95,12 +95,12 @@ module _ (ci cj ck d q r d1 q1 r1 d2 q2 r2 : ℤ) (hi : pos 0 <ℤ ci) (hj : pos
       nothing : (a b m n z : ℤ) → a ≡ neg_ℤ m → b ≡ neg_ℤ n → m ≡ neg_ℤ n → z ≡ pos 0 → a +ℤ b ≡ z
       nothing a b m n z e f g h = omega (arith, ints, e, f, g, h)
 
-  mixed : DividesMultiple ck ci cj → Mixed q r q1 r1 q2 r2
+  mixed : DividesMultiple ck ci cj → Mixed q r qik rik qkj rkj
   mixed h = by (h (q *ℤ ci) (q, refl) (neg_ℤ r, multiple))
     where
-      by : Divides ck (q *ℤ ci) → Mixed q r q1 r1 q2 r2
-      by (f, e) = both (gauss ck ci q q1 d1 hk hi ik.positive (IsGcd-swap (unsigned_abs ci) (unsigned_abs ck) (unsigned_abs d1) ik.divisor) ik.first (f, *ℤ_comm ci q ∙ e))
-          (gauss ck cj r (neg_ℤ r2) d2 hk hj kj.positive kj.divisor kj.second (neg_ℤ f, other))
+      by : Divides ck (q *ℤ ci) → Mixed q r qik rik qkj rkj
+      by (f, e) = both (gauss ck ci q qik dik hk hi ik.positive (IsGcd-swap (unsigned_abs ci) (unsigned_abs ck) (unsigned_abs dik) ik.divisor) ik.first (f, *ℤ_comm ci q ∙ e))
+          (gauss ck cj r (neg_ℤ rkj) dkj hk hj kj.positive kj.divisor kj.second (neg_ℤ f, other))
         where
           other : cj *ℤ r ≡ neg_ℤ f *ℤ ck
           other =
@@ -113,18 +113,18 @@ module _ (ci cj ck d q r d1 q1 r1 d2 q2 r2 : ℤ) (hi : pos 0 <ℤ ci) (hj : pos
               turn : (a b c m n : ℤ) → a ≡ b → c ≡ neg_ℤ b → n ≡ neg_ℤ m → c ≡ m → a ≡ n
               turn a b c m n e f g h = omega (arith, ints, e, f, g, h)
 
-          both : Divides q1 q → Divides (neg_ℤ r2) r → Mixed q r q1 r1 q2 r2
+          both : Divides qik q → Divides (neg_ℤ rkj) r → Mixed q r qik rik qkj rkj
           both (x, ex) (w, ew) =
-              let ey : r ≡ neg_ℤ w *ℤ r2 = ew ∙ *ℤ-neg_ℤ w r2 ∙ sym (neg_ℤ-*ℤ w r2) in
+              let ey : r ≡ neg_ℤ w *ℤ rkj = ew ∙ *ℤ-neg_ℤ w rkj ∙ sym (neg_ℤ-*ℤ w rkj) in
               record { x = x; y = neg_ℤ w; first = ex; third = ey; middle = middle_of x (neg_ℤ w) ex ey }
 
 -- q·A + r·C, where the multiples of B go out
-combine : (q r q1 r1 q2 r2 a b c : ℤ) → (m : Mixed q r q1 r1 q2 r2) → q *ℤ a +ℤ r *ℤ c ≡ m.x *ℤ (q1 *ℤ a +ℤ r1 *ℤ b) +ℤ m.y *ℤ (q2 *ℤ b +ℤ r2 *ℤ c)
-combine q r q1 r1 q2 r2 a b c m =
-    let one : m.x *ℤ (q1 *ℤ a +ℤ r1 *ℤ b) ≡ q *ℤ a +ℤ (m.x *ℤ r1) *ℤ b = *ℤ-+ℤ m.x (q1 *ℤ a) (r1 *ℤ b) ∙ (λ n. (sym (*ℤ_assoc m.x q1 a) ∙ ap (λ z. z *ℤ a) (sym m.first)) n +ℤ sym (*ℤ_assoc m.x r1 b) n) in
-    let two : m.y *ℤ (q2 *ℤ b +ℤ r2 *ℤ c) ≡ (m.y *ℤ q2) *ℤ b +ℤ r *ℤ c = *ℤ-+ℤ m.y (q2 *ℤ b) (r2 *ℤ c) ∙ (λ n. sym (*ℤ_assoc m.y q2 b) n +ℤ (sym (*ℤ_assoc m.y r2 c) ∙ ap (λ z. z *ℤ c) (sym m.third)) n) in
-    let gone : (m.x *ℤ r1) *ℤ b +ℤ (m.y *ℤ q2) *ℤ b ≡ pos 0 = sym (+ℤ-*ℤ (m.x *ℤ r1) (m.y *ℤ q2) b) ∙ ap (λ z. z *ℤ b) m.middle ∙ zero_times b in
-    regroup (m.x *ℤ (q1 *ℤ a +ℤ r1 *ℤ b)) (m.y *ℤ (q2 *ℤ b +ℤ r2 *ℤ c)) (q *ℤ a) ((m.x *ℤ r1) *ℤ b) ((m.y *ℤ q2) *ℤ b) (r *ℤ c) one two gone
+combine : (q r qik rik qkj rkj a b c : ℤ) → (m : Mixed q r qik rik qkj rkj) → q *ℤ a +ℤ r *ℤ c ≡ m.x *ℤ (qik *ℤ a +ℤ rik *ℤ b) +ℤ m.y *ℤ (qkj *ℤ b +ℤ rkj *ℤ c)
+combine q r qik rik qkj rkj a b c m =
+    let one : m.x *ℤ (qik *ℤ a +ℤ rik *ℤ b) ≡ q *ℤ a +ℤ (m.x *ℤ rik) *ℤ b = *ℤ-+ℤ m.x (qik *ℤ a) (rik *ℤ b) ∙ (λ n. (sym (*ℤ_assoc m.x qik a) ∙ ap (λ z. z *ℤ a) (sym m.first)) n +ℤ sym (*ℤ_assoc m.x rik b) n) in
+    let two : m.y *ℤ (qkj *ℤ b +ℤ rkj *ℤ c) ≡ (m.y *ℤ qkj) *ℤ b +ℤ r *ℤ c = *ℤ-+ℤ m.y (qkj *ℤ b) (rkj *ℤ c) ∙ (λ n. sym (*ℤ_assoc m.y qkj b) n +ℤ (sym (*ℤ_assoc m.y rkj c) ∙ ap (λ z. z *ℤ c) (sym m.third)) n) in
+    let gone : (m.x *ℤ rik) *ℤ b +ℤ (m.y *ℤ qkj) *ℤ b ≡ pos 0 = sym (+ℤ-*ℤ (m.x *ℤ rik) (m.y *ℤ qkj) b) ∙ ap (λ z. z *ℤ b) m.middle ∙ zero_times b in
+    regroup (m.x *ℤ (qik *ℤ a +ℤ rik *ℤ b)) (m.y *ℤ (qkj *ℤ b +ℤ rkj *ℤ c)) (q *ℤ a) ((m.x *ℤ rik) *ℤ b) ((m.y *ℤ qkj) *ℤ b) (r *ℤ c) one two gone
   where
     zero_times : (z : ℤ) → pos 0 *ℤ z ≡ pos 0
     zero_times z = omega (arith, ints)

@@ -99,7 +99,7 @@ fn words_have_their_values(rt: HostRuntime) {
 }
 
 #[test]
-fn faults_have_their_places(rt: HostRuntime) {
+fn faulty_tokens_have_their_places(rt: HostRuntime) {
     let alloc = rt.alloc();
     let names = names(alloc).expect(&rt, "memory");
     for (text, line, column, kind) in [
@@ -159,6 +159,16 @@ fn faults_have_their_places(rt: HostRuntime) {
         ("(\n", 2, 1, TextKind::Expected),
         ("a\r)", 1, 3, TextKind::Expected),
         ("\r\n\ta\r\n\t b ^ \r\n ?", 4, 2, TextKind::BadByte),
+    ] {
+        expect_fault(&rt, alloc, &names, text, (line, column, kind));
+    }
+}
+
+#[test]
+fn faulty_names_and_numbers_have_their_places(rt: HostRuntime) {
+    let alloc = rt.alloc();
+    let names = names(alloc).expect(&rt, "memory");
+    for (text, line, column, kind) in [
         // names
         ("c", 1, 1, TextKind::UnknownName),
         ("A", 1, 1, TextKind::UnknownName),
