@@ -1,5 +1,5 @@
 -- What a completion has come to, where the book was sealed already and where it is finished now.
-use Rattle.std.proofs.Common.{◌≡◌, [], append-nil, Some, None, false, sym, ap, subst, ◌∙◌, refl}
+use Rattle.std.proofs.Common.{◌≡◌, ◌≢◌, [], ◌++◌, append-nil, Option, Some, None, false, sym, ap, subst, ◌∙◌, refl}
 use Rattle.presentation.specs.Presented.{Presented}
 use Rattle.outcomes.specs.declared.ends.End.{End}
 use Rattle.outcomes.specs.declared.ends.End.TheVariants.{Sealed, Stopped, Full, Spent}
@@ -21,7 +21,7 @@ pub sealed_already : (p : Presented) (h : Held) (s : Seal) → h.source ≡ p �
 sealed_already p h s source is sealed seal =
     let by : IsSealedBy h (Some s) = subst (IsSealedBy h) sealed is.seal in
     let strong : IsStrongBasis p (vectors_of h.entries) =
-    subst (λ (x : Presented). IsStrongBasis x (vectors_of h.entries)) source (subst (λ (z : Seal). IsStrongBasis z.source (vectors_of z.entries)) by.0 seal.strong) in
+        subst (λ (x : Presented). IsStrongBasis x (vectors_of h.entries)) source (subst (λ (z : Seal). IsStrongBasis z.source (vectors_of z.entries)) by.0 seal.strong) in
     record {
       source = refl;
       limits = refl;

@@ -6,21 +6,21 @@ use Rattle.metab_run.specs.Answers.{Answer, IsSaid}
 use Rattle.metab_run.specs.Ends.{Wrote, Ends, Delivers}
 
 -- a status that an answer may have ends a run that wrote the answer whole
-ends_said : (due : Answer → Type 0) (counted : Type 0) (old new : Option (List ℕ)) (status : Status)
-    → IsSaid status → Wrote due old new status → Ends due counted old new status
-ends_said due counted old new Done said wrote = wrote
-ends_said due counted old new Open said wrote = wrote
-ends_said due counted old new WordsRefused said wrote = wrote
-ends_said due counted old new TextRefused said wrote = wrote
-ends_said due counted old new ReadFault said wrote = wrote
-ends_said due counted old new WriteFault said wrote = absurd (said.0 refl)
-ends_said due counted old new NoMemory said wrote = absurd (said.1 refl)
-ends_said due counted old new Fails said wrote = wrote
+ends_said : (reports : Type 0) (due : Answer → Type 0) (counted : Type 0) (old new : Option (List ℕ)) (status : Status)
+    → IsSaid status → Wrote due old new status → Ends reports due counted old new status
+ends_said reports due counted old new Done said wrote = wrote
+ends_said reports due counted old new Open said wrote = wrote
+ends_said reports due counted old new WordsRefused said wrote = wrote
+ends_said reports due counted old new TextRefused said wrote = wrote
+ends_said reports due counted old new ReadFault said wrote = wrote
+ends_said reports due counted old new WriteFault said wrote = absurd (said.0 refl)
+ends_said reports due counted old new NoMemory said wrote = absurd (said.1 refl)
+ends_said reports due counted old new Fails said wrote = wrote
 
 -- a due answer that was delivered ends the run
-pub ends_delivered : (due : Answer → Type 0) (counted : Type 0) (old new : Option (List ℕ)) (a : Answer) (status : Status)
-    → due a → IsSaid a.status → Delivers counted old new a status → Ends due counted old new status
-ends_delivered due counted old new a status d said (inl whole) =
-    subst (λ (s : Status). Ends due counted old new s) (sym whole.0) (ends_said due counted old new a.status said (a, d, refl, whole.1))
-ends_delivered due counted old new a status d said (inr part) =
-    subst (λ (s : Status). Ends due counted old new s) (sym part.0) (part.1, (a, part.2.0, d, part.2.1))
+pub ends_delivered : (reports : Type 0) (due : Answer → Type 0) (counted : Type 0) (old new : Option (List ℕ)) (a : Answer) (status : Status)
+    → due a → IsSaid a.status → Delivers counted old new a status → Ends reports due counted old new status
+ends_delivered reports due counted old new a status d said (inl whole) =
+    subst (λ (s : Status). Ends reports due counted old new s) (sym whole.0) (ends_said reports due counted old new a.status said (a, d, refl, whole.1))
+ends_delivered reports due counted old new a status d said (inr part) =
+    subst (λ (s : Status). Ends reports due counted old new s) (sym part.0) (part.1, (a, part.2.0, d, part.2.1))

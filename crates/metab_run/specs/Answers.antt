@@ -47,3 +47,10 @@ refused name f = record {
   status = TextRefused;
   text = codes "refused " ++ name ++ codes " line " ++ decimal f.line ++ codes " column " ++ decimal f.column ++ codes " " ++ kind_text f.kind ++ codes "\n";
 }
+
+-- in this line of the session under this name, the image of this relator is too long
+abbrev pub image_too_long : List ℕ → ℕ → ℕ → Answer
+image_too_long name line relator = record {
+  status = TextRefused;
+  text = codes "refused " ++ name ++ codes " line " ++ decimal line ++ codes " image-too-long " ++ decimal relator ++ codes "\n";
+}

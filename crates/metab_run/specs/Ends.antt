@@ -13,17 +13,22 @@ Wrote due old new status = (a : Answer) × due a × (a.status ≡ status) × Tak
 abbrev pub WroteFront : (Answer → Type 0) → Type 0 → Option (List ℕ) → Option (List ℕ) → Type 0
 WroteFront due counted old new = counted × ((a : Answer) × (n : ℕ) × due a × TakesPrefix old (take n a.text) new)
 
--- How a run ends, whose answers are due where `due` says so. Where the sink tells what it took, that is `old` before the
--- run and `new` after it.
-abbrev pub Ends : (Answer → Type 0) → Type 0 → Option (List ℕ) → Option (List ℕ) → Status → Type 0
-Ends due counted old new WriteFault = WroteFront due counted old new
-Ends due counted old new NoMemory = TakesPrefix old [] new
-Ends due counted old new Done = Wrote due old new Done
-Ends due counted old new Open = Wrote due old new Open
-Ends due counted old new WordsRefused = Wrote due old new WordsRefused
-Ends due counted old new TextRefused = Wrote due old new TextRefused
-Ends due counted old new ReadFault = Wrote due old new ReadFault
-Ends due counted old new Fails = Wrote due old new Fails
+-- memory ran out: nothing was written; or the answer is a report, which is written line by line, and one that is due was
+-- written in part
+abbrev pub RanOut : Type 0 → (Answer → Type 0) → Option (List ℕ) → Option (List ℕ) → Type 0
+RanOut reports due old new = TakesPrefix old [] new ⊎ (reports × ((a : Answer) × (n : ℕ) × due a × TakesPrefix old (take n a.text) new))
+
+-- How a run ends, whose answers are due where `due` says so; `reports` says that they may be reports. Where the sink tells
+-- what it took, that is `old` before the run and `new` after it.
+abbrev pub Ends : Type 0 → (Answer → Type 0) → Type 0 → Option (List ℕ) → Option (List ℕ) → Status → Type 0
+Ends reports due counted old new WriteFault = WroteFront due counted old new
+Ends reports due counted old new NoMemory = RanOut reports due old new
+Ends reports due counted old new Done = Wrote due old new Done
+Ends reports due counted old new Open = Wrote due old new Open
+Ends reports due counted old new WordsRefused = Wrote due old new WordsRefused
+Ends reports due counted old new TextRefused = Wrote due old new TextRefused
+Ends reports due counted old new ReadFault = Wrote due old new ReadFault
+Ends reports due counted old new Fails = Wrote due old new Fails
 
 -- an answer was written: whole, with its own status, or in part, and the sink has counted the failure
 abbrev pub Delivers : Type 0 → Option (List ℕ) → Option (List ℕ) → Answer → Status → Type 0

@@ -9,3 +9,5 @@ pub mod CheckAnswers
 pub mod Top
 pub mod Legal
 pub mod Gathering
+pub mod SessionFiles
+pub mod SoloAnswers

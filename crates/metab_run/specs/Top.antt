@@ -1,10 +1,15 @@
 -- What is due to the words of the command line and the texts under names.
 use Rattle.std.specs.Prelude.{◌≡◌, ℕ, List, Option, Some, None}
+use Rattle.report_text.specs.Reports.{reported}
+use Rattle.metab_run.specs.declared.status.Status.TheVariants.{Done, ReadFault}
+use Rattle.metab_run.specs.declared.top.Found.{Found}
+use Rattle.metab_run.specs.declared.top.Found.TheVariants.{Says, Reports}
 use Rattle.metab_run.specs.Answers.{Answer, refused_words}
-use Rattle.metab_run.specs.Words.{Asked, Steps, Fox, Check, command}
+use Rattle.metab_run.specs.Words.{SoloAsked, Asked, Steps, Fox, Check, Solo, command}
 use Rattle.metab_run.specs.Steps.{StepsLead, AskedTrivial}
 use Rattle.metab_run.specs.FoxAnswers.{FoxLeads}
 use Rattle.metab_run.specs.CheckAnswers.{CheckLeads, AskedTrue}
+use Rattle.metab_run.specs.SoloAnswers.{SoloLeads, IsFound}
 
 -- the answer that is due to a command, or to words that ask for none
 abbrev pub CommandLeads : Type 0 → (List ℕ → Option (List ℕ)) → Option Asked → Answer → Type 0
@@ -12,6 +17,15 @@ CommandLeads counted under None a = a ≡ refused_words
 CommandLeads counted under (Some (Steps q)) a = StepsLead counted under q a
 CommandLeads counted under (Some (Fox q)) a = FoxLeads counted under q a
 CommandLeads counted under (Some (Check q)) a = CheckLeads counted under q a
+CommandLeads counted under (Some (Solo q)) a = SoloLeads counted under q a
+
+-- the command answers with a report
+abbrev pub AsksReport : Option Asked → Type 0
+AsksReport None = ⊥
+AsksReport (Some (Steps q)) = ⊥
+AsksReport (Some (Fox q)) = ⊥
+AsksReport (Some (Check q)) = ⊥
+AsksReport (Some (Solo q)) = Unit {0}
 
 -- the answer that is due to these words over these texts; `counted` says that the shelf has counted a failure
 abbrev pub IsDue : Type 0 → (List ℕ → Option (List ℕ)) → List (List ℕ) → Answer → Type 0
@@ -24,3 +38,9 @@ ShownTrivial under None = ⊥
 ShownTrivial under (Some (Steps q)) = AskedTrivial under q
 ShownTrivial under (Some (Fox q)) = Unit {0}
 ShownTrivial under (Some (Check q)) = AskedTrue under q
+ShownTrivial under (Some (Solo q)) = Unit {0}
+
+-- what is found for these words: the answer that is due, or a report
+abbrev pub Finds : Type 0 → (List ℕ → Option (List ℕ)) → List (List ℕ) → Found → Type 0
+Finds counted under words (Says a) = IsDue counted under words a × (a.status ≡ Done → ShownTrivial under (command words)) × (a.status ≡ ReadFault → counted)
+Finds counted under words (Reports r) = (q : SoloAsked) × (command words ≡ Some (Solo q)) × IsFound under q (reported r)

@@ -1,7 +1,7 @@
 //! A status with its text, and the answers that all commands share.
 
 ghost use Rattle.std.specs.Prelude.{◌≡◌, IfOk, codes};
-ghost use Rattle.metab_run.specs.Answers.{refused_words, unread, too_long, refused, kind_text, IsSaid};
+ghost use Rattle.metab_run.specs.Answers.{refused_words, unread, too_long, image_too_long, refused, kind_text, IsSaid};
 
 use crate::status::Status;
 use std::alloc::{AllocError, AllocFailed, Global};
@@ -101,6 +101,14 @@ impl Answer {
         ensures { IfOk result (λ a. a ≡ too_long name.now limit) }
     {
         let text = format!(in alloc; "refused {name} too long {limit}\n")?;
+        Ok(Answer::new(Status::TextRefused, text.into_bytes()))
+    }
+
+    /// In the session under this name the image of a relator is too long.
+    pub fn image_too_long(alloc: Global, name: &str, line: u32, relator: u32) -> Result<Answer, AllocError>
+        ensures { IfOk result (λ a. a ≡ image_too_long name.now line relator) }
+    {
+        let text = format!(in alloc; "refused {name} line {line} image-too-long {relator}\n")?;
         Ok(Answer::new(Status::TextRefused, text.into_bytes()))
     }
 

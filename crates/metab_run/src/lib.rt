@@ -7,6 +7,8 @@ mod files;
 mod fox;
 mod gathering;
 mod parsing;
+mod sessions;
+mod solo;
 mod status;
 mod steps;
 #[cfg(test)]
@@ -27,3 +29,12 @@ pub const DERIVATION_BYTES: u32 = 67_108_864;
 
 /// A report has at most so many bytes.
 pub const REPORT_BYTES: u32 = 67_108_864;
+
+/// A session's text has at most so many bytes.
+pub const SESSION_BYTES: u32 = 1_048_576;
+
+/// The vectors of a log have at most so many terms in all.
+pub const LOG_TERMS: u32 = 8_000_000;
+
+/// The recipes of a log have at most so many steps in all.
+pub const LOG_STEPS: u32 = 8_000_000;

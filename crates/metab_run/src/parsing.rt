@@ -2,6 +2,7 @@
 
 ghost use Rattle.std.specs.Prelude.{◌≡◌, true, map, string_bytes, option_map, IfOk};
 ghost use Rattle.clap.specs.Words.{app_of, found_of, rows_of};
+ghost use Rattle.clap.specs.Walk.{first_of};
 ghost use Rattle.clap.specs.Faults.{is_simple_and_free};
 ghost use Rattle.metab_run.specs.Parsing.{declared, parsed, names_in};
 ghost use Rattle.metab_run.specs.Words.{shown};
@@ -58,4 +59,11 @@ pub fn names<'a>(alloc: Global, found: &ArgMatches<'a>) -> Result<Vec<&'a str>, 
         None => Ok(Vec::new(alloc)),
         Some(names) => Vec::from_slice(alloc, names),
     }
+}
+
+/// The value of an option, if it is given.
+pub fn value<'a>(found: &ArgMatches<'a>, option: &str) -> Option<&'a str>
+    ensures { option_map (λ v. v.now) result ≡ first_of option.now (rows_of (found_of found.now)) }
+{
+    found.get_str(option)
 }

@@ -4,36 +4,47 @@ ghost use Rattle.std.specs.Prelude.{◌≡◌, ℕ, ◌≤◌, List, IfOk, map, 
 ghost use Rattle.mb_io.specs.Shelf.{CountRose};
 ghost use Rattle.metab_run.specs.Words.{command};
 ghost use Rattle.metab_run.specs.Ends.{Ends};
-ghost use Rattle.metab_run.specs.Top.{IsDue, ShownTrivial};
+ghost use Rattle.metab_run.specs.Top.{IsDue, ShownTrivial, AsksReport, Finds};
 
 use crate::answer::{Answer, Halt};
 use crate::checking::check;
 use crate::fox::fox;
+use crate::solo::{deliver_report, solo};
 use crate::status::Status;
 use crate::steps::steps;
 use crate::words::{Command, read_command};
 use crate::writing::deliver;
 use mb_io::{Shelf, Sink};
+use report_text::Report;
 use std::alloc::{AllocError, Global};
 
-// The answer that is due to these words.
-fn answer<S: Shelf>(alloc: Global, words: &[String], shelf: &mut S) -> Result<Answer, AllocError>
-    ensures due { IfOk result (λ a. IsDue (CountRose (S.faults shelf.old) (S.faults shelf.new)) (S.under shelf.old) (map string_bytes words.now) a) }
-    ensures trivial { IfOk result (λ a. a.status ≡ Status.Done → ShownTrivial (S.under shelf.old) (command (map string_bytes words.now))) }
-    ensures cause { IfOk result (λ a. a.status ≡ Status.ReadFault → CountRose (S.faults shelf.old) (S.faults shelf.new)) }
+/// What a command comes to: an answer, or a report.
+#[derive(Drop)]
+enum Found {
+    Says(Answer),
+    Reports(Report),
+}
+
+// What is found for these words.
+fn find<S: Shelf>(alloc: Global, words: &[String], shelf: &mut S) -> Result<Found, AllocError>
+    ensures finds { IfOk result (Finds (CountRose (S.faults shelf.old) (S.faults shelf.new)) (S.under shelf.old) (map string_bytes words.now)) }
     ensures later { S.faults shelf.old ≤ S.faults shelf.new }
 {
     let Some(asked) = read_command(alloc, words)? else {
-        return Answer::refused_words(alloc);
+        return Ok(Found::Says(Answer::refused_words(alloc)?));
     };
     let answered = match asked {
         Command::Steps(words) => steps(alloc, shelf, &words),
         Command::Fox(words) => fox(alloc, shelf, &words),
         Command::Check(words) => check(alloc, shelf, &words),
+        Command::Solo(words) => match solo(alloc, shelf, &words) {
+            Ok(report) => return Ok(Found::Reports(report)),
+            Err(halt) => Err(halt),
+        },
     };
     match answered {
-        Ok(answer) => Ok(answer),
-        Err(Halt::Says(answer)) => Ok(answer),
+        Ok(answer) => Ok(Found::Says(answer)),
+        Err(Halt::Says(answer)) => Ok(Found::Says(answer)),
         Err(Halt::NoMemory) => Err(AllocError),
     }
 }
@@ -43,6 +54,7 @@ fn answer<S: Shelf>(alloc: Global, words: &[String], shelf: &mut S) -> Result<An
 /// The words are those after the program's name. It waits for nobody and always returns. Words that ask for no command
 /// that is built are refused. Texts are read in the order of the command line, each whole and then parsed before the
 /// next is opened.
+#[tactic(auto, using(crate::proofs::ReportEnds::report_ends, crate::proofs::ReportEnds::report_shown, crate::proofs::ReportEnds::never_read, crate::proofs::ReportEnds::write_failed))]
 pub fn metab_alone<S: Shelf, K: Sink>(
     alloc: Global,
     words: &[String],
@@ -50,8 +62,8 @@ pub fn metab_alone<S: Shelf, K: Sink>(
     out: &mut K,
 ) -> Status
     // The answer that is due was written whole, with its status; or the sink failed and took a front of it; or memory
-    // ran out, and nothing was written.
-    ensures ends { Ends (IsDue (CountRose (S.faults shelf.old) (S.faults shelf.new)) (S.under shelf.old) (map string_bytes words.now))
+    // ran out, and nothing was written, or a front of a report.
+    ensures ends { Ends (AsksReport (command (map string_bytes words.now))) (IsDue (CountRose (S.faults shelf.old) (S.faults shelf.new)) (S.under shelf.old) (map string_bytes words.now))
         (CountRose (K.faults out.old) (K.faults out.new)) (K.taken out.old) (K.taken out.new) result }
 
     // `steps` says yes only to a word that moves carry to the empty word, and `check` only to a report that is true.
@@ -61,8 +73,9 @@ pub fn metab_alone<S: Shelf, K: Sink>(
     ensures read_fault { result ≡ Status.ReadFault → CountRose (S.faults shelf.old) (S.faults shelf.new) }
     ensures write_fault { result ≡ Status.WriteFault → CountRose (K.faults out.old) (K.faults out.new) }
 {
-    match answer(alloc, words, shelf) {
-        Ok(answer) => deliver(out, &answer),
+    match find(alloc, words, shelf) {
+        Ok(Found::Says(answer)) => deliver(out, &answer),
+        Ok(Found::Reports(report)) => deliver_report(alloc, &report, out),
         Err(_) => Status::NoMemory,
     }
 }

@@ -1,12 +1,31 @@
 //! The words of the command line.
 
-ghost use Rattle.std.specs.Prelude.{◌≡◌, [], true, map, string_bytes, option_map, option_and_then, IfOk, codes};
+ghost use Rattle.std.specs.Prelude.{◌≡◌, ◌<◌, ◌≤◌, ◌^◌, [], true, length, map, string_bytes, option_map, option_and_then, IfOk, IfSome, codes};
+ghost use Rattle.clap.specs.Words.{found_of, rows_of};
+ghost use Rattle.clap.specs.Walk.{first_of};
 ghost use Rattle.clap.specs.Faults.{is_simple_and_free};
-ghost use Rattle.metab_run.specs.Parsing.{declared};
-ghost use Rattle.metab_run.specs.Words.{three, two, two_names, command_of, command, shown, plain, steps_asked, fox_asked, check_asked, asked, Steps, Fox, Check};
+ghost use Rattle.metab_run.specs.Parsing.{declared, parsed};
+ghost use Rattle.metab_run.specs.Words.{number_between, entries_of, budget_of, three, two, two_names, solo_names, solo_in, command_of, command, shown, plain, solo_options, steps_asked, fox_asked, check_asked, solo_asked, asked, Steps, Fox, Check, Solo, IsWithinTable, HasLimits};
 
-use crate::parsing::{names, parse};
+use crate::parsing::{names, parse, value};
+use clap::ArgMatches;
 use std::alloc::{AllocError, Global};
+use word_text::{number, split_digits};
+
+/// The log of a run has at most so many entries, where the command line doesn't say.
+pub const ENTRIES: u32 = 3_072;
+
+/// The least limit on entries: the generators of every presentation fit.
+pub const LEAST_ENTRIES: u32 = 2_200;
+
+/// The greatest limit on entries.
+pub const MOST_ENTRIES: u32 = 4_096;
+
+/// The greatest budget.
+pub const MOST_BUDGET: u32 = 999_999_999;
+
+/// At most so many sessions.
+pub const SESSIONS: usize = 16;
 
 /// What the command `steps` is asked: the name of a presentation, a word, and the name of a derivation.
 #[derive(Clone, Copy)]
@@ -30,12 +49,39 @@ pub struct CheckWords<'a> {
     pub report: &'a str,
 }
 
+/// What the command `solo` is asked: the limit on entries, the budget if there is one, and the names of a presentation
+/// and of the sessions.
+#[derive(Drop)]
+pub struct SoloWords<'a> {
+    pub entries: u32,
+    pub budget: Option<u32>,
+    pub presentation: &'a str,
+    pub sessions: Vec<&'a str>,
+}
+
 /// A command with what it is asked.
-#[derive(Clone, Copy)]
+#[derive(Drop)]
 pub enum Command<'a> {
     Steps(StepsWords<'a>),
     Fox(FoxWords<'a>),
     Check(CheckWords<'a>),
+    Solo(SoloWords<'a>),
+}
+
+// The number that one to nine digits spell, if it lies in this range.
+fn number_between(text: &str, least: u32, most: u32) -> Option<u32>
+    requires { most < 2 ^ 31 }
+    ensures is { result ≡ number_between least most text.now }
+    ensures within { IfSome result (λ n. (least ≤ n) × (n ≤ most)) }
+{
+    let (digits, rest) = split_digits(text.as_bytes());
+    if digits.is_empty() || digits.len() > 9 || !rest.is_empty() {
+        return None;
+    }
+    match number(digits, most) {
+        Some(n) if n >= least => Some(n),
+        _ => None,
+    }
 }
 
 // Three arguments, as `steps` wants them.
@@ -75,6 +121,63 @@ fn two_names<'a>(words: &[&'a str]) -> Option<CheckWords<'a>>
     }
 }
 
+// The limit on entries that these options give.
+fn entries_in(found: &ArgMatches) -> Option<u32>
+    ensures within { IfSome result (λ n. (LEAST_ENTRIES ≤ n) × (n ≤ MOST_ENTRIES)) }
+    ensures is { result ≡ entries_of (first_of (codes "entries") (rows_of (found_of found.now))) }
+{
+    match value(found, "entries") {
+        None => Some(ENTRIES),
+        Some(text) => number_between(text, LEAST_ENTRIES, MOST_ENTRIES),
+    }
+}
+
+// The budget that these options give, if they give one.
+fn budget_in(found: &ArgMatches) -> Option<Option<u32>>
+    ensures { result ≡ budget_of (first_of (codes "budget") (rows_of (found_of found.now))) }
+{
+    match value(found, "budget") {
+        None => Some(None),
+        Some(text) => Some(Some(number_between(text, 0, MOST_BUDGET)?)),
+    }
+}
+
+// A presentation and one to so many sessions, as `solo` wants them.
+fn solo_names<'m, 'a>(words: &'m [&'a str]) -> Option<(&'a str, &'m [&'a str])>
+    ensures is { option_map (λ p. (p.0.now, shown p.1.now)) result ≡ solo_names (shown words.now) }
+    ensures few { IfSome result (λ p. length p.1.now ≤ SESSIONS) }
+{
+    let (presentation, sessions) = words.split_first()?;
+    if sessions.is_empty() || sessions.len() > SESSIONS {
+        return None;
+    }
+    Some((*presentation, sessions))
+}
+
+// What `solo` is asked by these words, if its numbers and names are of its form.
+fn solo_asked<'a>(alloc: Global, found: &ArgMatches<'a>) -> Result<Option<SoloWords<'a>>, AllocError>
+    ensures within { IfOk result (λ words. IfSome words IsWithinTable) }
+    ensures is { IfOk result (λ words. option_map solo_asked words ≡ solo_in (rows_of (found_of found.now))) }
+{
+    let Some(entries) = entries_in(found) else {
+        return Ok(None);
+    };
+    let Some(budget) = budget_in(found) else {
+        return Ok(None);
+    };
+    let names = names(alloc, found)?;
+    let Some((presentation, sessions)) = solo_names(&names) else {
+        return Ok(None);
+    };
+    let sessions = Vec::from_slice(alloc, sessions)?;
+    Ok(Some(SoloWords {
+        entries,
+        budget,
+        presentation,
+        sessions,
+    }))
+}
+
 // What a command without options is asked, if the words are of its form: its arguments, in order.
 fn plain<'a>(
     alloc: Global,
@@ -92,7 +195,8 @@ fn plain<'a>(
 
 // What `steps` is asked by the words after it.
 fn steps<'a>(alloc: Global, words: &'a [String]) -> Result<Option<Command<'a>>, AllocError>
-    ensures { IfOk result (λ found. option_map asked found ≡ option_map Steps (option_and_then three (plain (codes "steps") (map string_bytes words.now)))) }
+    ensures within { IfOk result (λ found. IfSome found HasLimits) }
+    ensures is { IfOk result (λ found. option_map asked found ≡ option_map Steps (option_and_then three (plain (codes "steps") (map string_bytes words.now)))) }
 {
     match plain(alloc, "steps", words)? {
         None => Ok(None),
@@ -102,7 +206,8 @@ fn steps<'a>(alloc: Global, words: &'a [String]) -> Result<Option<Command<'a>>, 
 
 // What `fox` is asked by the words after it.
 fn fox<'a>(alloc: Global, words: &'a [String]) -> Result<Option<Command<'a>>, AllocError>
-    ensures { IfOk result (λ found. option_map asked found ≡ option_map Fox (option_and_then two (plain (codes "fox") (map string_bytes words.now)))) }
+    ensures within { IfOk result (λ found. IfSome found HasLimits) }
+    ensures is { IfOk result (λ found. option_map asked found ≡ option_map Fox (option_and_then two (plain (codes "fox") (map string_bytes words.now)))) }
 {
     match plain(alloc, "fox", words)? {
         None => Ok(None),
@@ -112,11 +217,26 @@ fn fox<'a>(alloc: Global, words: &'a [String]) -> Result<Option<Command<'a>>, Al
 
 // What `check` is asked by the words after it.
 fn check<'a>(alloc: Global, words: &'a [String]) -> Result<Option<Command<'a>>, AllocError>
-    ensures { IfOk result (λ found. option_map asked found ≡ option_map Check (option_and_then two_names (plain (codes "check") (map string_bytes words.now)))) }
+    ensures within { IfOk result (λ found. IfSome found HasLimits) }
+    ensures is { IfOk result (λ found. option_map asked found ≡ option_map Check (option_and_then two_names (plain (codes "check") (map string_bytes words.now)))) }
 {
     match plain(alloc, "check", words)? {
         None => Ok(None),
         Some(found) => Ok(two_names(&found).map(Command::Check)),
+    }
+}
+
+// What `solo` is asked by the words after it.
+fn solo<'a>(alloc: Global, words: &'a [String]) -> Result<Option<Command<'a>>, AllocError>
+    ensures within { IfOk result (λ found. IfSome found HasLimits) }
+    ensures is { IfOk result (λ found. option_map asked found ≡ option_map Solo (option_and_then solo_in (parsed (declared (codes "solo") solo_options) (map string_bytes words.now)))) }
+{
+    let Some(found) = parse(alloc, "solo", &["entries", "budget"], words)? else {
+        return Ok(None);
+    };
+    match solo_asked(alloc, &found)? {
+        None => Ok(None),
+        Some(words) => Ok(Some(Command::Solo(words))),
     }
 }
 
@@ -126,7 +246,8 @@ fn command_of<'a>(
     name: &str,
     words: &'a [String],
 ) -> Result<Option<Command<'a>>, AllocError>
-    ensures { IfOk result (λ found. option_map asked found ≡ command_of name.now (map string_bytes words.now)) }
+    ensures within { IfOk result (λ found. IfSome found HasLimits) }
+    ensures is { IfOk result (λ found. option_map asked found ≡ command_of name.now (map string_bytes words.now)) }
 {
     if name == "steps" {
         steps(alloc, words)
@@ -134,6 +255,8 @@ fn command_of<'a>(
         fox(alloc, words)
     } else if name == "check" {
         check(alloc, words)
+    } else if name == "solo" {
+        solo(alloc, words)
     } else {
         Ok(None)
     }
@@ -141,7 +264,8 @@ fn command_of<'a>(
 
 /// What the words ask for, if there is such a command and they are of its form.
 pub fn read_command(alloc: Global, words: &[String]) -> Result<Option<Command<'_>>, AllocError>
-    ensures { IfOk result (λ found. option_map asked found ≡ command (map string_bytes words.now)) }
+    ensures within { IfOk result (λ found. IfSome found HasLimits) }
+    ensures is { IfOk result (λ found. option_map asked found ≡ command (map string_bytes words.now)) }
 {
     match words.split_first() {
         None => Ok(None),

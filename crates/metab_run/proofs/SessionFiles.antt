@@ -1,0 +1,130 @@
+-- Sessions that are read one after another.
+use Rattle.std.proofs.Common.{◌≡◌, ◌≢◌, ℕ, zero, suc, ◌+◌, ◌<◌, ◌≤◌, ◌⊎◌, inl, inr, List, [], ◌∷◌, ◌++◌, append-nil, length, take, map, Option, Some, None, Result, Ok, Err, slice_get, slice_index_or, sym, ap, subst, ◌∙◌, arith, refl}
+use Rattle.std.specs.Prelude.{IfSome}
+use denote.Bor.{Bor}
+use Rattle.metab_run.specs.Words.{shown}
+use Rattle.std.proofs.lemmas.List.{append_assoc, map-append}
+use Rattle.presentation.specs.Presented.{Presented}
+use Rattle.session_text.specs.declared.question.Question.{Question}
+use Rattle.session_text.specs.declared.fault.SessionFault.{SessionFault}
+use Rattle.session_text.specs.declared.fault.SessionFault.TheVariants as sessions
+use Rattle.session_text.specs.Reading.{session_text}
+use Rattle.session_core.specs.Sessions.{SessionState}
+use Rattle.metab_run.specs.declared.answer.Halt.TheVariants.{Says}
+use Rattle.metab_run.specs.Answers.{Answer}
+use Rattle.metab_run.specs.Gathering.{questions_of}
+use Rattle.metab_run.specs.SessionFiles.{QuestionsLead, SessionLeads, SessionsLead, RefusesSession, SessionFails, AreQuestionsIn, AreQuestionsUnder, SessionsFail, IsNewSession, AreNewSessions}
+use Rattle.metab_run.proofs.Fronts.{split_get}
+
+-- ---- what is due
+
+-- a session that has no questions leads to its answer, whatever would come next
+refused_leads : (name : List ℕ) (f : SessionFault) (next : List Question → Answer → Type 0) (a : Answer) → RefusesSession name f (Says a) → QuestionsLead name (Err f) next a
+refused_leads name (sessions.Text f) next a h = h
+refused_leads name (sessions.ImageTooLong line relator) next a h = h
+refused_leads name sessions.NoMemory next a h = absurd h
+
+pub fails_lead : (counted later : Type 0) → (counted → later) → (p : Presented) (name : List ℕ) (told : Option (List ℕ)) (next : List Question → Answer → Type 0) (a : Answer)
+    → SessionFails counted p name told a → SessionLeads later p name told next a
+fails_lead counted later on p name told next a (inl h) = inl (on h.0, h.1)
+fails_lead counted later on p name None next a (inr h) = inr tt
+fails_lead counted later on p name (Some bytes) next a (inr (inl h)) = inr (inl h)
+fails_lead counted later on p name (Some bytes) next a (inr (inr h)) =
+    inr (inr (h.0, subst (λ (r : Result (List Question) SessionFault). QuestionsLead name r next a) (sym h.1.1) (refused_leads name h.1.0 next a h.1.2)))
+
+gives_lead : (counted : Type 0) (p : Presented) (name : List ℕ) (told : Option (List ℕ)) (next : List Question → Answer → Type 0) (qs : List Question) (a : Answer)
+    → AreQuestionsIn p told qs → next qs a → SessionLeads counted p name told next a
+gives_lead counted p name None next qs a is on = inr tt
+gives_lead counted p name (Some bytes) next qs a is on = inr (inr (is.0, subst (λ (r : Result (List Question) SessionFault). QuestionsLead name r next a) (sym is.1) on))
+
+-- sessions that all have questions lead to what comes next
+pub all_lead : (counted : Type 0) (under : List ℕ → Option (List ℕ)) (p : Presented) (names : List (List ℕ)) (qss before : List (List Question))
+    (next : List (List Question) → Answer → Type 0) (a : Answer) → AreQuestionsUnder under p names qss → next (before ++ qss) a → SessionsLead counted under p names before next a
+all_lead counted under p [] [] before next a are on = subst (λ (all : List (List Question)). next all a) (append-nil before) on
+all_lead counted under p [] (qs ∷ qss) before next a are on = absurd are
+all_lead counted under p (name ∷ names) [] before next a are on = absurd are
+all_lead counted under p (name ∷ names) (qs ∷ qss) before next a are on =
+    gives_lead counted p name (under name) (λ qs. SessionsLead counted under p names (before ++ qs ∷ []) next) qs a are.0
+    (all_lead counted under p names qss (before ++ qs ∷ []) next a are.1 (subst (λ (all : List (List Question)). next all a) (sym (append_assoc before (qs ∷ []) qss)) on))
+
+failing_at : (counted later : Type 0) → (counted → later) → (under : List ℕ → Option (List ℕ)) (p : Presented) (names : List (List ℕ)) (i : ℕ) (name : List ℕ) (qss before : List (List Question))
+    (next : List (List Question) → Answer → Type 0) (a : Answer) → slice_get names i ≡ Some name → AreQuestionsUnder under p (take i names) qss → SessionFails counted p name (under name) a
+    → SessionsLead later under p names before next a
+failing_at counted later on under p [] i name qss before next a at are fails = absurd (cc)
+failing_at counted later on under p (n ∷ names) zero name qss before next a at are fails =
+    let e : n ≡ name = cc in
+    fails_lead counted later on p n (under n) (λ qs. SessionsLead later under p names (before ++ qs ∷ []) next) a (subst (λ (m : List ℕ). SessionFails counted p m (under m) a) (sym e) fails)
+failing_at counted later on under p (n ∷ names) (suc i) name [] before next a at are fails = absurd are
+failing_at counted later on under p (n ∷ names) (suc i) name (qs ∷ qss) before next a at are fails =
+    gives_lead later p n (under n) (λ qs. SessionsLead later under p names (before ++ qs ∷ []) next) qs a are.0
+    (failing_at counted later on under p names i name qss (before ++ qs ∷ []) next a at are.1 fails)
+
+-- a session without questions leads to its answer
+pub failing_lead : (counted later : Type 0) → (counted → later) → (under : List ℕ → Option (List ℕ)) (p : Presented) (names : List (List ℕ)) (next : List (List Question) → Answer → Type 0) (a : Answer)
+    → SessionsFail counted under p names a → SessionsLead later under p names [] next a
+failing_lead counted later on under p names next a f = failing_at counted later on under p names f.place f.name f.before [] next a f.is f.read f.fails
+
+-- ---- one after another
+
+-- so many sessions are read
+pub record AreRead (under : List ℕ → Option (List ℕ)) (p : Presented) (least : ℕ) (names : List (List ℕ)) (n : ℕ) (ss : List SessionState) : Type 0 where
+  pub texts : AreQuestionsUnder under p (take n names) (questions_of ss)
+  pub count : length ss ≡ n
+  pub new : AreNewSessions p least ss
+
+pub none_read : (under : List ℕ → Option (List ℕ)) (p : Presented) (least : ℕ) (names : List (List ℕ)) → AreRead under p least names 0 []
+none_read under p least names = record { texts = tt; count = refl; new = λ i s at. absurd (cc) }
+
+more_under : (under : List ℕ → Option (List ℕ)) (p : Presented) (names : List (List ℕ)) (i : ℕ) (name : List ℕ) (qss : List (List Question)) (qs : List Question)
+    → slice_get names i ≡ Some name → AreQuestionsUnder under p (take i names) qss → AreQuestionsIn p (under name) qs → AreQuestionsUnder under p (take (suc i) names) (qss ++ qs ∷ [])
+more_under under p [] i name qss qs at are own = absurd (cc)
+more_under under p (n ∷ names) zero name [] qs at are own = let e : n ≡ name = cc in (subst (λ (m : List ℕ). AreQuestionsIn p (under m) qs) (sym e) own, tt)
+more_under under p (n ∷ names) zero name (x ∷ qss) qs at are own = absurd are
+more_under under p (n ∷ names) (suc i) name [] qs at are own = absurd are
+more_under under p (n ∷ names) (suc i) name (x ∷ qss) qs at are own = (are.0, more_under under p names i name qss qs at are.1 own)
+
+one_at : (x s : SessionState) (j : ℕ) → slice_get (x ∷ []) j ≡ Some s → (j ≡ 0) × (x ≡ s)
+one_at x s zero at = (refl, cc)
+one_at x s (suc j) at = absurd (cc)
+
+pub one_read : (under : List ℕ → Option (List ℕ)) (p : Presented) (least : ℕ) (names : List (List ℕ)) (n : ℕ) (ss : List SessionState) (name : List ℕ) (qs : List Question) (s : SessionState)
+    → AreRead under p least names n ss → slice_get names n ≡ Some name → AreQuestionsIn p (under name) qs → s.questions ≡ qs → IsNewSession p least (n + 1) s
+    → AreRead under p least names (n + 1) (ss ++ s ∷ [])
+one_read under p least names n ss name qs s read at own same new =
+    let next : suc n ≡ n + 1 = omega arith in
+    let all : AreQuestionsUnder under p (take (suc n) names) (questions_of ss ++ s.questions ∷ []) =
+        more_under under p names n name (questions_of ss) s.questions at read.texts (subst (AreQuestionsIn p (under name)) (sym same) own) in
+    let both : questions_of (ss ++ s ∷ []) ≡ questions_of ss ++ s.questions ∷ [] = map-append (λ (x : SessionState). x.questions) ss (s ∷ []) in
+    let long = length_more ss in
+    record {
+      texts = subst (λ (qss : List (List Question)). AreQuestionsUnder under p (take (n + 1) names) qss) (sym both) (subst (λ (m : ℕ). AreQuestionsUnder under p (take m names) (questions_of ss ++ s.questions ∷ [])) next all);
+      count = let c = read.count in omega (arith, long, c);
+      new = λ i t here. elim (split_get ss (s ∷ []) i t here) [
+        | inl h ↦ read.new i t h
+        | inr h ↦
+          let one = one_at s t h.0 h.2 in
+          let place : n + 1 ≡ i + 1 = let a : i ≡ length ss + h.0 = h.1 in let b : h.0 ≡ 0 = one.0 in let c = read.count in omega (arith, a, b, c) in
+          subst (λ (m : ℕ). IsNewSession p least m t) place (subst (IsNewSession p least (n + 1)) one.1 new)
+      ];
+    }
+  where
+    length_more : (xs : List SessionState) → length (xs ++ s ∷ []) ≡ length xs + 1
+    length_more [] = refl
+    length_more (x ∷ xs) = let e : length (xs ++ s ∷ []) ≡ length xs + 1 = length_more xs in omega (arith, e)
+
+-- all are read
+pub all_read : (under : List ℕ → Option (List ℕ)) (p : Presented) (least : ℕ) (names : List (List ℕ)) (n : ℕ) (ss : List SessionState) → AreRead under p least names n ss → length names ≤ n
+    → AreQuestionsUnder under p names (questions_of ss)
+all_read under p least names n ss read le = subst (λ (ns : List (List ℕ)). AreQuestionsUnder under p ns (questions_of ss)) (whole names n le) read.texts
+  where
+    whole : (xs : List (List ℕ)) (m : ℕ) → length xs ≤ m → take m xs ≡ xs
+    whole [] zero le = refl
+    whole [] (suc m) le = refl
+    whole (x ∷ xs) zero le = absurd (omega (arith, le))
+    whole (x ∷ xs) (suc m) le = ap (λ (ys : List (List ℕ)). x ∷ ys) (whole xs m (omega (arith, le)))
+
+-- the name at a place
+pub name_at : (xs : List (Bor (List ℕ))) (i : ℕ) (x : Bor (List ℕ)) → i < length xs → slice_get (shown xs) i ≡ Some (slice_index_or xs i x).now
+name_at [] i x lt = absurd (omega (arith, lt))
+name_at (y ∷ xs) zero x lt = refl
+name_at (y ∷ xs) (suc i) x lt = name_at xs i x (omega (arith, lt))

@@ -1,0 +1,60 @@
+-- From what is read to the report that `solo` finds.
+use Rattle.std.proofs.Common.{◌≡◌, ℕ, ◌+◌, ◌<◌, ◌≤◌, ◌^◌, List, [], ◌∷◌, ◌++◌, length, Option, Some, None, slice_get, sym, ap, subst, ◌∙◌, arith, refl}
+use Rattle.std.specs.List.{AllByRecursion}
+use Rattle.std.specs.Prelude.{IfSome, Ok}
+use Rattle.presentation.specs.Presented.{Presented}
+use Rattle.presentation.specs.Reading.{presentation_text}
+use Rattle.session_text.specs.declared.question.Question.{Question}
+use Rattle.basis_entry.specs.Entries.{BasisEntry}
+use Rattle.basis_entry.specs.Seals.{item_count}
+use Rattle.pair_book.specs.declared.limits.Limits.{Limits}
+use Rattle.pair_book.specs.Books.{Held, IsOpened}
+use Rattle.session_core.specs.declared.kept.Kept.{Kept}
+use Rattle.session_core.specs.Questions.{CanBeAsked}
+use Rattle.session_core.specs.Sessions.{SessionState}
+use Rattle.report_text.specs.Reports.{Reported, IsReportable}
+use Rattle.metab_run.specs.declared.TheConstants.{PRESENTATION_BYTES}
+use Rattle.metab_run.specs.declared.words.TheConstants.{MOST_ENTRIES}
+use Rattle.metab_run.specs.Words.{SoloAsked}
+use Rattle.metab_run.specs.Files.{in_lines}
+use Rattle.metab_run.specs.SessionFiles.{AreQuestionsUnder, IsNewSession, AreNewSessions}
+use Rattle.metab_run.specs.Legal.{IsLegal, AreByAll}
+use Rattle.metab_run.specs.Gathering.{questions_of, IsAsker, AreAskers, AreAnsweredOn, AreReplies}
+use Rattle.metab_run.specs.SoloAnswers.{limits_of, IsFound}
+use Rattle.metab_run.proofs.Reportable.{all_from, stands, reportable, told}
+
+-- new sessions ask the book that was opened
+pub askers : (p : Presented) (limits : Limits) (h : Held) (ss : List SessionState) → IsOpened p limits h → AreNewSessions p (length h.entries) ss → AreAskers h ss
+askers p limits h ss opened new i s at =
+    let is : IsNewSession p (length h.entries) (i + 1) s = new i s at in
+    let source : h.source ≡ p = ap (λ (x : Held). x.source) opened.is in
+    let base : h.base ≡ length h.entries = ap (λ (x : Held). x.base) opened.is in
+    record {
+      number = is.number;
+      base = is.base ∙ sym base;
+      questions = subst (λ (x : Presented). AllByRecursion (CanBeAsked x) s.questions) (sym source) is.questions;
+      replies = subst (AreReplies h.source h.entries h.seal s.questions) (sym is.kept) (λ i q k asked kept. absurd (cc));
+      fronts = subst (AllByRecursion (λ k. k.front ≤ item_count h.entries h.seal)) (sym is.kept) tt;
+    }
+
+pub found : (under : List ℕ → Option (List ℕ)) (q : SoloAsked) (p : Presented) (least : ℕ) (ss : List SessionState) (r : Reported)
+    → IfSome (under q.presentation) (λ bytes. (length bytes ≤ PRESENTATION_BYTES) × (in_lines presentation_text bytes ≡ Ok p)) → AreQuestionsUnder under p q.sessions (questions_of ss)
+    → q.entries ≤ MOST_ENTRIES → AreNewSessions p least ss → IsLegal p (limits_of q) (questions_of ss) r → AreAnsweredOn p r.entries r.seal ss r.sessions → IsFound under q r
+found under q p least ss r presented asked most new legal on =
+    let by_all : AllByRecursion (λ s. AreByAll r.entries r.seal s.kept) r.sessions = all_from (λ (s : SessionState). AreByAll r.entries r.seal s.kept) r.sessions (λ i t at.
+        let old = stands r.sessions ss i t at on.count in
+        let is = on.each i old.0 t old.1 at in
+        let kept : t.kept ≡ is.more = ap (λ (x : SessionState). x.kept) is.is ∙ ap (λ (ks : List Kept). ks ++ is.more) (new i old.0 old.1).kept in
+        subst (AreByAll r.entries r.seal) (sym kept) is.by_all) in
+    let can : IsReportable r = reportable p (limits_of q) (questions_of ss) r legal (omega (arith, most)) in
+    let history = told r can by_all in
+    record {
+      p = p;
+      presented = presented;
+      questions = questions_of ss;
+      asked = asked;
+      solved = record { legal = legal; by_all = by_all };
+      reportable = can;
+      history = history.0;
+      is_history = history.1;
+    }

@@ -1,0 +1,102 @@
+-- What the texts of sessions that a command reads lead to.
+use Rattle.std.specs.List.{AllByRecursion}
+use Rattle.std.specs.Prelude.{◌≡◌, ℕ, ◌+◌, ◌<◌, ◌≤◌, ◌⊎◌, List, [], ◌∷◌, ◌++◌, length, take, slice_get, Option, Some, IfSome, Result, Ok, Err, Vec}
+use Rattle.std.specs.declared.alloc.Global.{Global}
+use Rattle.presentation.specs.Presented.{Presented}
+use Rattle.session_text.specs.declared.TheConstants.{QUESTIONS}
+use Rattle.session_text.specs.declared.question.Question.{Question}
+use Rattle.session_text.specs.declared.fault.SessionFault.{SessionFault}
+use Rattle.session_text.specs.declared.fault.SessionFault.TheVariants as sessions
+use Rattle.session_text.specs.Reading.{session_text}
+use Rattle.session_core.specs.declared.sessions.Session.{Session}
+use Rattle.session_core.specs.Questions.{CanBeAsked}
+use Rattle.session_core.specs.Sessions.{SessionState}
+use Rattle.metab_run.specs.declared.answer.Halt.{Halt}
+use Rattle.metab_run.specs.declared.answer.Halt.TheVariants.{Says, NoMemory}
+use Rattle.metab_run.specs.declared.TheConstants.{SESSION_BYTES}
+use Rattle.metab_run.specs.Answers.{Answer, unread, too_long, refused, image_too_long}
+use Rattle.metab_run.specs.Gathering.{questions_of}
+
+-- ---- what is due
+
+-- a session that was parsed: its first fault is the answer, or its questions go on
+abbrev pub QuestionsLead : List ℕ → Result (List Question) SessionFault → (List Question → Answer → Type 0) → Answer → Type 0
+QuestionsLead name (Ok qs) next a = next qs a
+QuestionsLead name (Err (sessions.Text f)) next a = a ≡ refused name f
+QuestionsLead name (Err (sessions.ImageTooLong line relator)) next a = a ≡ image_too_long name line relator
+QuestionsLead name (Err sessions.NoMemory) next a = ⊥
+
+-- The session under a name is read whole and then parsed. Reading it failed, which the shelf has counted; or, where the
+-- shelf tells the bytes, they lead to the answer.
+abbrev pub SessionLeads : Type 0 → Presented → List ℕ → Option (List ℕ) → (List Question → Answer → Type 0) → Answer → Type 0
+SessionLeads counted p name told next a =
+    (counted × (a ≡ unread name)) ⊎ IfSome told (λ bytes.
+    ((SESSION_BYTES < length bytes) × (a ≡ too_long name SESSION_BYTES)) ⊎ ((length bytes ≤ SESSION_BYTES) × QuestionsLead name (session_text p bytes) next a))
+
+-- the sessions under these names behind others, each read whole and parsed before the next is opened
+abbrev pub SessionsLead : Type 0 → (List ℕ → Option (List ℕ)) → Presented → List (List ℕ) → List (List Question) → (List (List Question) → Answer → Type 0) → Answer → Type 0
+SessionsLead counted under p [] before next a = next before a
+SessionsLead counted under p (name ∷ names) before next a =
+    SessionLeads counted p name (under name) (λ qs. SessionsLead counted under p names (before ++ qs ∷ []) next) a
+
+-- ---- what the code gives
+
+-- the answer to what is wrong with a session
+abbrev pub RefusesSession : List ℕ → SessionFault → Halt → Type 0
+RefusesSession name (sessions.Text f) (Says a) = a ≡ refused name f
+RefusesSession name (sessions.ImageTooLong line relator) (Says a) = a ≡ image_too_long name line relator
+RefusesSession name sessions.NoMemory (Says a) = ⊥
+RefusesSession name fault NoMemory = Unit {0}
+
+-- why a session has no questions
+abbrev pub SessionFails : Type 0 → Presented → List ℕ → Option (List ℕ) → Answer → Type 0
+SessionFails counted p name told a =
+    (counted × (a ≡ unread name)) ⊎ IfSome told (λ bytes.
+    ((SESSION_BYTES < length bytes) × (a ≡ too_long name SESSION_BYTES)) ⊎ ((length bytes ≤ SESSION_BYTES) × ((f : SessionFault) × (session_text p bytes ≡ Err f) × RefusesSession name f (Says a))))
+
+-- these are the questions of the session's text
+abbrev pub AreQuestionsIn : Presented → Option (List ℕ) → List Question → Type 0
+AreQuestionsIn p told qs = IfSome told (λ bytes. (length bytes ≤ SESSION_BYTES) × (session_text p bytes ≡ Ok qs))
+
+-- what reading a session whole and parsing it answers: its questions, or what is wrong
+abbrev pub SessionGives : Type 0 → Presented → List ℕ → Option (List ℕ) → Result (Vec Question Global) Halt → Type 0
+SessionGives counted p name told (Ok qs) = AreQuestionsIn p told qs.items
+SessionGives counted p name told (Err (Says a)) = SessionFails counted p name told a
+SessionGives counted p name told (Err NoMemory) = Unit {0}
+
+-- questions that a session may have
+abbrev pub AreAskable : Presented → List Question → Type 0
+AreAskable p qs = (length qs ≤ QUESTIONS) × AllByRecursion (CanBeAsked p) qs
+
+-- a session with this number before its first reply
+pub record IsNewSession (p : Presented) (least : ℕ) (n : ℕ) (s : SessionState) : Type 0 where
+  pub number : s.number ≡ n
+  pub base : s.base ≡ least
+  pub kept : s.kept ≡ []
+  pub questions : AllByRecursion (CanBeAsked p) s.questions
+
+-- the sessions are numbered from 1
+abbrev pub AreNewSessions : Presented → ℕ → List SessionState → Type 0
+AreNewSessions p least ss = (i : ℕ) (s : SessionState) → slice_get ss i ≡ Some s → IsNewSession p least (i + 1) s
+
+-- in order the questions of the sessions under these names
+abbrev pub AreQuestionsUnder : (List ℕ → Option (List ℕ)) → Presented → List (List ℕ) → List (List Question) → Type 0
+AreQuestionsUnder under p [] [] = Unit {0}
+AreQuestionsUnder under p [] (qs ∷ qss) = ⊥
+AreQuestionsUnder under p (name ∷ names) [] = ⊥
+AreQuestionsUnder under p (name ∷ names) (qs ∷ qss) = AreQuestionsIn p (under name) qs × AreQuestionsUnder under p names qss
+
+-- one of the sessions has no questions, and each before it has
+pub record SessionsFail (counted : Type 0) (under : List ℕ → Option (List ℕ)) (p : Presented) (names : List (List ℕ)) (a : Answer) : Type 0 where
+  pub place : ℕ
+  pub name : List ℕ
+  pub is : slice_get names place ≡ Some name
+  pub before : List (List Question)
+  pub read : AreQuestionsUnder under p (take place names) before
+  pub fails : SessionFails counted p name (under name) a
+
+-- what reading the sessions under these names answers
+abbrev pub SessionsGive : Type 0 → (List ℕ → Option (List ℕ)) → Presented → List (List ℕ) → Result (Vec Session Global) Halt → Type 0
+SessionsGive counted under p names (Ok ss) = AreQuestionsUnder under p names (questions_of ss.items)
+SessionsGive counted under p names (Err (Says a)) = SessionsFail counted under p names a
+SessionsGive counted under p names (Err NoMemory) = Unit {0}
