@@ -1,0 +1,83 @@
+"""The table of groups that bench/run prints."""
+import os
+import shutil
+import subprocess
+import tempfile
+
+from calculus import singular_text
+from runs import timed
+
+HERE = os.path.dirname(os.path.abspath(__file__))
+FOLDER = os.path.join(HERE, "groups")
+RUNS = 3
+PATIENCE = 120
+HEAD = (f"{'group':<16} {'entries':>7} {'end':<8} {'complete':>9} {'questions':>9} {'MB':>6} {'check':>6} {'Singular':>15} "
+        f"{'ratio':>6} {'growth':>6}")
+
+
+def rows():
+    """The lines of bench/groups/list, as name, family, size, and the options of `solo`."""
+    with open(os.path.join(FOLDER, "list"), encoding="ascii") as file:
+        for line in file:
+            name, family, size, options, _ = (part.strip() for part in line.split("|"))
+            yield name, family, int(size), options.split()
+
+
+def best(folder, words):
+    return min((timed(folder, words) for _ in range(RUNS)), key=lambda run: run.seconds)
+
+
+def singular(name):
+    """Seconds of the strong basis, and of the reductions, in Singular; None where it isn't there or is too slow."""
+    if shutil.which("Singular") is None:
+        return None
+    texts = []
+    for ending in ("pres", "session"):
+        with open(os.path.join(FOLDER, f"{name}.{ending}"), encoding="ascii") as file:
+            texts.append(file.read())
+    with tempfile.NamedTemporaryFile("w", suffix=".sing") as file:
+        file.write(singular_text(*texts))
+        file.flush()
+        try:
+            ran = subprocess.run(["Singular", "-q", file.name], capture_output=True, text=True, timeout=PATIENCE)
+        except subprocess.TimeoutExpired:
+            return None
+    found = [line.split() for line in ran.stdout.splitlines() if line.startswith("result")]
+    return (int(found[0][2]) / 1000, int(found[0][3]) / 1000) if found else None
+
+
+def measured(name, options):
+    """Entries, end, seconds of the completion, of the questions and of the check, and peak memory."""
+    with tempfile.TemporaryDirectory() as folder:
+        for ending in ("pres", "session"):
+            shutil.copy(os.path.join(FOLDER, f"{name}.{ending}"), os.path.join(folder, ending))
+        open(os.path.join(folder, "none"), "w").close()
+        alone = best(folder, ["solo", *options, "pres", "none"])
+        whole = best(folder, ["solo", *options, "pres", "session"])
+        with open(os.path.join(folder, "report"), "w", encoding="ascii") as file:
+            file.write(whole.answer)
+        check = best(folder, ["check", "pres", "report"])
+    lines = whole.answer.splitlines()
+    entries = sum(line.startswith("entry ") for line in lines)
+    end = next((line.split()[1] for line in lines if line.startswith("end ")), lines[0])
+    if check.status != 0:
+        end += " UNCHECKED"
+    return entries, end, alone.seconds, whole.seconds - alone.seconds, whole.memory, check.seconds
+
+
+def table(wanted):
+    """Prints a row for each group whose name or family has one of the wanted words, or for all."""
+    print(HEAD)
+    seen = {}
+    for name, family, size, options in rows():
+        if wanted and not any(word in name or word in family for word in wanted):
+            continue
+        entries, end, complete, questions, memory, check = measured(name, options)
+        seen[family, size] = complete
+        growth = f"{complete / seen[family, size // 2]:>6.1f}" if (family, size // 2) in seen and size % 2 == 0 else f"{'':>6}"
+        beside = singular(name)
+        other = f"{beside[0]:>7.3f} {beside[1]:>7.3f}" if beside else f"{'':>15}"
+        ratio = f"{questions / beside[1]:>6.2f}" if beside and beside[1] > 0 else f"{'':>6}"
+        print(f"{name:<16} {entries:>7} {end:<8} {complete:>9.4f} {questions:>9.4f} {memory:>6.1f} {check:>6.3f} {other} {ratio} {growth}", flush=True)
+
+
