@@ -114,12 +114,12 @@ module _ (counted : Type 0) (under : List ℕ → Option (List ℕ)) (words : Li
       → Ends (AsksReport (command words)) (IsDue counted under words) failed old new status
   ends_by h status is (inl d) = whole h status is d.0 d.1
   ends_by h status is (inr (inl d)) =
-      subst (λ (s : Status). Ends (AsksReport (command words)) (IsDue counted under words) failed old new s) (sym d.0) (d.1.0, part h is d.1.1)
+      subst (λ (s : Status). Ends (AsksReport (command words)) (IsDue counted under words) failed old new s) (sym d.0) (d.1, part h is d.2)
   ends_by h status is (inr (inr d)) =
       subst (λ (s : Status). Ends (AsksReport (command words)) (IsDue counted under words) failed old new s) (sym d.0) (inr (reports, part h is d.1))
 
   pub report_ends : (status : Status) → DeliversReport failed old new r status → Ends (AsksReport (command words)) (IsDue counted under words) failed old new status
-  report_ends status d = ends_by d.0 status d.1.0 d.1.1
+  report_ends status d = ends_by d.0 status d.1 d.2
 
   pub report_shown : ShownTrivial under (command words)
   report_shown = subst (ShownTrivial under) (sym asks) tt
@@ -134,5 +134,5 @@ never_read failed old new r status (h, is, inr (inr d)) e = absurd (let x : NoMe
 pub write_failed : (failed : Type 0) (old new : Option (List ℕ)) (r : Reported) (status : Status) → DeliversReport failed old new r status → status ≡ WriteFault → failed
 write_failed failed old new r status (h, is, inl (inl s, took)) e = absurd (let x : Done ≡ WriteFault = sym s.0 ∙ e in cc)
 write_failed failed old new r status (h, is, inl (inr s, took)) e = absurd (let x : Open ≡ WriteFault = sym s.0 ∙ e in cc)
-write_failed failed old new r status (h, is, inr (inl d)) e = d.1.0
+write_failed failed old new r status (h, is, inr (inl d)) e = d.1
 write_failed failed old new r status (h, is, inr (inr d)) e = absurd (let x : NoMemory ≡ WriteFault = sym d.0 ∙ e in cc)
