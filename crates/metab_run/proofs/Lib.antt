@@ -18,3 +18,4 @@ pub mod Reportable
 mod ReportEnds
 mod SoloFound
 mod Settling
+mod TrueAnswers

@@ -26,6 +26,7 @@ use Rattle.metab_run.specs.SoloAnswers.{limits_of, IsNoStop, HasNoStop, IsSettle
 use Rattle.metab_run.specs.Top.{CommandLeads, IsDue, AsksReport, ShownTrivial}
 use Rattle.metab_run.proofs.Leading.{gives_lead}
 use Rattle.metab_run.proofs.SessionFiles.{all_lead}
+use Rattle.metab_run.proofs.TrueAnswers.{solved_answers}
 
 -- ---- settled or not
 
@@ -71,7 +72,15 @@ due : (counted : Type 0) (under : List ℕ → Option (List ℕ)) (words : List 
     → IsFound under q r → IsHistoryOf r h → ShowsSettled r status → IsDue counted under words (told_answer r h status)
 due counted under words q r h status asks found is settled =
     let shows : ShowsSolo found.p (limits_of q) found.questions (told_answer r h status) =
-        record { told = r; solved = found.solved; history = h; is_history = is; text = refl; status = settled } in
+        record {
+          told = r;
+          solved = found.solved;
+          history = h;
+          is_history = is;
+          answers = solved_answers found.p (limits_of q) found.questions r h found.known found.sources found.solved is;
+          text = refl;
+          status = settled;
+        } in
     let next : List (List Question) → Answer → Type 0 = ShowsSolo found.p (limits_of q) in
     let leads : SoloLeads counted under q (told_answer r h status) =
         gives_lead counted PRESENTATION_BYTES q.presentation (under q.presentation) (in_lines presentation_text)

@@ -2,10 +2,11 @@
 use Rattle.std.specs.List.{AllByRecursion}
 use Rattle.std.specs.Prelude.{◌≡◌, ℕ, ◌≤◌, ◌⊎◌, List, [], length, slice_get, Option, Some, IfSome, Result, Ok, Err}
 use Rattle.mb_io.specs.Shelf.{TakesPrefix}
-use Rattle.presentation.specs.Presented.{Presented}
+use Rattle.presentation.specs.Presented.{Presented, IsPresented}
 use Rattle.presentation.specs.Reading.{presentation_text}
 use Rattle.outcomes.specs.declared.ends.End.TheVariants.{Sealed}
 use Rattle.session_text.specs.declared.question.Question.{Question}
+use Rattle.session_text.specs.Questions.{HasSource}
 use Rattle.task_table.specs.declared.order.Order.TheVariants.{ByNumber}
 use Rattle.pair_book.specs.declared.limits.Limits.{Limits}
 use Rattle.session_core.specs.declared.kept.Kept.{Kept}
@@ -26,6 +27,7 @@ use Rattle.metab_run.specs.Words.{SoloAsked}
 use Rattle.metab_run.specs.Files.{in_lines, FileLeads}
 use Rattle.metab_run.specs.SessionFiles.{SessionsLead, AreQuestionsUnder}
 use Rattle.metab_run.specs.Legal.{IsLegal, AreByAll}
+use Rattle.metab_run.specs.TrueAnswers.{AreTrueAnswers}
 
 -- the limits that the words give
 abbrev pub limits_of : SoloAsked → Limits
@@ -58,12 +60,14 @@ pub record IsSolved (p : Presented) (limits : Limits) (questions : List (List Qu
 abbrev pub ShowsSettled : Reported → Status → Type 0
 ShowsSettled r status = ((status ≡ Done) × IsSettled r) ⊎ ((status ≡ Open) × (IsSettled r → ⊥))
 
--- the answer is the text of a legal report whose replies are all by all items. It is done exactly where the report is settled
+-- The answer is the text of a legal report, with all replies by all items, and what is answered there is true: exactly so where
+-- the log is sealed. It is done exactly where the report is settled
 pub record ShowsSolo (p : Presented) (limits : Limits) (questions : List (List Question)) (a : Answer) : Type 0 where
   pub told : Reported
   pub solved : IsSolved p limits questions told
   pub history : History
   pub is_history : IsHistoryOf told history
+  pub answers : AreTrueAnswers p (λ a. told.end ≡ Sealed) history
   pub text : a.text ≡ text_of told history
   pub status : ShowsSettled told a.status
 
@@ -81,6 +85,8 @@ pub record IsFound (under : List ℕ → Option (List ℕ)) (q : SoloAsked) (r :
   pub presented : IfSome (under q.presentation) (λ bytes. (length bytes ≤ PRESENTATION_BYTES) × (in_lines presentation_text bytes ≡ Ok p))
   pub questions : List (List Question)
   pub asked : AreQuestionsUnder under p q.sessions questions
+  pub known : IsPresented p
+  pub sources : AllByRecursion (AllByRecursion HasSource) questions
   pub solved : IsSolved p (limits_of q) questions r
   pub reportable : IsReportable r
   pub history : History

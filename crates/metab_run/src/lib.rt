@@ -6,6 +6,7 @@ mod checking;
 mod files;
 mod fox;
 mod gathering;
+mod known;
 mod parsing;
 mod sessions;
 mod solo;

@@ -13,6 +13,7 @@ ghost use Rattle.metab_run.specs.declared.words.TheConstants.{LEAST_ENTRIES, MOS
 use crate::answer::Halt;
 use crate::files::load_presentation;
 use crate::gathering::gather;
+use crate::known::sources_are_known;
 use crate::sessions::load_sessions;
 use crate::status::Status;
 use crate::words::SoloWords;
@@ -58,6 +59,7 @@ pub fn solo<S: Shelf>(alloc: Global, shelf: &mut S, words: &SoloWords) -> Result
     let limits = limits(words);
     let book = Book::open(alloc, &p, limits)?;
     let sessions = load_sessions(alloc, shelf, &p, &words.sessions, book.count())?;
+    sources_are_known(&sessions);
     Ok(gather(alloc, &p, book, sessions, limits)?)
 }
 
