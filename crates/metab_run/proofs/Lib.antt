@@ -19,3 +19,4 @@ mod ReportEnds
 mod SoloFound
 mod Settling
 mod TrueAnswers
+mod Accepted

@@ -1,6 +1,7 @@
 -- How a run ends that has a report.
 use Rattle.std.proofs.Common.{◌≡◌, ◌⊎◌, ℕ, inl, inr, List, [], ◌∷◌, ◌++◌, length, take, Option, Some, None, sym, ap, subst, ◌∙◌, refl}
 use Rattle.std.specs.List.{AllByRecursion}
+use Rattle.std.specs.Prelude.{Ok}
 use Rattle.mb_io.specs.Shelf.{TakesPrefix}
 use Rattle.presentation.specs.Presented.{Presented}
 use Rattle.presentation.specs.Reading.{presentation_text}
@@ -14,6 +15,9 @@ use Rattle.session_core.specs.Sessions.{SessionState}
 use Rattle.report_text.specs.Histories.{History}
 use Rattle.report_text.specs.Reports.{Reported, IsHistoryOf, text_of}
 use Rattle.report_text.specs.Writing.{Stops}
+use Rattle.cert_checker.specs.Texts.{TellsWhole}
+use Rattle.report_acceptance.specs.Accepting.{told_amount}
+use Rattle.metab_run.specs.CheckAnswers.{holds, ReportLeads}
 use Rattle.metab_run.specs.declared.status.Status.{Status}
 use Rattle.metab_run.specs.declared.status.Status.TheVariants.{Done, Open, WriteFault, NoMemory, ReadFault}
 use Rattle.metab_run.specs.declared.TheConstants.{PRESENTATION_BYTES}
@@ -68,6 +72,10 @@ some_status r = settled_by r (sealed_or r.end) (all_or HasNoStop (λ s. all_or (
 abbrev told_answer : Reported → History → Status → Answer
 told_answer r h status = record { status = status; text = text_of r h }
 
+-- a report of which all lines hold is accepted by `check`
+pub checks : (p : Presented) (r : Reported) (h : History) → r.pres ≡ p → TellsWhole r.pres (text_of r h) (Ok (told_amount r h)) → ReportLeads p (text_of r h) (holds (told_amount r h))
+checks p r h pres tells = (Ok (told_amount r h), subst (λ (x : Presented). TellsWhole x (text_of r h) (Ok (told_amount r h))) pres tells, refl)
+
 due : (counted : Type 0) (under : List ℕ → Option (List ℕ)) (words : List (List ℕ)) (q : SoloAsked) (r : Reported) (h : History) (status : Status) → command words ≡ Some (Solo q)
     → IsFound under q r → IsHistoryOf r h → ShowsSettled r status → IsDue counted under words (told_answer r h status)
 due counted under words q r h status asks found is settled =
@@ -79,6 +87,7 @@ due counted under words q r h status asks found is settled =
           is_history = is;
           answers = solved_answers found.p (limits_of q) found.questions r h found.known found.sources found.solved is;
           text = refl;
+          checked = checks found.p r h found.solved.legal.pres (found.accepted h is);
           status = settled;
         } in
     let next : List (List Question) → Answer → Type 0 = ShowsSolo found.p (limits_of q) in

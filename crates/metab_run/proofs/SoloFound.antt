@@ -13,7 +13,10 @@ use Rattle.pair_book.specs.Books.{Held, IsOpened}
 use Rattle.session_core.specs.declared.kept.Kept.{Kept}
 use Rattle.session_core.specs.Questions.{CanBeAsked}
 use Rattle.session_core.specs.Sessions.{SessionState}
-use Rattle.report_text.specs.Reports.{Reported, IsReportable}
+use Rattle.report_text.specs.Histories.{History}
+use Rattle.report_text.specs.Reports.{Reported, IsReportable, IsHistoryOf, text_of}
+use Rattle.cert_checker.specs.Texts.{TellsWhole}
+use Rattle.report_acceptance.specs.Accepting.{told_amount}
 use Rattle.metab_run.specs.declared.TheConstants.{PRESENTATION_BYTES}
 use Rattle.metab_run.specs.declared.words.TheConstants.{MOST_ENTRIES}
 use Rattle.metab_run.specs.declared.answer.Halt.{Halt}
@@ -47,16 +50,20 @@ sourced : (ss : List SessionState) → AllByRecursion (λ s. AllByRecursion HasS
 sourced [] all = tt
 sourced (s ∷ ss) all = (all.0, sourced ss all.1)
 
+pub can_be_written : (q : SoloAsked) (p : Presented) (questions : List (List Question)) (r : Reported) → q.entries ≤ MOST_ENTRIES → IsLegal p (limits_of q) questions r → IsReportable r
+can_be_written q p questions r most legal = reportable p (limits_of q) questions r legal (omega (arith, most))
+
 pub found : (under : List ℕ → Option (List ℕ)) (q : SoloAsked) (p : Presented) (least : ℕ) (ss : List SessionState) (r : Reported)
     → IfSome (under q.presentation) (λ bytes. (length bytes ≤ PRESENTATION_BYTES) × (in_lines presentation_text bytes ≡ Ok p)) → AreQuestionsUnder under p q.sessions (questions_of ss)
-    → IsPresented p → AllByRecursion (λ s. AllByRecursion HasSource s.questions) ss → q.entries ≤ MOST_ENTRIES → AreNewSessions p least ss → IsLegal p (limits_of q) (questions_of ss) r → AreAnsweredOn p r.entries r.seal ss r.sessions → IsFound under q r
-found under q p least ss r presented asked known sources most new legal on =
+    → IsPresented p → AllByRecursion (λ s. AllByRecursion HasSource s.questions) ss → q.entries ≤ MOST_ENTRIES → AreNewSessions p least ss → IsLegal p (limits_of q) (questions_of ss) r → AreAnsweredOn p r.entries r.seal ss r.sessions
+    → ((h : History) → IsHistoryOf r h → TellsWhole r.pres (text_of r h) (Ok (told_amount r h))) → IsFound under q r
+found under q p least ss r presented asked known sources most new legal on accepted =
     let by_all : AllByRecursion (λ s. AreByAll r.entries r.seal s.kept) r.sessions = all_from (λ (s : SessionState). AreByAll r.entries r.seal s.kept) r.sessions (λ i t at.
         let old = stands r.sessions ss i t at on.count in
         let is = on.each i old.0 t old.1 at in
         let kept : t.kept ≡ is.more = ap (λ (x : SessionState). x.kept) is.is ∙ ap (λ (ks : List Kept). ks ++ is.more) (new i old.0 old.1).kept in
         subst (AreByAll r.entries r.seal) (sym kept) is.by_all) in
-    let can : IsReportable r = reportable p (limits_of q) (questions_of ss) r legal (omega (arith, most)) in
+    let can : IsReportable r = can_be_written q p (questions_of ss) r most legal in
     let history = told r can by_all in
     record {
       p = p;
@@ -67,6 +74,7 @@ found under q p least ss r presented asked known sources most new legal on =
       sources = sourced ss sources;
       solved = record { legal = legal; by_all = by_all };
       reportable = can;
+      accepted = accepted;
       history = history.0;
       is_history = history.1;
     }

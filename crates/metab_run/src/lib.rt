@@ -7,6 +7,7 @@ mod files;
 mod fox;
 mod gathering;
 mod known;
+pub mod laws;
 mod parsing;
 mod sessions;
 mod solo;

@@ -23,6 +23,7 @@ use module_vec::VecList;
 use outcomes::End;
 use pair_book::laws::generator_entries_are_within;
 use pair_book::{Book, Limits};
+use report_acceptance::reports::report_is_accepted;
 use report_text::{Report, WriteFault, write_report};
 use session_core::{Session, Tag};
 use std::alloc::Global;
@@ -60,7 +61,9 @@ pub fn solo<S: Shelf>(alloc: Global, shelf: &mut S, words: &SoloWords) -> Result
     let book = Book::open(alloc, &p, limits)?;
     let sessions = load_sessions(alloc, shelf, &p, &words.sessions, book.count())?;
     sources_are_known(&sessions);
-    Ok(gather(alloc, &p, book, sessions, limits)?)
+    let report = gather(alloc, &p, book, sessions, limits)?;
+    report_is_accepted(&report);
+    Ok(report)
 }
 
 /// Whether no reply of the session is a stop.
