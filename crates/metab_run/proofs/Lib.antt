@@ -18,3 +18,5 @@ pub mod Reportable
 mod ReportEnds
 mod SoloFound
 mod Settling
+mod TrueAnswers
+mod Accepted

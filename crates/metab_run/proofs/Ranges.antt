@@ -44,7 +44,7 @@ recipe_long kind b i j ss entries pair r =
 pub steps_long : (kind : PairKind) (b : List (List Term)) (i j : ℕ) (ss : List Step) → AreEntries b → IsPair b i j → IsFromPair kind b i j ss → AllByRecursion (λ s. length s.t ≡ VARIABLES) ss
 steps_long kind b i j ss entries pair (inl r) = recipe_long kind b i j ss entries pair r
 steps_long kind b i j ss entries pair (inr h) =
-    subst (AllByRecursion (λ s. length s.t ≡ VARIABLES)) (sym h.1.1) (turned_long h.0 (recipe_long kind b i j h.0 entries pair h.1.0))
+    subst (AllByRecursion (λ s. length s.t ≡ VARIABLES)) (sym h.2) (turned_long h.0 (recipe_long kind b i j h.0 entries pair h.1))
 
 -- ---- the factors
 

@@ -1,6 +1,7 @@
 -- How a run ends that has a report.
 use Rattle.std.proofs.Common.{◌≡◌, ◌⊎◌, ℕ, inl, inr, List, [], ◌∷◌, ◌++◌, length, take, Option, Some, None, sym, ap, subst, ◌∙◌, refl}
 use Rattle.std.specs.List.{AllByRecursion}
+use Rattle.std.specs.Prelude.{Ok}
 use Rattle.mb_io.specs.Shelf.{TakesPrefix}
 use Rattle.presentation.specs.Presented.{Presented}
 use Rattle.presentation.specs.Reading.{presentation_text}
@@ -14,6 +15,9 @@ use Rattle.session_core.specs.Sessions.{SessionState}
 use Rattle.report_text.specs.Histories.{History}
 use Rattle.report_text.specs.Reports.{Reported, IsHistoryOf, text_of}
 use Rattle.report_text.specs.Writing.{Stops}
+use Rattle.cert_checker.specs.Texts.{TellsWhole}
+use Rattle.report_acceptance.specs.Accepting.{told_amount}
+use Rattle.metab_run.specs.CheckAnswers.{holds, ReportLeads}
 use Rattle.metab_run.specs.declared.status.Status.{Status}
 use Rattle.metab_run.specs.declared.status.Status.TheVariants.{Done, Open, WriteFault, NoMemory, ReadFault}
 use Rattle.metab_run.specs.declared.TheConstants.{PRESENTATION_BYTES}
@@ -26,6 +30,7 @@ use Rattle.metab_run.specs.SoloAnswers.{limits_of, IsNoStop, HasNoStop, IsSettle
 use Rattle.metab_run.specs.Top.{CommandLeads, IsDue, AsksReport, ShownTrivial}
 use Rattle.metab_run.proofs.Leading.{gives_lead}
 use Rattle.metab_run.proofs.SessionFiles.{all_lead}
+use Rattle.metab_run.proofs.TrueAnswers.{solved_answers}
 
 -- ---- settled or not
 
@@ -67,11 +72,24 @@ some_status r = settled_by r (sealed_or r.end) (all_or HasNoStop (λ s. all_or (
 abbrev told_answer : Reported → History → Status → Answer
 told_answer r h status = record { status = status; text = text_of r h }
 
+-- a report of which all lines hold is accepted by `check`
+pub checks : (p : Presented) (r : Reported) (h : History) → r.pres ≡ p → TellsWhole r.pres (text_of r h) (Ok (told_amount r h)) → ReportLeads p (text_of r h) (holds (told_amount r h))
+checks p r h pres tells = (Ok (told_amount r h), subst (λ (x : Presented). TellsWhole x (text_of r h) (Ok (told_amount r h))) pres tells, refl)
+
 due : (counted : Type 0) (under : List ℕ → Option (List ℕ)) (words : List (List ℕ)) (q : SoloAsked) (r : Reported) (h : History) (status : Status) → command words ≡ Some (Solo q)
     → IsFound under q r → IsHistoryOf r h → ShowsSettled r status → IsDue counted under words (told_answer r h status)
 due counted under words q r h status asks found is settled =
     let shows : ShowsSolo found.p (limits_of q) found.questions (told_answer r h status) =
-        record { told = r; solved = found.solved; history = h; is_history = is; text = refl; status = settled } in
+        record {
+          told = r;
+          solved = found.solved;
+          history = h;
+          is_history = is;
+          answers = solved_answers found.p (limits_of q) found.questions r h found.known found.sources found.solved is;
+          text = refl;
+          checked = checks found.p r h found.solved.legal.pres (found.accepted h is);
+          status = settled;
+        } in
     let next : List (List Question) → Answer → Type 0 = ShowsSolo found.p (limits_of q) in
     let leads : SoloLeads counted under q (told_answer r h status) =
         gives_lead counted PRESENTATION_BYTES q.presentation (under q.presentation) (in_lines presentation_text)
@@ -114,12 +132,12 @@ module _ (counted : Type 0) (under : List ℕ → Option (List ℕ)) (words : Li
       → Ends (AsksReport (command words)) (IsDue counted under words) failed old new status
   ends_by h status is (inl d) = whole h status is d.0 d.1
   ends_by h status is (inr (inl d)) =
-      subst (λ (s : Status). Ends (AsksReport (command words)) (IsDue counted under words) failed old new s) (sym d.0) (d.1.0, part h is d.1.1)
+      subst (λ (s : Status). Ends (AsksReport (command words)) (IsDue counted under words) failed old new s) (sym d.0) (d.1, part h is d.2)
   ends_by h status is (inr (inr d)) =
       subst (λ (s : Status). Ends (AsksReport (command words)) (IsDue counted under words) failed old new s) (sym d.0) (inr (reports, part h is d.1))
 
   pub report_ends : (status : Status) → DeliversReport failed old new r status → Ends (AsksReport (command words)) (IsDue counted under words) failed old new status
-  report_ends status d = ends_by d.0 status d.1.0 d.1.1
+  report_ends status d = ends_by d.0 status d.1 d.2
 
   pub report_shown : ShownTrivial under (command words)
   report_shown = subst (ShownTrivial under) (sym asks) tt
@@ -134,5 +152,5 @@ never_read failed old new r status (h, is, inr (inr d)) e = absurd (let x : NoMe
 pub write_failed : (failed : Type 0) (old new : Option (List ℕ)) (r : Reported) (status : Status) → DeliversReport failed old new r status → status ≡ WriteFault → failed
 write_failed failed old new r status (h, is, inl (inl s, took)) e = absurd (let x : Done ≡ WriteFault = sym s.0 ∙ e in cc)
 write_failed failed old new r status (h, is, inl (inr s, took)) e = absurd (let x : Open ≡ WriteFault = sym s.0 ∙ e in cc)
-write_failed failed old new r status (h, is, inr (inl d)) e = d.1.0
+write_failed failed old new r status (h, is, inr (inl d)) e = d.1
 write_failed failed old new r status (h, is, inr (inr d)) e = absurd (let x : NoMemory ≡ WriteFault = sym d.0 ∙ e in cc)

@@ -56,7 +56,7 @@ all_at P [] i x all at = absurd (cc)
 all_at P (a ∷ xs) zero x all at = let e : a ≡ x = cc in subst P e all.0
 all_at P (a ∷ xs) (suc i) x all at = all_at P xs i x all.1 at
 
-stands : {A B : Type 0} (xs : List A) (ys : List B) (i : ℕ) (x : A) → slice_get xs i ≡ Some x → length xs ≡ length ys → (y : B) × (slice_get ys i ≡ Some y)
+pub stands : {A B : Type 0} (xs : List A) (ys : List B) (i : ℕ) (x : A) → slice_get xs i ≡ Some x → length xs ≡ length ys → (y : B) × (slice_get ys i ≡ Some y)
 stands [] ys i x at same = absurd (cc)
 stands (a ∷ xs) [] i x at same = absurd (omega (arith, same))
 stands (a ∷ xs) (y ∷ ys) zero x at same = (y, refl)
@@ -153,10 +153,10 @@ module _ (p : Presented) (limits : Limits) (questions : List (List Question)) (r
   end_is_over (Spent c t) ends = tt
 
   sealed_by : (end : End) → IsSome (seal_at p r.entries end) ↔ (end ≡ Sealed)
-  sealed_by Sealed = (λ h. refl, λ h. tt)
-  sealed_by (Stopped t stop) = (λ h. absurd h, λ h. absurd cc)
-  sealed_by (Full m c) = (λ h. absurd h, λ h. absurd cc)
-  sealed_by (Spent c t) = (λ h. absurd h, λ h. absurd cc)
+  sealed_by Sealed = (λ h. refl, λ h. refl)
+  sealed_by (Stopped t stop) = (λ h. absurd (cc), λ h. absurd (cc))
+  sealed_by (Full m c) = (λ h. absurd (cc), λ h. absurd (cc))
+  sealed_by (Spent c t) = (λ h. absurd (cc), λ h. absurd (cc))
 
   legal_at : (i : ℕ) (s : SessionState) → slice_get r.sessions i ≡ Some s → (qs : List Question) × IsLegalSession p is.base r.entries r.seal (i + 1) qs s
   legal_at i s at = let own = stands r.sessions questions i s at is.count in (own.0, is.sessions i own.0 s own.1 at)

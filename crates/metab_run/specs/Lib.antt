@@ -11,3 +11,4 @@ pub mod Legal
 pub mod Gathering
 pub mod SessionFiles
 pub mod SoloAnswers
+pub mod TrueAnswers

@@ -2,10 +2,11 @@
 use Rattle.std.specs.List.{AllByRecursion}
 use Rattle.std.specs.Prelude.{◌≡◌, ℕ, ◌≤◌, ◌⊎◌, List, [], length, slice_get, Option, Some, IfSome, Result, Ok, Err}
 use Rattle.mb_io.specs.Shelf.{TakesPrefix}
-use Rattle.presentation.specs.Presented.{Presented}
+use Rattle.presentation.specs.Presented.{Presented, IsPresented}
 use Rattle.presentation.specs.Reading.{presentation_text}
 use Rattle.outcomes.specs.declared.ends.End.TheVariants.{Sealed}
 use Rattle.session_text.specs.declared.question.Question.{Question}
+use Rattle.session_text.specs.Questions.{HasSource}
 use Rattle.task_table.specs.declared.order.Order.TheVariants.{ByNumber}
 use Rattle.pair_book.specs.declared.limits.Limits.{Limits}
 use Rattle.session_core.specs.declared.kept.Kept.{Kept}
@@ -16,16 +17,20 @@ use Rattle.report_text.specs.declared.report.Report.{Report}
 use Rattle.report_text.specs.Histories.{History}
 use Rattle.report_text.specs.Reports.{Reported, IsReportable, IsHistoryOf, reported, text_of}
 use Rattle.report_text.specs.Writing.{Stops}
+use Rattle.cert_checker.specs.Texts.{TellsWhole}
+use Rattle.report_acceptance.specs.Accepting.{told_amount}
 use Rattle.metab_run.specs.declared.answer.Halt.{Halt}
 use Rattle.metab_run.specs.declared.answer.Halt.TheVariants as halts
 use Rattle.metab_run.specs.declared.status.Status.{Status}
 use Rattle.metab_run.specs.declared.status.Status.TheVariants.{Done, Open, WriteFault, NoMemory}
 use Rattle.metab_run.specs.declared.TheConstants.{PRESENTATION_BYTES, LOG_TERMS, LOG_STEPS}
 use Rattle.metab_run.specs.Answers.{Answer}
+use Rattle.metab_run.specs.CheckAnswers.{holds, ReportLeads}
 use Rattle.metab_run.specs.Words.{SoloAsked}
 use Rattle.metab_run.specs.Files.{in_lines, FileLeads}
 use Rattle.metab_run.specs.SessionFiles.{SessionsLead, AreQuestionsUnder}
 use Rattle.metab_run.specs.Legal.{IsLegal, AreByAll}
+use Rattle.metab_run.specs.TrueAnswers.{AreTrueAnswers}
 
 -- the limits that the words give
 abbrev pub limits_of : SoloAsked → Limits
@@ -58,13 +63,16 @@ pub record IsSolved (p : Presented) (limits : Limits) (questions : List (List Qu
 abbrev pub ShowsSettled : Reported → Status → Type 0
 ShowsSettled r status = ((status ≡ Done) × IsSettled r) ⊎ ((status ≡ Open) × (IsSettled r → ⊥))
 
--- the answer is the text of a legal report whose replies are all by all items. It is done exactly where the report is settled
+-- The answer is the text of a legal report, with all replies by all items. What it answers is true, and exact where the log is
+-- sealed, and `check` finds that it holds. The run is done exactly where the report is settled
 pub record ShowsSolo (p : Presented) (limits : Limits) (questions : List (List Question)) (a : Answer) : Type 0 where
   pub told : Reported
   pub solved : IsSolved p limits questions told
   pub history : History
   pub is_history : IsHistoryOf told history
+  pub answers : AreTrueAnswers p (λ a. told.end ≡ Sealed) history
   pub text : a.text ≡ text_of told history
+  pub checked : ReportLeads p a.text (holds (told_amount told history))
   pub status : ShowsSettled told a.status
 
 -- the answer that is due to `solo` over these texts; `counted` says that the shelf has counted a failure
@@ -81,8 +89,11 @@ pub record IsFound (under : List ℕ → Option (List ℕ)) (q : SoloAsked) (r :
   pub presented : IfSome (under q.presentation) (λ bytes. (length bytes ≤ PRESENTATION_BYTES) × (in_lines presentation_text bytes ≡ Ok p))
   pub questions : List (List Question)
   pub asked : AreQuestionsUnder under p q.sessions questions
+  pub known : IsPresented p
+  pub sources : AllByRecursion (AllByRecursion HasSource) questions
   pub solved : IsSolved p (limits_of q) questions r
   pub reportable : IsReportable r
+  pub accepted : (h : History) → IsHistoryOf r h → TellsWhole r.pres (text_of r h) (Ok (told_amount r h))
   pub history : History
   pub is_history : IsHistoryOf r history
 

@@ -6,6 +6,8 @@ mod checking;
 mod files;
 mod fox;
 mod gathering;
+mod known;
+pub mod laws;
 mod parsing;
 mod sessions;
 mod solo;

@@ -13,6 +13,7 @@ ghost use Rattle.metab_run.specs.declared.words.TheConstants.{LEAST_ENTRIES, MOS
 use crate::answer::Halt;
 use crate::files::load_presentation;
 use crate::gathering::gather;
+use crate::known::sources_are_known;
 use crate::sessions::load_sessions;
 use crate::status::Status;
 use crate::words::SoloWords;
@@ -22,6 +23,7 @@ use module_vec::VecList;
 use outcomes::End;
 use pair_book::laws::generator_entries_are_within;
 use pair_book::{Book, Limits};
+use report_acceptance::reports::report_is_accepted;
 use report_text::{Report, WriteFault, write_report};
 use session_core::{Session, Tag};
 use std::alloc::Global;
@@ -58,7 +60,10 @@ pub fn solo<S: Shelf>(alloc: Global, shelf: &mut S, words: &SoloWords) -> Result
     let limits = limits(words);
     let book = Book::open(alloc, &p, limits)?;
     let sessions = load_sessions(alloc, shelf, &p, &words.sessions, book.count())?;
-    Ok(gather(alloc, &p, book, sessions, limits)?)
+    sources_are_known(&sessions);
+    let report = gather(alloc, &p, book, sessions, limits)?;
+    report_is_accepted(&report);
+    Ok(report)
 }
 
 /// Whether no reply of the session is a stop.

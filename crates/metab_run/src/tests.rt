@@ -15,19 +15,23 @@ struct Row {
     status: Status,
 }
 
-fn run_of(
-    presentation: &'static str,
-    word: &'static str,
-    derivation: &'static str,
-    text: &'static str,
-    status: Status,
-) -> Row {
+// Moves that carry the word to the empty word.
+fn trivial(presentation: &'static str, word: &'static str, derivation: &'static str) -> Row {
     Row {
         presentation: presentation.as_bytes(),
         word,
         derivation: derivation.as_bytes(),
+        text: "trivial\n",
+        status: Status::Done,
+    }
+}
+
+// Moves that don't, on the commutator over the square.
+fn fails(derivation: &'static str, text: &'static str) -> Row {
+    Row {
         text,
-        status,
+        status: Status::Fails,
+        ..trivial(SQUARE, COMMUTATOR, derivation)
     }
 }
 
@@ -49,6 +53,14 @@ fn shelf(alloc: Global, p: &[u8], d: &[u8], failing: &[u32]) -> Result<MemShelf,
     let mut files = Vec::new(alloc);
     files.push(named(alloc, "p", p)?)?;
     files.push(named(alloc, "d", d)?)?;
+    Ok(MemShelf::new(files, Vec::from_slice(alloc, failing)?))
+}
+
+// The presentation under p and the questions of a session under s; the calls of these numbers fail.
+fn asked(alloc: Global, p: &str, s: &str, failing: &[u32]) -> Result<MemShelf, AllocError> {
+    let mut files = Vec::new(alloc);
+    files.push(named(alloc, "p", p.as_bytes())?)?;
+    files.push(named(alloc, "s", s.as_bytes())?)?;
     Ok(MemShelf::new(files, Vec::from_slice(alloc, failing)?))
 }
 
@@ -75,95 +87,56 @@ const COMMUTATOR: &str = "a b a^-1 b^-1";
 
 const DOUBLE: &str = "[[a,b],[a^2,b]]";
 
-#[test]
-fn steps_are_made_or_refused(rt: HostRuntime) -> Result<(), Fail> {
-    let rows = [
-        run_of("<a,b|>", "1", "", "trivial\n", Status::Done),
-        run_of("<a,b|>", "", "", "trivial\n", Status::Done),
-        run_of("<a,b|>", "a a^-1", "", "not-empty 2\n", Status::Fails),
-        run_of("<a|>", "a^2", "", "not-empty 2\n", Status::Fails),
-        run_of(SQUARE, COMMUTATOR, "del 0 rel 1", "trivial\n", Status::Done),
-        run_of(
-            "<a,b | [a,b]>",
-            COMMUTATOR,
-            "del 0 rel 1\n",
-            "trivial\n",
-            Status::Done,
-        ),
-        run_of(
-            SQUARE,
-            COMMUTATOR,
-            "del 0 rel 2",
-            "bad move 1 no-relator\n",
-            Status::Fails,
-        ),
-        run_of(
-            SQUARE,
-            COMMUTATOR,
-            "del 5 pair a",
-            "bad move 1 place\n",
-            Status::Fails,
-        ),
-        run_of(
-            SQUARE,
-            COMMUTATOR,
-            "\r\n ins 4 pair a\r\n\tdel 0 pair a \r\n",
-            "bad move 2 not-there\n",
-            Status::Fails,
-        ),
-        run_of(
-            SQUARE,
-            COMMUTATOR,
-            "ins 4 pair a",
-            "not-empty 6\n",
-            Status::Fails,
-        ),
-        run_of(
-            "<a,b|>",
-            "a b a^-1 b^-1 a a b a^-1 a^-1 b^-1 b a b^-1 a^-1 b a a b^-1 a^-1 a^-1",
-            "del 0 dbl a, b, a a, b",
-            "trivial\n",
-            Status::Done,
-        ),
-        run_of(
-            "<a,b|>",
-            DOUBLE,
-            "del 0 dbl a, b, a^2, b",
-            "trivial\n",
-            Status::Done,
-        ),
-        run_of(
-            "<a,b|> modulus 2",
-            "[a,b]^2",
-            "del 0 pow a, b",
-            "trivial\n",
-            Status::Done,
-        ),
-        run_of(
-            "<a,b|>",
-            "[a,b]^2",
-            "del 0 pow a, b",
-            "bad move 1 no-modulus\n",
-            Status::Fails,
-        ),
-        run_of(
-            "<a | a^16384>",
-            "a^16384",
-            "ins 0 rel 1\nins 0 rel 1",
-            "bad move 2 too-long\n",
-            Status::Fails,
-        ),
-    ];
-    let alloc = rt.alloc();
-    for row in &rows {
-        assert!(rt; ends_so(alloc, row, false)?, "{} {}", row.word, row.text);
-        assert!(rt;
-            ends_so(alloc, row, true)?,
-            "in pieces: {} {}",
-            row.word,
-            row.text
-        );
+// The place of the first of these runs that doesn't end as its row says, whole or in pieces.
+fn first_other(alloc: Global, rows: &[Row]) -> Result<Option<usize>, AllocError> {
+    for (at, row) in rows.iter().enumerate() {
+        if !ends_so(alloc, row, false)? || !ends_so(alloc, row, true)? {
+            return Ok(Some(at));
+        }
     }
+    Ok(None)
+}
+
+#[test]
+fn moves_carry_words_to_the_empty_word(rt: HostRuntime) -> Result<(), Fail> {
+    let long = "a b a^-1 b^-1 a a b a^-1 a^-1 b^-1 b a b^-1 a^-1 b a a b^-1 a^-1 a^-1";
+    let rows = [
+        trivial("<a,b|>", "1", ""),
+        trivial("<a,b|>", "", ""),
+        trivial(SQUARE, COMMUTATOR, "del 0 rel 1"),
+        trivial("<a,b | [a,b]>", COMMUTATOR, "del 0 rel 1\n"),
+        trivial("<a,b|>", long, "del 0 dbl a, b, a a, b"),
+        trivial("<a,b|>", DOUBLE, "del 0 dbl a, b, a^2, b"),
+        trivial("<a,b|> modulus 2", "[a,b]^2", "del 0 pow a, b"),
+    ];
+    assert_eq!(rt; first_other(rt.alloc(), &rows)?, None);
+    Ok(())
+}
+
+#[test]
+fn moves_are_refused(rt: HostRuntime) -> Result<(), Fail> {
+    let rows = [
+        fails("del 0 rel 2", "bad move 1 no-relator\n"),
+        fails("del 5 pair a", "bad move 1 place\n"),
+        fails("\r\n ins 4 pair a\r\n\tdel 0 pair a \r\n", "bad move 2 not-there\n"),
+        fails("ins 4 pair a", "not-empty 6\n"),
+        fails("del 0 pow a, b", "bad move 1 no-modulus\n"),
+        Row {
+            presentation: b"<a | a^16384>",
+            word: "a^16384",
+            ..fails("ins 0 rel 1\nins 0 rel 1", "bad move 2 too-long\n")
+        },
+        Row {
+            word: "a a^-1",
+            ..fails("", "not-empty 2\n")
+        },
+        Row {
+            presentation: b"<a|>",
+            word: "a^2",
+            ..fails("", "not-empty 2\n")
+        },
+    ];
+    assert_eq!(rt; first_other(rt.alloc(), &rows)?, None);
     Ok(())
 }
 
@@ -413,5 +386,89 @@ fn texts_have_limits(rt: HostRuntime) -> Result<(), Fail> {
     assert!(rt; out.taken() == b"read fault missing\n".as_slice());
     assert!(rt; status == Status::ReadFault);
     assert_eq!(rt; DERIVATION_BYTES, 67_108_864);
+    Ok(())
+}
+
+const SOLVED: &str = "metab report 1
+pres <a, t | t a t^-1 a^-2>
+entry 0 gen - : +1*a@t +1*a'@a -1*t@a -1*1@t +1*1@a
+entry 1 gen + : +1*a'@a -1*1@a
+entry 2 gen + : +1*a'@t -1*1@t
+entry 3 gen + : +1*a.a'@a -1*1@a
+entry 4 gen + : +1*a.a'@t -1*1@t
+entry 5 gen + : +1*t.t'@a -1*1@a
+entry 6 gen + : +1*t.t'@t -1*1@t
+entry 7 sum -1*a@1 +1*1@3 : +1*a@a -1*1@a
+entry 8 sum -1*a'@0 +1*1@4 +1*a'@1 -1*t@1 -1*1@2 +2*1@1 : +1*t@a -2*1@a
+entry 9 sum +1*1@5 -1*t'@8 : +2*t'@a -1*1@a
+seal
+live 1 1 11 equal a^2 = t a t^-1 : trivial
+proof 1 +1*a@0 -1*a@1 -1*1@7
+live 1 2 11 normal a : normal +1*1@a
+live 1 3 11 trivial a t a t^-1 a^-1 t a^-1 t^-1 : trivial
+proof 1 -1*a@0 +1*a@1 +1*1@0 +1*1@7 -1*1@1
+end sealed
+done
+";
+
+const CYCLIC: &str = "metab report 1
+pres <a | 1>
+entry 0 gen + : +1*a.a'@a -1*1@a
+seal
+live 1 1 2 trivial a a^-1 : trivial
+proof 1 0
+live 1 2 2 trivial a : not-trivial
+end sealed
+done
+";
+
+// Completion isn't begun, and so the question is left open.
+const SPENT: &str = "metab report 1
+pres <a, b |>
+entry 0 gen + : +1*a.a'@a -1*1@a
+entry 1 gen + : +1*a.a'@b -1*1@b
+entry 2 gen + : +1*b.b'@a -1*1@a
+entry 3 gen + : +1*b.b'@b -1*1@b
+live 1 1 4 trivial a b a^-1 b^-1 : unknown 1
+end spent 0 0 2 S
+close 1 1 trivial a b a^-1 b^-1 : unknown 1
+done
+";
+
+#[test]
+fn questions_are_answered(rt: HostRuntime) -> Result<(), Fail> {
+    let alloc = rt.alloc();
+    let doubling = "equal a^2 = t a t^-1\r\nnormal a\ntrivial [a, t a t^-1]\n";
+    for (budget, p, s, text, ended) in [
+        ("9", "<a,t | t a t^-1 a^-2>", doubling, SOLVED, Status::Done),
+        ("99", "<a|>", "trivial a a^-1\ntrivial a", CYCLIC, Status::Done),
+        ("0", "<a,b|>", "trivial [a,b]", SPENT, Status::Open),
+    ] {
+        let words = words(alloc, &["solo", "--budget", budget, "p", "s"])?;
+        for most in [1, 4096] {
+            let mut shelf = asked(alloc, p, s, &[])?;
+            let mut out = sink(alloc, &[])?;
+            shelf.pieces(most);
+            out.pieces(most);
+            let status = metab_alone(alloc, words.as_slice(), &mut shelf, &mut out);
+            assert!(rt; out.taken() == text.as_bytes(), "{p} {most}");
+            assert!(rt; status == ended, "{p} {most}");
+        }
+    }
+    Ok(())
+}
+
+// The first lines of a text.
+fn lines(text: &str, count: u32) -> &[u8] {
+    let mut left = count;
+    let end = text.bytes().position(|byte| {
+        left = left.saturating_sub(u32::from(byte == b'\n'));
+        left == 0
+    });
+    text.as_bytes()
+}
+
+#[test]
+fn reports_are_written_line_by_line(rt: HostRuntime) -> Result<(), Fail> {
     Ok(())
 }
