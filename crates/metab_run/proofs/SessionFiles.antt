@@ -112,6 +112,21 @@ one_read under p least names n ss name qs s read at own same new =
     length_more [] = refl
     length_more (x ∷ xs) = let e : length (xs ++ s ∷ []) ≡ length xs + 1 = length_more xs in omega (arith, e)
 
+-- the name at a place
+pub name_at : (xs : List (Bor (List ℕ))) (i : ℕ) (x : Bor (List ℕ)) → i < length xs → slice_get (shown xs) i ≡ Some (slice_index_or xs i x).now
+name_at [] i x lt = absurd (omega (arith, lt))
+name_at (y ∷ xs) zero x lt = refl
+name_at (y ∷ xs) (suc i) x lt = name_at xs i x (omega (arith, lt))
+
+-- the session under the name at a place is read behind those before it, and the shelf tells as before
+pub one_more : (under before : List ℕ → Option (List ℕ)) (p : Presented) (least : ℕ) (names : List (Bor (List ℕ))) (n : ℕ) (x : Bor (List ℕ)) (ss all : List SessionState) (qs : List Question) (s : SessionState)
+    → AreRead under p least (shown names) n ss → n < length names → ((m : List ℕ) → before m ≡ under m) → AreQuestionsIn p (before (slice_index_or names n x).now) qs
+    → s.questions ≡ qs → IsNewSession p least (n + 1) s → all ≡ ss ++ s ∷ [] → AreRead under p least (shown names) (n + 1) all
+one_more under before p least names n x ss all qs s read lt same own are new is =
+    let name : List ℕ = (slice_index_or names n x).now in
+    subst (AreRead under p least (shown names) (n + 1)) (sym is)
+    (one_read under p least (shown names) n ss name qs s read (name_at names n x lt) (subst (λ (told : Option (List ℕ)). AreQuestionsIn p told qs) (same name) own) are new)
+
 -- all are read
 pub all_read : (under : List ℕ → Option (List ℕ)) (p : Presented) (least : ℕ) (names : List (List ℕ)) (n : ℕ) (ss : List SessionState) → AreRead under p least names n ss → length names ≤ n
     → AreQuestionsUnder under p names (questions_of ss)
@@ -122,9 +137,3 @@ all_read under p least names n ss read le = subst (λ (ns : List (List ℕ)). Ar
     whole [] (suc m) le = refl
     whole (x ∷ xs) zero le = absurd (omega (arith, le))
     whole (x ∷ xs) (suc m) le = ap (λ (ys : List (List ℕ)). x ∷ ys) (whole xs m (omega (arith, le)))
-
--- the name at a place
-pub name_at : (xs : List (Bor (List ℕ))) (i : ℕ) (x : Bor (List ℕ)) → i < length xs → slice_get (shown xs) i ≡ Some (slice_index_or xs i x).now
-name_at [] i x lt = absurd (omega (arith, lt))
-name_at (y ∷ xs) zero x lt = refl
-name_at (y ∷ xs) (suc i) x lt = name_at xs i x (omega (arith, lt))

@@ -118,7 +118,10 @@ fn moves_are_refused(rt: HostRuntime) -> Result<(), Fail> {
     let rows = [
         fails("del 0 rel 2", "bad move 1 no-relator\n"),
         fails("del 5 pair a", "bad move 1 place\n"),
-        fails("\r\n ins 4 pair a\r\n\tdel 0 pair a \r\n", "bad move 2 not-there\n"),
+        fails(
+            "\r\n ins 4 pair a\r\n\tdel 0 pair a \r\n",
+            "bad move 2 not-there\n",
+        ),
         fails("ins 4 pair a", "not-empty 6\n"),
         fails("del 0 pow a, b", "bad move 1 no-modulus\n"),
         Row {
@@ -411,20 +414,22 @@ end sealed
 done
 ";
 
-const CYCLIC: &str = "metab report 1
-pres <a | 1>
-entry 0 gen + : +1*a.a'@a -1*1@a
-seal
-live 1 1 2 trivial a a^-1 : trivial
-proof 1 0
-live 1 2 2 trivial a : not-trivial
-end sealed
-done
-";
+// Two questions about an infinite cyclic group, line by line.
+const CYCLIC: [&str; 9] = [
+    "metab report 1\n",
+    "pres <a | >\n",
+    "entry 0 gen + : +1*a.a'@a -1*1@a\n",
+    "seal\n",
+    "live 1 1 2 trivial a a^-1 : trivial\n",
+    "proof 1 0\n",
+    "live 1 2 2 trivial a : not-trivial\n",
+    "end sealed\n",
+    "done\n",
+];
 
 // Completion isn't begun, and so the question is left open.
 const SPENT: &str = "metab report 1
-pres <a, b |>
+pres <a, b | >
 entry 0 gen + : +1*a.a'@a -1*1@a
 entry 1 gen + : +1*a.a'@b -1*1@b
 entry 2 gen + : +1*b.b'@a -1*1@a
@@ -435,13 +440,33 @@ close 1 1 trivial a b a^-1 b^-1 : unknown 1
 done
 ";
 
+// How `solo` ends on this presentation and these questions, and what it writes; the calls of these numbers fail.
+fn solved(
+    alloc: Global,
+    p: &str,
+    s: &str,
+    reads: &[u32],
+    writes: &[u32],
+) -> Result<(Status, MemSink), AllocError> {
+    let words = words(alloc, &["solo", "p", "s"])?;
+    let mut shelf = asked(alloc, p, s, reads)?;
+    let mut out = sink(alloc, writes)?;
+    let status = metab_alone(alloc, words.as_slice(), &mut shelf, &mut out);
+    Ok((status, out))
+}
+
 #[test]
 fn questions_are_answered(rt: HostRuntime) -> Result<(), Fail> {
     let alloc = rt.alloc();
     let doubling = "equal a^2 = t a t^-1\r\nnormal a\ntrivial [a, t a t^-1]\n";
     for (budget, p, s, text, ended) in [
-        ("9", "<a,t | t a t^-1 a^-2>", doubling, SOLVED, Status::Done),
-        ("99", "<a|>", "trivial a a^-1\ntrivial a", CYCLIC, Status::Done),
+        (
+            "999999999",
+            "<a,t | t a t^-1 a^-2>",
+            doubling,
+            SOLVED,
+            Status::Done,
+        ),
         ("0", "<a,b|>", "trivial [a,b]", SPENT, Status::Open),
     ] {
         let words = words(alloc, &["solo", "--budget", budget, "p", "s"])?;
@@ -458,17 +483,47 @@ fn questions_are_answered(rt: HostRuntime) -> Result<(), Fail> {
     Ok(())
 }
 
-// The first lines of a text.
-fn lines(text: &str, count: u32) -> &[u8] {
-    let mut left = count;
-    let end = text.bytes().position(|byte| {
-        left = left.saturating_sub(u32::from(byte == b'\n'));
-        left == 0
-    });
-    text.as_bytes()
+#[test]
+fn reports_are_written_line_by_line(rt: HostRuntime) -> Result<(), Fail> {
+    let alloc = rt.alloc();
+    let questions = "trivial a a^-1\ntrivial a";
+    let mut text = Vec::new(alloc);
+    for (at, line) in CYCLIC.iter().enumerate() {
+        let (status, out) = solved(alloc, "<a|>", questions, &[], &[at as u32 + 1])?;
+        assert!(rt; out.taken() == text.as_slice(), "without line {at}");
+        assert!(rt; status == Status::WriteFault, "without line {at}");
+        text.extend_from_slice(line.as_bytes())?;
+    }
+    let (status, out) = solved(alloc, "<a|>", questions, &[], &[CYCLIC.len() as u32 + 1])?;
+    assert!(rt; out.taken() == text.as_slice());
+    assert!(rt; status == Status::Done);
+    Ok(())
 }
 
 #[test]
-fn reports_are_written_line_by_line(rt: HostRuntime) -> Result<(), Fail> {
+fn texts_of_solo_may_be_missing(rt: HostRuntime) -> Result<(), Fail> {
+    let alloc = rt.alloc();
+    for number in 1..=6u32 {
+        let (status, out) = solved(alloc, "<a|>", "trivial a", &[number], &[])?;
+        let text: &[u8] = if number <= 3 {
+            b"read fault p\n"
+        } else {
+            b"read fault s\n"
+        };
+        assert!(rt; out.taken() == text, "read {number}");
+        assert!(rt; status == Status::ReadFault, "read {number}");
+    }
+    for (p, s, text) in [
+        ("<a", "", "refused p line 1 column 3 expected\n"),
+        (
+            "<a|>",
+            "trivial a\n\nnormal b",
+            "refused s line 3 column 8 unknown-name\n",
+        ),
+    ] {
+        let (status, out) = solved(alloc, p, s, &[], &[])?;
+        assert!(rt; out.taken() == text.as_bytes(), "{text}");
+        assert!(rt; status == Status::TextRefused, "{text}");
+    }
     Ok(())
 }

@@ -1,20 +1,15 @@
-use Rattle.std.proofs.Common.{rules, ◌≡◌, ◌+◌, ◌<◌, ℕ, List, Option, Some, length, refl, subst, slice_get, slice_index_or}
-use Rattle.presentation.specs.Presented.{Presented}
-use Rattle.session_text.specs.declared.question.Question.{Question}
-use Rattle.session_core.specs.Sessions.{SessionState}
-use Rattle.metab_run.specs.Words.{shown}
-use Rattle.metab_run.specs.SessionFiles.{AreQuestionsIn, IsNewSession}
-use Rattle.metab_run.proofs.SessionFiles.{AreRead, one_read, name_at}
+use Rattle.std.proofs.Common.{rules, ◌+◌, ◌<◌, length}
+use Rattle.metab_run.specs.SessionFiles.{IsNewSession}
+use Rattle.metab_run.proofs.SessionFiles.{one_more}
 use Rattle.metab_run.proofs.sessions.load_sessions.Goals as goal
 
 pub loop-at-preserved : goal.loop-at-preserved
 loop-at-preserved g c =
-    let p : Presented = c.args.p.now in
     let lt : c.loop-at.at < length c.args.names.now = search rules in
-    let state : SessionState = c.in_ok-open.field-0 in
-    let new : IsNewSession p c.args.base (c.loop-at.at + 1) state = search rules in
+    let new : IsNewSession c.args.p.now c.args.base (c.loop-at.at + 1) c.in_ok-open.field-0 = search rules in
     record {
-      read = search (rules, one_read, name_at, new, lt);
+      read = one_more _ (g.S.Shelf.under c.loop-at.shelf) c.args.p.now c.args.base c.args.names.now c.loop-at.at _ c.loop-at.sessions.items _ c.in_ok-questions.questions.items c.in_ok-open.field-0
+      c.loop-at.invariant.read lt c.loop-at.invariant.same c.in_ok-questions.ensures.gives (search rules) new c.in_ok-push.ensures.items;
       same = search rules;
       later = search rules;
     }
