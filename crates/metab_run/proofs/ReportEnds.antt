@@ -80,21 +80,21 @@ due : (counted : Type 0) (under : List ℕ → Option (List ℕ)) (words : List 
     → IsFound under q r → IsHistoryOf r h → ShowsSettled r status → IsDue counted under words (told_answer r h status)
 due counted under words q r h status asks found is settled =
     let shows : ShowsSolo found.p (limits_of q) found.questions (told_answer r h status) =
-        record {
-          told = r;
-          solved = found.solved;
-          history = h;
-          is_history = is;
-          answers = solved_answers found.p (limits_of q) found.questions r h found.known found.sources found.solved is;
-          text = refl;
-          checked = checks found.p r h found.solved.legal.pres (found.accepted h is);
-          status = settled;
-        } in
+    record {
+      told = r;
+      solved = found.solved;
+      history = h;
+      is_history = is;
+      answers = solved_answers found.p (limits_of q) found.questions r h found.known found.sources found.solved is;
+      text = refl;
+      checked = checks found.p r h found.solved.legal.pres (found.accepted h is);
+      status = settled;
+    } in
     let next : List (List Question) → Answer → Type 0 = ShowsSolo found.p (limits_of q) in
     let leads : SoloLeads counted under q (told_answer r h status) =
-        gives_lead counted PRESENTATION_BYTES q.presentation (under q.presentation) (in_lines presentation_text)
-        (λ p. SessionsLead counted under p q.sessions [] (ShowsSolo p (limits_of q))) found.p (told_answer r h status) found.presented
-        (all_lead counted under found.p q.sessions found.questions [] (ShowsSolo found.p (limits_of q)) (told_answer r h status) found.asked shows) in
+    gives_lead counted PRESENTATION_BYTES q.presentation (under q.presentation) (in_lines presentation_text)
+    (λ p. SessionsLead counted under p q.sessions [] (ShowsSolo p (limits_of q))) found.p (told_answer r h status) found.presented
+    (all_lead counted under found.p q.sessions found.questions [] (ShowsSolo found.p (limits_of q)) (told_answer r h status) found.asked shows) in
     subst (λ (c : Option Asked). CommandLeads counted under c (told_answer r h status)) (sym asks) leads
 
 take_front : (xs ys : List ℕ) → take (length xs) (xs ++ ys) ≡ xs

@@ -59,10 +59,10 @@ pub found : (under : List ℕ → Option (List ℕ)) (q : SoloAsked) (p : Presen
     → ((h : History) → IsHistoryOf r h → TellsWhole r.pres (text_of r h) (Ok (told_amount r h))) → IsFound under q r
 found under q p least ss r presented asked known sources most new legal on accepted =
     let by_all : AllByRecursion (λ s. AreByAll r.entries r.seal s.kept) r.sessions = all_from (λ (s : SessionState). AreByAll r.entries r.seal s.kept) r.sessions (λ i t at.
-        let old = stands r.sessions ss i t at on.count in
-        let is = on.each i old.0 t old.1 at in
-        let kept : t.kept ≡ is.more = ap (λ (x : SessionState). x.kept) is.is ∙ ap (λ (ks : List Kept). ks ++ is.more) (new i old.0 old.1).kept in
-        subst (AreByAll r.entries r.seal) (sym kept) is.by_all) in
+    let old = stands r.sessions ss i t at on.count in
+    let is = on.each i old.0 t old.1 at in
+    let kept : t.kept ≡ is.more = ap (λ (x : SessionState). x.kept) is.is ∙ ap (λ (ks : List Kept). ks ++ is.more) (new i old.0 old.1).kept in
+    subst (AreByAll r.entries r.seal) (sym kept) is.by_all) in
     let can : IsReportable r = can_be_written q p (questions_of ss) r most legal in
     let history = told r can by_all in
     record {

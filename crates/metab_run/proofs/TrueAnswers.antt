@@ -107,10 +107,10 @@ module _ (p : Presented) (limits : Limits) (questions : List (List Question)) (r
   reply_is : (q : Question) (a : Reply) → CanBeAsked p q → HasSource q → IsReplyTo r.pres r.entries r.seal q a → (IsFinal a → IsAfterSeal r a) → IsTrueReply p IsFinal q a
   reply_is q a asked source reply final =
       let here : IsReplyTo p r.entries (seal_at p r.entries r.end) q a =
-          subst (λ (z : Option Seal). IsReplyTo p r.entries z q a) is.seal (subst (λ (x : Presented). IsReplyTo x r.entries r.seal q a) is.pres reply) in
+      subst (λ (z : Option Seal). IsReplyTo p r.entries z q a) is.seal (subst (λ (x : Presented). IsReplyTo x r.entries r.seal q a) is.pres reply) in
       let made : IsTrueReply p (IsAfterSeal r) q a =
-          subst (λ (z : Option Seal). IsTrueReply p (λ b. IsSome (seal_below r.entries z b.front)) q a) (sym is.seal)
-          (true_reply p limits is.base r.entries r.end known is.lawful is.ends q a asked source here) in
+      subst (λ (z : Option Seal). IsTrueReply p (λ b. IsSome (seal_below r.entries z b.front)) q a) (sym is.seal)
+      (true_reply p limits is.base r.entries r.end known is.lawful is.ends q a asked source here) in
       record { trivial = made.trivial; extends = made.extends; exact = λ h. made.exact (final h) }
 
   closing_is : (q : Question) (v : Verdict) (closing : Option Reply) → CanBeAsked p q → HasSource q → IsClosing r.pres r.entries r.seal q v closing → IfSome closing (IsTrueReply p IsFinal q)
@@ -158,5 +158,5 @@ pub solved_answers : (p : Presented) (limits : Limits) (questions : List (List Q
 solved_answers p limits questions r h known sources is told =
     answers_are p limits questions r known sources is.legal (λ a. r.end ≡ Sealed)
     (λ a i j s k here kept front e. after_seal p r a.front is.legal.seal
-      (front ∙ all_at (λ (x : Kept). x.front ≡ item_count r.entries r.seal) s.kept j k (all_at (λ (x : SessionState). AreByAll r.entries r.seal x.kept) r.sessions i s is.by_all here) kept) e)
+    (front ∙ all_at (λ (x : Kept). x.front ≡ item_count r.entries r.seal) s.kept j k (all_at (λ (x : SessionState). AreByAll r.entries r.seal x.kept) r.sessions i s is.by_all here) kept) e)
     (λ a front e. after_seal p r a.front is.legal.seal front e) h told

@@ -5,41 +5,6 @@ use mb_io::{MemShelf, MemSink, NamedBytes};
 use std::alloc::{AllocError, Global};
 use std::test::Fail;
 
-// A run: its presentation, word and derivation, and how it ends.
-#[derive(Drop)]
-struct Row {
-    presentation: &'static [u8],
-    word: &'static str,
-    derivation: &'static [u8],
-    text: &'static str,
-    status: Status,
-}
-
-// Moves that carry the word to the empty word.
-fn trivial(presentation: &'static str, word: &'static str, derivation: &'static str) -> Row {
-    Row {
-        presentation: presentation.as_bytes(),
-        word,
-        derivation: derivation.as_bytes(),
-        text: "trivial\n",
-        status: Status::Done,
-    }
-}
-
-// Moves that don't, on the commutator over the square.
-fn fails(derivation: &'static str, text: &'static str) -> Row {
-    Row {
-        text,
-        status: Status::Fails,
-        ..trivial(SQUARE, COMMUTATOR, derivation)
-    }
-}
-
-fn named(alloc: Global, name: &str, bytes: &[u8]) -> Result<NamedBytes, AllocError> {
-    let name = String::from_str(alloc, name)?;
-    Ok(NamedBytes::new(name, Vec::from_slice(alloc, bytes)?))
-}
-
 fn words(alloc: Global, texts: &[&str]) -> Result<Vec<String>, AllocError> {
     let mut words = Vec::new(alloc);
     for text in texts {
@@ -48,37 +13,65 @@ fn words(alloc: Global, texts: &[&str]) -> Result<Vec<String>, AllocError> {
     Ok(words)
 }
 
-// The presentation under p and the derivation under d; the calls of these numbers fail.
-fn shelf(alloc: Global, p: &[u8], d: &[u8], failing: &[u32]) -> Result<MemShelf, AllocError> {
-    let mut files = Vec::new(alloc);
-    files.push(named(alloc, "p", p)?)?;
-    files.push(named(alloc, "d", d)?)?;
-    Ok(MemShelf::new(files, Vec::from_slice(alloc, failing)?))
+// These texts under their names; the calls of these numbers fail.
+fn shelf(alloc: Global, files: &[(&str, &[u8])], failing: &[u32]) -> Result<MemShelf, AllocError> {
+    let mut named = Vec::new(alloc);
+    for (name, bytes) in files {
+        let name = String::from_str(alloc, name)?;
+        named.push(NamedBytes::new(name, Vec::from_slice(alloc, bytes)?))?;
+    }
+    Ok(MemShelf::new(named, Vec::from_slice(alloc, failing)?))
 }
 
-// The presentation under p and the questions of a session under s; the calls of these numbers fail.
-fn asked(alloc: Global, p: &str, s: &str, failing: &[u32]) -> Result<MemShelf, AllocError> {
-    let mut files = Vec::new(alloc);
-    files.push(named(alloc, "p", p.as_bytes())?)?;
-    files.push(named(alloc, "s", s.as_bytes())?)?;
-    Ok(MemShelf::new(files, Vec::from_slice(alloc, failing)?))
+// A presentation under p, and another text under a name.
+fn two(alloc: Global, p: &str, name: &str, other: &str) -> Result<MemShelf, AllocError> {
+    shelf(alloc, &[("p", p.as_bytes()), (name, other.as_bytes())], &[])
 }
 
 fn sink(alloc: Global, failing: &[u32]) -> Result<MemSink, AllocError> {
     MemSink::new(alloc, 4096, Vec::from_slice(alloc, failing)?)
 }
 
-// Whether a run prints and ends as its row says, where texts may come and go byte by byte.
-fn ends_so(alloc: Global, row: &Row, in_pieces: bool) -> Result<bool, AllocError> {
-    let words = words(alloc, &["steps", "p", row.word, "d"])?;
-    let mut shelf = shelf(alloc, row.presentation, row.derivation, &[])?;
-    let mut out = sink(alloc, &[])?;
-    if in_pieces {
-        shelf.pieces(1);
-        out.pieces(1);
-    }
+// How the command of these words ends, and what it has written.
+fn run(
+    alloc: Global,
+    line: &[&str],
+    shelf: MemShelf,
+    out: MemSink,
+) -> Result<(Status, MemSink), AllocError> {
+    let words = words(alloc, line)?;
+    let mut shelf = shelf;
+    let mut out = out;
     let status = metab_alone(alloc, words.as_slice(), &mut shelf, &mut out);
-    Ok(out.taken() == row.text.as_bytes() && status == row.status)
+    Ok((status, out))
+}
+
+// Whether it writes this text and ends so, where no call fails.
+fn ends(
+    alloc: Global,
+    line: &[&str],
+    shelf: MemShelf,
+    text: &str,
+    ended: Status,
+) -> Result<bool, AllocError> {
+    let (status, out) = run(alloc, line, shelf, sink(alloc, &[])?)?;
+    Ok(out.taken() == text.as_bytes() && status == ended)
+}
+
+// The same, where texts come and go in pieces of at most so many bytes.
+fn ends_in_pieces(
+    alloc: Global,
+    line: &[&str],
+    shelf: MemShelf,
+    text: &str,
+    ended: Status,
+) -> Result<bool, AllocError> {
+    let mut shelf = shelf;
+    let mut out = sink(alloc, &[])?;
+    shelf.pieces(1);
+    out.pieces(1);
+    let (status, out) = run(alloc, line, shelf, out)?;
+    Ok(out.taken() == text.as_bytes() && status == ended)
 }
 
 const SQUARE: &str = "<a,b | a b a^-1 b^-1>";
@@ -87,10 +80,16 @@ const COMMUTATOR: &str = "a b a^-1 b^-1";
 
 const DOUBLE: &str = "[[a,b],[a^2,b]]";
 
-// The place of the first of these runs that doesn't end as its row says, whole or in pieces.
-fn first_other(alloc: Global, rows: &[Row]) -> Result<Option<usize>, AllocError> {
-    for (at, row) in rows.iter().enumerate() {
-        if !ends_so(alloc, row, false)? || !ends_so(alloc, row, true)? {
+// Moves, and what comes of them: a presentation, a word, a derivation, and the text.
+type Moves = (&'static str, &'static str, &'static str, &'static str);
+
+// The place of the first of these rows that ends otherwise, whole or in pieces.
+fn first_other(alloc: Global, rows: &[Moves], ended: Status) -> Result<Option<usize>, AllocError> {
+    for (at, (p, word, moves, text)) in rows.iter().enumerate() {
+        let line = ["steps", "p", *word, "d"];
+        if !ends(alloc, &line, two(alloc, p, "d", moves)?, text, ended)?
+            || !ends_in_pieces(alloc, &line, two(alloc, p, "d", moves)?, text, ended)?
+        {
             return Ok(Some(at));
         }
     }
@@ -101,42 +100,38 @@ fn first_other(alloc: Global, rows: &[Row]) -> Result<Option<usize>, AllocError>
 fn moves_carry_words_to_the_empty_word(rt: HostRuntime) -> Result<(), Fail> {
     let long = "a b a^-1 b^-1 a a b a^-1 a^-1 b^-1 b a b^-1 a^-1 b a a b^-1 a^-1 a^-1";
     let rows = [
-        trivial("<a,b|>", "1", ""),
-        trivial("<a,b|>", "", ""),
-        trivial(SQUARE, COMMUTATOR, "del 0 rel 1"),
-        trivial("<a,b | [a,b]>", COMMUTATOR, "del 0 rel 1\n"),
-        trivial("<a,b|>", long, "del 0 dbl a, b, a a, b"),
-        trivial("<a,b|>", DOUBLE, "del 0 dbl a, b, a^2, b"),
-        trivial("<a,b|> modulus 2", "[a,b]^2", "del 0 pow a, b"),
+        ("<a,b|>", "1", "", "trivial\n"),
+        ("<a,b|>", "", "", "trivial\n"),
+        (SQUARE, COMMUTATOR, "del 0 rel 1", "trivial\n"),
+        ("<a,b | [a,b]>", COMMUTATOR, "del 0 rel 1\n", "trivial\n"),
+        ("<a,b|>", long, "del 0 dbl a, b, a a, b", "trivial\n"),
+        ("<a,b|>", DOUBLE, "del 0 dbl a, b, a^2, b", "trivial\n"),
+        ("<a,b|> modulus 2", "[a,b]^2", "del 0 pow a, b", "trivial\n"),
     ];
-    assert_eq!(rt; first_other(rt.alloc(), &rows)?, None);
+    assert_eq!(rt; first_other(rt.alloc(), &rows, Status::Done)?, None);
     Ok(())
 }
 
 #[test]
 fn moves_are_refused(rt: HostRuntime) -> Result<(), Fail> {
+    let late = "\r\n ins 4 pair a\r\n\tdel 0 pair a \r\n";
+    let twice = "ins 0 rel 1\nins 0 rel 1";
     let rows = [
-        fails("del 0 rel 2", "bad move 1 no-relator\n"),
-        fails("del 5 pair a", "bad move 1 place\n"),
-        fails("\r\n ins 4 pair a\r\n\tdel 0 pair a \r\n", "bad move 2 not-there\n"),
-        fails("ins 4 pair a", "not-empty 6\n"),
-        fails("del 0 pow a, b", "bad move 1 no-modulus\n"),
-        Row {
-            presentation: b"<a | a^16384>",
-            word: "a^16384",
-            ..fails("ins 0 rel 1\nins 0 rel 1", "bad move 2 too-long\n")
-        },
-        Row {
-            word: "a a^-1",
-            ..fails("", "not-empty 2\n")
-        },
-        Row {
-            presentation: b"<a|>",
-            word: "a^2",
-            ..fails("", "not-empty 2\n")
-        },
+        ("<a,b|>", "a a^-1", "", "not-empty 2\n"),
+        ("<a|>", "a^2", "", "not-empty 2\n"),
+        (SQUARE, COMMUTATOR, "del 0 rel 2", "bad move 1 no-relator\n"),
+        (SQUARE, COMMUTATOR, "del 5 pair a", "bad move 1 place\n"),
+        (SQUARE, COMMUTATOR, late, "bad move 2 not-there\n"),
+        (SQUARE, COMMUTATOR, "ins 4 pair a", "not-empty 6\n"),
+        (
+            "<a,b|>",
+            "[a,b]^2",
+            "del 0 pow a, b",
+            "bad move 1 no-modulus\n",
+        ),
+        ("<a | a^16384>", "a^16384", twice, "bad move 2 too-long\n"),
     ];
-    assert_eq!(rt; first_other(rt.alloc(), &rows)?, None);
+    assert_eq!(rt; first_other(rt.alloc(), &rows, Status::Fails)?, None);
     Ok(())
 }
 
@@ -162,12 +157,11 @@ fn words_have_fox_vectors(rt: HostRuntime) -> Result<(), Fail> {
             "word t a t^-1 a^-2\nfox -1*a@t -1*a'@a +1*t@a +1*1@t -1*1@a\n",
         ),
     ] {
-        let words = words(alloc, &["fox", "p", w])?;
-        let mut shelf = shelf(alloc, p.as_bytes(), b"", &[])?;
-        let mut out = sink(alloc, &[])?;
-        let status = metab_alone(alloc, words.as_slice(), &mut shelf, &mut out);
-        assert!(rt; out.taken() == text.as_bytes(), "{w}");
-        assert!(rt; status == Status::Done, "{w}");
+        let files = two(alloc, p, "d", "")?;
+        assert!(rt;
+            ends(alloc, &["fox", "p", w], files, text, Status::Done)?,
+            "{w}"
+        );
     }
     Ok(())
 }
@@ -214,12 +208,11 @@ fn reports_are_checked(rt: HostRuntime) -> Result<(), Fail> {
             Status::TextRefused,
         ),
     ] {
-        let words = words(alloc, &["check", "p", "d"])?;
-        let mut shelf = shelf(alloc, p.as_bytes(), report.as_bytes(), &[])?;
-        let mut out = sink(alloc, &[])?;
-        let status = metab_alone(alloc, words.as_slice(), &mut shelf, &mut out);
-        assert!(rt; out.taken() == text.as_bytes(), "{text}");
-        assert!(rt; status == wanted, "{text}");
+        let files = two(alloc, p, "d", report)?;
+        assert!(rt;
+            ends(alloc, &["check", "p", "d"], files, text, wanted)?,
+            "{text}"
+        );
     }
     Ok(())
 }
@@ -284,13 +277,13 @@ fn texts_are_refused_at_their_first_fault(rt: HostRuntime) -> Result<(), Fail> {
     ];
     let alloc = rt.alloc();
     for (presentation, word, derivation, place) in refused {
-        let words = words(alloc, &["steps", "--", "p", word, "d"])?;
-        let mut shelf = shelf(alloc, presentation.as_bytes(), derivation.as_bytes(), &[])?;
-        let mut out = sink(alloc, &[])?;
-        let status = metab_alone(alloc, words.as_slice(), &mut shelf, &mut out);
+        let files = two(alloc, presentation, "d", derivation)?;
+        let line = ["steps", "--", "p", word, "d"];
         let text = format!(in alloc; "refused {place}\n")?;
-        assert!(rt; out.taken() == text.as_bytes(), "{place} is printed");
-        assert!(rt; status == Status::TextRefused, "{place} is refused");
+        assert!(rt;
+            ends(alloc, &line, files, &text, Status::TextRefused)?,
+            "{place}"
+        );
     }
     Ok(())
 }
@@ -314,16 +307,9 @@ fn words_outside_the_table_are_refused(rt: HostRuntime) -> Result<(), Fail> {
         &["solo", "p"],
     ];
     for line in lines {
-        let words = words(alloc, line)?;
-        let mut shelf = shelf(alloc, b"<a|>", b"", &[])?;
-        let mut out = sink(alloc, &[])?;
-        let status = metab_alone(alloc, words.as_slice(), &mut shelf, &mut out);
-        assert!(rt;
-            out.taken() == b"refused words\n".as_slice(),
-            "{} words",
-            line.len()
-        );
-        assert!(rt; status == Status::WordsRefused, "{} words", line.len());
+        let files = two(alloc, "<a|>", "d", "")?;
+        let refused = ends(alloc, line, files, "refused words\n", Status::WordsRefused)?;
+        assert!(rt; refused, "{} words", line.len());
     }
     Ok(())
 }
@@ -333,23 +319,18 @@ fn reads_and_writes_may_fail(rt: HostRuntime) -> Result<(), Fail> {
     let alloc = rt.alloc();
     // A good run makes six calls on the shelf: each text is started, read to its end, and read once more.
     for number in 1..=7u32 {
-        let words = words(alloc, &["steps", "p", "1", "d"])?;
-        let mut shelf = shelf(alloc, b"<a|>", b" ", &[number])?;
-        let mut out = sink(alloc, &[])?;
-        let status = metab_alone(alloc, words.as_slice(), &mut shelf, &mut out);
-        let (text, end): (&[u8], Status) = match number {
-            1..=3 => (b"read fault p\n", Status::ReadFault),
-            4..=6 => (b"read fault d\n", Status::ReadFault),
-            _ => (b"trivial\n", Status::Done),
+        let files = shelf(alloc, &[("p", b"<a|>"), ("d", b" ")], &[number])?;
+        let (text, end) = match number {
+            1..=3 => ("read fault p\n", Status::ReadFault),
+            4..=6 => ("read fault d\n", Status::ReadFault),
+            _ => ("trivial\n", Status::Done),
         };
-        assert!(rt; out.taken() == text, "read {number}");
-        assert!(rt; status == end, "read {number}");
+        let line = ["steps", "p", "1", "d"];
+        assert!(rt; ends(alloc, &line, files, text, end)?, "read {number}");
     }
     for line in [["steps", "p", "1", "d"], ["steps", "q", "1", "d"]] {
-        let words = words(alloc, &line)?;
-        let mut shelf = shelf(alloc, b"<a|>", b"", &[])?;
-        let mut out = sink(alloc, &[1])?;
-        let status = metab_alone(alloc, words.as_slice(), &mut shelf, &mut out);
+        let files = two(alloc, "<a|>", "d", "")?;
+        let (status, out) = run(alloc, &line, files, sink(alloc, &[1])?)?;
         assert!(rt; status == Status::WriteFault, "no write");
         assert!(rt; out.taken().is_empty(), "nothing is written");
     }
@@ -367,24 +348,21 @@ fn long(alloc: Global, text: &str, length: usize) -> Result<Vec<u8>, AllocError>
 fn texts_have_limits(rt: HostRuntime) -> Result<(), Fail> {
     let alloc = rt.alloc();
     let most = PRESENTATION_BYTES as usize;
-    for (length, text, end) in [
-        (most, "trivial\n", Status::Done),
-        (most + 1, "refused p too long 65536\n", Status::TextRefused),
+    for (name, length, text, end) in [
+        ("p", most, "trivial\n", Status::Done),
+        (
+            "p",
+            most + 1,
+            "refused p too long 65536\n",
+            Status::TextRefused,
+        ),
+        ("q", most, "read fault q\n", Status::ReadFault),
     ] {
-        let words = words(alloc, &["steps", "p", "1", "d"])?;
         let p = long(alloc, "<a|>", length)?;
-        let mut shelf = shelf(alloc, &p, b"", &[])?;
-        let mut out = sink(alloc, &[])?;
-        let status = metab_alone(alloc, words.as_slice(), &mut shelf, &mut out);
-        assert!(rt; out.taken() == text.as_bytes(), "{length} bytes");
-        assert!(rt; status == end, "{length} bytes");
+        let files = shelf(alloc, &[("p", &p), ("d", b"")], &[])?;
+        let ended = ends(alloc, &["steps", name, "1", "d"], files, text, end)?;
+        assert!(rt; ended, "{length} bytes");
     }
-    let words = words(alloc, &["steps", "missing", "1", "d"])?;
-    let mut shelf = shelf(alloc, b"<a|>", b"", &[])?;
-    let mut out = sink(alloc, &[])?;
-    let status = metab_alone(alloc, words.as_slice(), &mut shelf, &mut out);
-    assert!(rt; out.taken() == b"read fault missing\n".as_slice());
-    assert!(rt; status == Status::ReadFault);
     assert_eq!(rt; DERIVATION_BYTES, 67_108_864);
     Ok(())
 }
@@ -411,20 +389,22 @@ end sealed
 done
 ";
 
-const CYCLIC: &str = "metab report 1
-pres <a | 1>
-entry 0 gen + : +1*a.a'@a -1*1@a
-seal
-live 1 1 2 trivial a a^-1 : trivial
-proof 1 0
-live 1 2 2 trivial a : not-trivial
-end sealed
-done
-";
+// Two questions about an infinite cyclic group, line by line.
+const CYCLIC: [&str; 9] = [
+    "metab report 1\n",
+    "pres <a | >\n",
+    "entry 0 gen + : +1*a.a'@a -1*1@a\n",
+    "seal\n",
+    "live 1 1 2 trivial a a^-1 : trivial\n",
+    "proof 1 0\n",
+    "live 1 2 2 trivial a : not-trivial\n",
+    "end sealed\n",
+    "done\n",
+];
 
 // Completion isn't begun, and so the question is left open.
 const SPENT: &str = "metab report 1
-pres <a, b |>
+pres <a, b | >
 entry 0 gen + : +1*a.a'@a -1*1@a
 entry 1 gen + : +1*a.a'@b -1*1@b
 entry 2 gen + : +1*b.b'@a -1*1@a
@@ -440,35 +420,75 @@ fn questions_are_answered(rt: HostRuntime) -> Result<(), Fail> {
     let alloc = rt.alloc();
     let doubling = "equal a^2 = t a t^-1\r\nnormal a\ntrivial [a, t a t^-1]\n";
     for (budget, p, s, text, ended) in [
-        ("9", "<a,t | t a t^-1 a^-2>", doubling, SOLVED, Status::Done),
-        ("99", "<a|>", "trivial a a^-1\ntrivial a", CYCLIC, Status::Done),
+        (
+            "999999999",
+            "<a,t | t a t^-1 a^-2>",
+            doubling,
+            SOLVED,
+            Status::Done,
+        ),
         ("0", "<a,b|>", "trivial [a,b]", SPENT, Status::Open),
     ] {
-        let words = words(alloc, &["solo", "--budget", budget, "p", "s"])?;
-        for most in [1, 4096] {
-            let mut shelf = asked(alloc, p, s, &[])?;
-            let mut out = sink(alloc, &[])?;
-            shelf.pieces(most);
-            out.pieces(most);
-            let status = metab_alone(alloc, words.as_slice(), &mut shelf, &mut out);
-            assert!(rt; out.taken() == text.as_bytes(), "{p} {most}");
-            assert!(rt; status == ended, "{p} {most}");
-        }
+        let line = ["solo", "--budget", budget, "p", "s"];
+        let files = two(alloc, p, "s", s)?;
+        assert!(rt; ends(alloc, &line, files, text, ended)?, "{p}");
+        let files = two(alloc, p, "s", s)?;
+        assert!(rt;
+            ends_in_pieces(alloc, &line, files, text, ended)?,
+            "{p} in pieces"
+        );
     }
     Ok(())
 }
 
-// The first lines of a text.
-fn lines(text: &str, count: u32) -> &[u8] {
-    let mut left = count;
-    let end = text.bytes().position(|byte| {
-        left = left.saturating_sub(u32::from(byte == b'\n'));
-        left == 0
-    });
-    text.as_bytes()
+#[test]
+fn reports_are_written_line_by_line(rt: HostRuntime) -> Result<(), Fail> {
+    let alloc = rt.alloc();
+    let line = ["solo", "p", "s"];
+    let mut text = Vec::new(alloc);
+    for (at, written) in CYCLIC.iter().enumerate() {
+        let files = two(alloc, "<a|>", "s", "trivial a a^-1\ntrivial a")?;
+        let (status, out) = run(alloc, &line, files, sink(alloc, &[at as u32 + 1])?)?;
+        assert!(rt; out.taken() == text.as_slice(), "without line {at}");
+        assert!(rt; status == Status::WriteFault, "without line {at}");
+        text.extend_from_slice(written.as_bytes())?;
+    }
+    let files = two(alloc, "<a|>", "s", "trivial a a^-1\ntrivial a")?;
+    let (status, out) = run(alloc, &line, files, sink(alloc, &[10])?)?;
+    assert!(rt; out.taken() == text.as_slice());
+    assert!(rt; status == Status::Done);
+    Ok(())
 }
 
 #[test]
-fn reports_are_written_line_by_line(rt: HostRuntime) -> Result<(), Fail> {
+fn sessions_are_read_after_the_presentation(rt: HostRuntime) -> Result<(), Fail> {
+    let alloc = rt.alloc();
+    let line = ["solo", "p", "s"];
+    for number in 1..=6u32 {
+        let files = shelf(alloc, &[("p", b"<a|>"), ("s", b"trivial a")], &[number])?;
+        let text = if number <= 3 {
+            "read fault p\n"
+        } else {
+            "read fault s\n"
+        };
+        assert!(rt;
+            ends(alloc, &line, files, text, Status::ReadFault)?,
+            "read {number}"
+        );
+    }
+    for (p, s, text) in [
+        ("<a", "normal b", "refused p line 1 column 3 expected\n"),
+        (
+            "<a|>",
+            "trivial a\n\nnormal b",
+            "refused s line 3 column 8 unknown-name\n",
+        ),
+    ] {
+        let files = two(alloc, p, "s", s)?;
+        assert!(rt;
+            ends(alloc, &line, files, text, Status::TextRefused)?,
+            "{text}"
+        );
+    }
     Ok(())
 }

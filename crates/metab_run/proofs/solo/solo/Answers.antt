@@ -39,8 +39,11 @@ returns-in_err-sessions-clause-gives g c =
     let before : ℕ = g.S.Shelf.faults c.args.shelf.now in
     let mid : ℕ = g.S.Shelf.faults c.load_presentation.new.shelf in
     let now : ℕ = g.S.Shelf.faults c.load_sessions.new.shelf in
-    search (rules, halted (CountRose mid now) (CountRose before now) (rose_later before mid now c.load_presentation.ensures.later)
-    (g.S.Shelf.under c.load_presentation.new.shelf) (g.S.Shelf.under c.args.shelf.now) c.load_presentation.ensures.same (solo_asked c.args.words.now) c.in_ok-p.p)
+    search (
+      rules,
+      halted (CountRose mid now) (CountRose before now) (rose_later before mid now c.load_presentation.ensures.later)
+          (g.S.Shelf.under c.load_presentation.new.shelf) (g.S.Shelf.under c.args.shelf.now) c.load_presentation.ensures.same (solo_asked c.args.words.now) c.in_ok-p.p,
+    )
 
 pub gather-requires-clause-sessions : goal.gather-requires-clause-sessions
 gather-requires-clause-sessions g c =
@@ -50,8 +53,8 @@ gather-requires-clause-sessions g c =
     let same : c.deref.result.now ≡ p = search rules in
     let least : c.count.result ≡ length book.entries = c.count.ensures.is ∙ length-map book.entries (λ (e : BasisEntry). e.vector) in
     let new : AreNewSessions p (length book.entries) c.in_ok-sessions.sessions.items =
-        subst (λ (x : Presented). AreNewSessions x (length book.entries) c.in_ok-sessions.sessions.items) same
-        (subst (λ (n : ℕ). AreNewSessions c.deref.result.now n c.in_ok-sessions.sessions.items) least c.in_ok-sessions.ensures.new) in
+    subst (λ (x : Presented). AreNewSessions x (length book.entries) c.in_ok-sessions.sessions.items) same
+    (subst (λ (n : ℕ). AreNewSessions c.deref.result.now n c.in_ok-sessions.sessions.items) least c.in_ok-sessions.ensures.new) in
     askers p c.limits-limits.result book c.in_ok-sessions.sessions.items opened new
 
 pub report_is_accepted-requires : goal.report_is_accepted-requires
@@ -78,7 +81,7 @@ returns-clause-gives g c =
     let sources : AllByRecursion (λ s. AllByRecursion HasSource s.questions) ss = search rules in
     let new : AreNewSessions p c.count.result ss = subst (λ (x : Presented). AreNewSessions x c.count.result ss) source c.in_ok-sessions.ensures.new in
     let legal : IsLegal p (limits_of q) (questions_of ss) r =
-        subst (λ (l : Limits). IsLegal p l (questions_of ss) r) bounds (subst (λ (x : Presented). IsLegal x c.limits-limits.result (questions_of ss) r) arc c.in_ok-report.ensures.legal) in
+    subst (λ (l : Limits). IsLegal p l (questions_of ss) r) bounds (subst (λ (x : Presented). IsLegal x c.limits-limits.result (questions_of ss) r) arc c.in_ok-report.ensures.legal) in
     let on : AreAnsweredOn p r.entries r.seal ss r.sessions = subst (λ (x : Presented). AreAnsweredOn x r.entries r.seal ss r.sessions) arc c.in_ok-report.ensures.stand in
     found under q p c.count.result ss r presented (asked_same (g.S.Shelf.under c.load_presentation.new.shelf) under c.load_presentation.ensures.same p q.sessions (questions_of ss) asked)
     c.known.ensures sources c.requires.most new legal on c.report_is_accepted.ensures.told
