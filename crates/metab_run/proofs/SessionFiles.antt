@@ -1,6 +1,5 @@
 -- Sessions that are read one after another.
-use Rattle.std.proofs.Common.{◌≡◌, ◌≢◌, ℕ, zero, suc, ◌+◌, ◌<◌, ◌≤◌, ◌⊎◌, inl, inr, List, [], ◌∷◌, ◌++◌, append-nil, length, take, map, Option, Some, None, Result, Ok, Err, slice_get, slice_index_or, sym, ap, subst, ◌∙◌, arith, refl}
-use Rattle.std.specs.Prelude.{IfSome}
+use Rattle.std.proofs.Common.{◌≡◌, ℕ, zero, suc, ◌+◌, ◌<◌, ◌≤◌, inl, inr, List, [], ◌∷◌, ◌++◌, append-nil, length, take, Option, Some, None, Result, Err, slice_get, slice_index_or, sym, ap, subst, arith, refl}
 use denote.Bor.{Bor}
 use Rattle.metab_run.specs.Words.{shown}
 use Rattle.std.proofs.lemmas.List.{append_assoc, map-append}
@@ -8,7 +7,6 @@ use Rattle.presentation.specs.Presented.{Presented}
 use Rattle.session_text.specs.declared.question.Question.{Question}
 use Rattle.session_text.specs.declared.fault.SessionFault.{SessionFault}
 use Rattle.session_text.specs.declared.fault.SessionFault.TheVariants as sessions
-use Rattle.session_text.specs.Reading.{session_text}
 use Rattle.session_core.specs.Sessions.{SessionState}
 use Rattle.metab_run.specs.declared.answer.Halt.TheVariants.{Says}
 use Rattle.metab_run.specs.Answers.{Answer}
