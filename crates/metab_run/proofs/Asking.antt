@@ -59,10 +59,10 @@ one_asked p es seal s now next k on reply left new =
       replies = λ i q r asked at. elim (split_get on.more (k ∷ []) i r at) [
         | inl h ↦ on.replies i q r asked h
         | inr h ↦
-          let one = one_at k r h.0 h.2 in
-          let place : length s.kept + i ≡ length now.kept = let a : i ≡ length on.more + h.0 = h.1 in let b : h.0 ≡ 0 = one.0 in omega (arith, a, b, long, many) in
-          subst (λ (x : Kept). IsReply p es seal q x) one.1
-          (reply q (subst (λ (qs : List Question). slice_get qs (length now.kept) ≡ Some q) (sym questions) (subst (λ (m : ℕ). slice_get s.questions m ≡ Some q) place asked)))
+            let one = one_at k r h.0 h.2 in
+            let place : length s.kept + i ≡ length now.kept = let a : i ≡ length on.more + h.0 = h.1 in let b : h.0 ≡ 0 = one.0 in omega (arith, a, b, long, many) in
+            subst (λ (x : Kept). IsReply p es seal q x) one.1
+            (reply q (subst (λ (qs : List Question). slice_get qs (length now.kept) ≡ Some q) (sym questions) (subst (λ (m : ℕ). slice_get s.questions m ≡ Some q) place asked)))
       ];
       front = let last : last_front next ≡ k.front = ap last_front new ∙ front_of_more now.base now.kept k in omega (arith, last, front);
     }
@@ -74,12 +74,12 @@ all_asked p es seal s now on is none = record {
   more = on.more;
   is = on.is;
   count =
-    let questions = ap length (ap (λ (x : SessionState). x.questions) on.is) in
-    let kept = ap length (ap (λ (x : SessionState). x.kept) on.is) in
-    let few = is.within in
-    let long = length-append s.kept on.more in
-    let all = none_left (length now.kept) (length now.questions) none in
-    omega (arith, questions, kept, few, long, all);
+      let questions = ap length (ap (λ (x : SessionState). x.questions) on.is) in
+      let kept = ap length (ap (λ (x : SessionState). x.kept) on.is) in
+      let few = is.within in
+      let long = length-append s.kept on.more in
+      let all = none_left (length now.kept) (length now.questions) none in
+      omega (arith, questions, kept, few, long, all);
   by_all = on.by_all;
   replies = on.replies;
   session = is;

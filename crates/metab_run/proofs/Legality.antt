@@ -55,9 +55,9 @@ replies p old end new s t n source done asker on i q k asked at =
     let kept : t.kept ≡ s.kept ++ on.more = ap (λ (x : SessionState). x.kept) on.is in
     elim (split_get s.kept on.more i k (subst (λ (ks : List Kept). slice_get ks i ≡ Some k) kept at)) [
       | inl h ↦ stands p old end new q k old.seal refl done (all_get (λ k. k.front ≤ item_count old.entries old.seal) s.kept i k asker.fronts h)
-        (subst (λ (x : Presented). IsReply x (take k.front old.entries) (seal_below old.entries old.seal k.front) q k) source (asker.replies i q k asked h))
+          (subst (λ (x : Presented). IsReply x (take k.front old.entries) (seal_below old.entries old.seal k.front) q k) source (asker.replies i q k asked h))
       | inr h ↦ by_all p new.entries new.seal q k (all_get (λ k. k.front ≡ item_count new.entries new.seal) on.more h.0 k on.by_all h.2)
-        (on.replies h.0 q k (subst (λ (m : ℕ). slice_get s.questions m ≡ Some q) h.1 asked) h.2)
+          (on.replies h.0 q k (subst (λ (m : ℕ). slice_get s.questions m ≡ Some q) h.1 asked) h.2)
     ]
 
 -- ---- sessions
@@ -102,9 +102,9 @@ legal p limits old end new ss ts source limited is done askers answered =
       seal = done.seal;
       count = answered.count ∙ sym (length-map ss (λ (s : SessionState). s.questions));
       sessions = λ i qs t here at.
-        let found = map_get (λ (s : SessionState). s.questions) ss i qs here in
-        subst (λ (xs : List Question). IsLegalSession p new.base new.entries new.seal (i + 1) xs t) found.2
-        (session_legal p old end new found.0 t (i + 1) source done (askers i found.0 found.1) (answered.each i found.0 t found.1 at));
+          let found = map_get (λ (s : SessionState). s.questions) ss i qs here in
+          subst (λ (xs : List Question). IsLegalSession p new.base new.entries new.seal (i + 1) xs t) found.2
+          (session_legal p old end new found.0 t (i + 1) source done (askers i found.0 found.1) (answered.each i found.0 t found.1 at));
     }
 
 -- ---- what the sessions have to be

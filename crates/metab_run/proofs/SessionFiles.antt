@@ -91,7 +91,7 @@ pub one_read : (under : List ℕ → Option (List ℕ)) (p : Presented) (least :
 one_read under p least names n ss name qs s read at own same new =
     let next : suc n ≡ n + 1 = omega arith in
     let all : AreQuestionsUnder under p (take (suc n) names) (questions_of ss ++ s.questions ∷ []) =
-        more_under under p names n name (questions_of ss) s.questions at read.texts (subst (AreQuestionsIn p (under name)) (sym same) own) in
+    more_under under p names n name (questions_of ss) s.questions at read.texts (subst (AreQuestionsIn p (under name)) (sym same) own) in
     let both : questions_of (ss ++ s ∷ []) ≡ questions_of ss ++ s.questions ∷ [] = map-append (λ (x : SessionState). x.questions) ss (s ∷ []) in
     let long = length_more ss in
     record {
@@ -100,9 +100,9 @@ one_read under p least names n ss name qs s read at own same new =
       new = λ i t here. elim (split_get ss (s ∷ []) i t here) [
         | inl h ↦ read.new i t h
         | inr h ↦
-          let one = one_at s t h.0 h.2 in
-          let place : n + 1 ≡ i + 1 = let a : i ≡ length ss + h.0 = h.1 in let b : h.0 ≡ 0 = one.0 in let c = read.count in omega (arith, a, b, c) in
-          subst (λ (m : ℕ). IsNewSession p least m t) place (subst (IsNewSession p least (n + 1)) one.1 new)
+            let one = one_at s t h.0 h.2 in
+            let place : n + 1 ≡ i + 1 = let a : i ≡ length ss + h.0 = h.1 in let b : h.0 ≡ 0 = one.0 in let c = read.count in omega (arith, a, b, c) in
+            subst (λ (m : ℕ). IsNewSession p least m t) place (subst (IsNewSession p least (n + 1)) one.1 new)
       ];
     }
   where

@@ -24,8 +24,8 @@ returns-clause-legal c =
     let on : AreAnsweredOn p new.entries new.seal c.args.sessions.items c.in_ok-sessions.sessions.items = search (rules, c.in_ok-sessions.ensures) in
     let told : Option Seal → Reported = λ z. record { pres = p; entries = new.entries; seal = z; end = c.in_ok-end.end; sessions = c.in_ok-sessions.sessions.items } in
     let is : IsLegal p c.args.limits (questions_of c.args.sessions.items) (told new.seal) =
-        legal p c.args.limits c.args.book c.in_ok-end.end new c.args.sessions.items c.in_ok-sessions.sessions.items c.requires.source c.requires.limits c.in_ok-end.ensures.books.1 c.in_ok-end.ensures.completed c.requires.sessions on in
+    legal p c.args.limits c.args.book c.in_ok-end.end new c.args.sessions.items c.in_ok-sessions.sessions.items c.requires.source c.requires.limits c.in_ok-end.ensures.books.1 c.in_ok-end.ensures.completed c.requires.sessions on in
     let seals : told (seal_at p new.entries c.in_ok-end.end) ≡ told new.seal = ap told (sym c.in_ok-end.ensures.completed.seal) in
     IfOk-weaker c.report.result _ _ (λ r h.
-        let same : reported r ≡ told new.seal = h ∙ seals in
-        subst (IsLegal p c.args.limits (questions_of c.args.sessions.items)) (sym same) is) c.report.ensures
+    let same : reported r ≡ told new.seal = h ∙ seals in
+    subst (IsLegal p c.args.limits (questions_of c.args.sessions.items)) (sym same) is) c.report.ensures
