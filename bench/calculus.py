@@ -99,14 +99,21 @@ def fox(word, rank):
     return {place: c for place, c in vector.items() if c}
 
 
+def sums_of(word, rank):
+    """The exponents of a word's class: for each generator its sum, and for its inverse the negated sum, where these are positive."""
+    sums = [sum(sign for g, sign in word if g == number) for number in range(rank)]
+    return tuple(e for s in sums for e in (max(s, 0), max(-s, 0)))
+
+
 def generators(relators, rank):
-    """The generators of the module: the relators' vectors, and for each generator and component x x' - 1."""
+    """The generators of the module: the relators' vectors and binomials, and x x' - 1 for each generator and component."""
     found = [fox(relator, rank) for relator in relators]
     zero = (0,) * (2 * rank)
-    for g in range(rank):
-        product = tuple(1 if k // 2 == g else 0 for k in range(2 * rank))
-        for component in range(rank):
-            found.append({(product, component): 1, (zero, component): -1})
+    ones = [sums_of(relator, rank) for relator in relators]
+    ones += [tuple(1 if k // 2 == g else 0 for k in range(2 * rank)) for g in range(rank)]
+    for one in ones:
+        if one != zero:
+            found += [{(one, component): 1, (zero, component): -1} for component in range(rank)]
     return [vector for vector in found if vector]
 
 

@@ -3,6 +3,7 @@ import os
 import shutil
 import subprocess
 import tempfile
+import time
 
 from calculus import singular_text
 from runs import timed
@@ -11,8 +12,8 @@ HERE = os.path.dirname(os.path.abspath(__file__))
 FOLDER = os.path.join(HERE, "groups")
 RUNS = 3
 PATIENCE = 120
-HEAD = (f"{'group':<16} {'entries':>7} {'end':<8} {'complete':>9} {'questions':>9} {'MB':>6} {'check':>6} {'Singular':>15} "
-        f"{'ratio':>6} {'growth':>6}")
+HEAD = (f"{'group':<16} {'entries':>7} {'end':<8} {'complete':>9} {'questions':>9} {'MB':>6} {'check':>6} "
+        f"{'Singular: basis, reductions, whole run':>40} {'ratio':>6} {'growth':>6}")
 
 
 def rows():
@@ -28,7 +29,7 @@ def best(folder, words):
 
 
 def singular(name):
-    """Seconds of the strong basis, and of the reductions, in Singular; None where it isn't there or is too slow."""
+    """Seconds of the strong basis, of the reductions and of the whole run in Singular; None where it isn't there or is too slow."""
     if shutil.which("Singular") is None:
         return None
     texts = []
@@ -38,16 +39,23 @@ def singular(name):
     with tempfile.NamedTemporaryFile("w", suffix=".sing") as file:
         file.write(singular_text(*texts))
         file.flush()
+        start = time.perf_counter()
         try:
             ran = subprocess.run(["Singular", "-q", file.name], capture_output=True, text=True, timeout=PATIENCE)
         except subprocess.TimeoutExpired:
             return None
+        whole = time.perf_counter() - start
     found = [line.split() for line in ran.stdout.splitlines() if line.startswith("result")]
-    return (int(found[0][2]) / 1000, int(found[0][3]) / 1000) if found else None
+    return (int(found[0][2]) / 1000, int(found[0][3]) / 1000, whole, int(found[0][4])) if found else None
+
+
+def zeros(report):
+    """How many subjects the report shows to be 0."""
+    return sum(line.startswith("proof ") for line in report.splitlines())
 
 
 def measured(name, options):
-    """Entries, end, seconds of the completion, of the questions and of the check, and peak memory."""
+    """Entries, end, seconds of the completion and of the questions, peak memory, seconds of the check, and the report."""
     with tempfile.TemporaryDirectory() as folder:
         for ending in ("pres", "session"):
             shutil.copy(os.path.join(FOLDER, f"{name}.{ending}"), os.path.join(folder, ending))
@@ -62,7 +70,7 @@ def measured(name, options):
     end = next((line.split()[1] for line in lines if line.startswith("end ")), lines[0])
     if check.status != 0:
         end += " UNCHECKED"
-    return entries, end, alone.seconds, whole.seconds - alone.seconds, whole.memory, check.seconds
+    return entries, end, alone.seconds, whole.seconds - alone.seconds, whole.memory, check.seconds, whole.answer
 
 
 def table(wanted):
@@ -72,12 +80,12 @@ def table(wanted):
     for name, family, size, options in rows():
         if wanted and not any(word in name or word in family for word in wanted):
             continue
-        entries, end, complete, questions, memory, check = measured(name, options)
+        entries, end, complete, questions, memory, check, report = measured(name, options)
         seen[family, size] = complete
         growth = f"{complete / seen[family, size // 2]:>6.1f}" if (family, size // 2) in seen and size % 2 == 0 else f"{'':>6}"
         beside = singular(name)
-        other = f"{beside[0]:>7.3f} {beside[1]:>7.3f}" if beside else f"{'':>15}"
-        ratio = f"{questions / beside[1]:>6.2f}" if beside and beside[1] > 0 else f"{'':>6}"
+        other = f"{beside[0]:>20.3f} {beside[1]:>11.3f} {beside[2]:>7.3f}" if beside else f"{'':>40}"
+        ratio = f"{(complete + questions) / beside[2]:>6.2f}" if beside else f"{'':>6}"
+        if beside and end == "sealed" and "hom" not in report and zeros(report) != beside[3]:
+            end = "DIFFERS"
         print(f"{name:<16} {entries:>7} {end:<8} {complete:>9.4f} {questions:>9.4f} {memory:>6.1f} {check:>6.3f} {other} {ratio} {growth}", flush=True)
-
-
