@@ -30,8 +30,8 @@ linked_none f before last e long none = record {
   ends = λ c lt. subst (FindsLast f 0 c) (sym (none c)) (λ m below q. omega (arith, below));
 }
 
-pub linked_more : (f : ℕ → ℕ) (n c : ℕ) (before last : List (Option ℕ)) → AreLinked f n before last → c < 2 ^ 8 → f n ≡ c → AreLinked f (n + 1) (before ++ get_or last c None ∷ []) (slice_set last c (Some n))
-linked_more f n c before last h small e = record {
+linked_at : (f : ℕ → ℕ) (n c : ℕ) (before last : List (Option ℕ)) → AreLinked f n before last → c < 2 ^ 8 → f n ≡ c → AreLinked f (n + 1) (before ++ get_or last c None ∷ []) (slice_set last c (Some n))
+linked_at f n c before last h small e = record {
   count = let a = length-append before (get_or last c None ∷ []) in let b = h.count in omega (arith, a, b);
   each = λ k lt. elim (three k n) [
     | inl p ↦ subst (FindsLast f k (f k)) (sym (get_or_append_left before (get_or last c None ∷ []) None k (let b = h.count in omega (arith, b, p)))) (h.each k p)
@@ -54,6 +54,12 @@ linked_more f n c before last h small e = record {
 
   other : (d : ℕ) → d < 2 ^ 8 → d ≢ c → FindsLast f (n + 1) d (get_or (slice_set last c (Some n)) d None)
   other d lt ne = subst (FindsLast f (n + 1) d) (sym (get_or-set_other last c d (Some n) None ne)) (finds_more f n d (get_or last d None) (λ q. ne (sym q ∙ e)) (h.ends d lt))
+
+pub linked_more : (f : ℕ → ℕ) (n c number : ℕ) (before last : List (Option ℕ)) (own : Option ℕ) → AreLinked f n before last → c < 2 ^ 8 → f n ≡ c → number ≡ length before → own ≡ get_or last c None →
+    AreLinked f (n + 1) (before ++ own ∷ []) (slice_set last c (Some number))
+linked_more f n c number before last own h small e at is =
+    subst (λ (k : ℕ). AreLinked f (n + 1) (before ++ own ∷ []) (slice_set last c (Some k))) (sym (at ∙ h.count))
+    (subst (λ (o : Option ℕ). AreLinked f (n + 1) (before ++ o ∷ []) (slice_set last c (Some n))) (sym is) (linked_at f n c before last h small e))
 
 linked_same : (f g : ℕ → ℕ) (n : ℕ) (before last : List (Option ℕ)) → ((m : ℕ) → m < n → f m ≡ g m) → AreLinked f n before last → AreLinked g n before last
 linked_same f g n before last e h = record {

@@ -1,5 +1,5 @@
 -- The walk over the third entries of one component, from the last one down.
-use Rattle.std.proofs.Common.{ℕ, ◌+◌, ◌<◌, ◌≤◌, ◌≡◌, ◌≢◌, inl, inr, arith, refl, sym, ◌∙◌, length, Option, Some, None, subst}
+use Rattle.std.proofs.Common.{ℕ, ◌+◌, ◌<◌, ◌≤◌, ◌≡◌, ◌≢◌, inl, inr, arith, refl, sym, ap, ◌∙◌, Bool, true, false, List, length, Option, Some, None, subst}
 use Rattle.std.proofs.lemmas.List.{length-map}
 use Rattle.outcomes.specs.declared.tasks.Task.{Task}
 use Rattle.strong_pairs.specs.Pairs.{IsPair, lead_at}
@@ -8,7 +8,7 @@ use Rattle.task_table.proofs.Ordering.{three}
 use Rattle.basis_entry.specs.Entries.{BasisEntry, vectors_of}
 use Rattle.pair_book.specs.Books.{Held}
 use Rattle.pair_book.specs.Fellows.{component_at, FindsLast}
-use Rattle.pair_book.specs.Chaining.{IsDueBy, IsDue, AreChained, IsDueFrom, AreChainedFrom, done_from, IsFellow}
+use Rattle.pair_book.specs.Chaining.{s_task, closed_if, IsDueBy, IsDue, AreChained, ChainsAt, IsDueFrom, AreChainedFrom, done_from, IsFellow}
 use Rattle.pair_book.proofs.Dues.{cases}
 
 -- the third entry of a task of a that is due has a's component
@@ -77,3 +77,23 @@ walk_start mid a b = record { rest = refl; closed = λ u k d. let w = (third_fel
 pub fellow_found : (mid : Held) (a n c : ℕ) (o : Option ℕ) → c ≡ component_at mid.entries a → n ≤ length mid.entries → FindsLast (component_at mid.entries) n c o → IsFellow mid.entries a o
 fellow_found mid a n c None e le h = tt
 fellow_found mid a n c (Some k) e le h = (let w = h.0 in omega (arith, w, le), h.1 ∙ e)
+
+if_entries : (h : Held) (due : Bool) (t : Task) → (closed_if due h t).entries ≡ h.entries
+if_entries h false t = refl
+if_entries h true t = refl
+
+-- a third entry changes no entry
+pub at_entries : (old new : Held) (a b x : ℕ) → ChainsAt old a b x new → new.entries ≡ old.entries
+at_entries old new a b x (inl h) = ap (λ (z : Held). z.entries) h.1
+at_entries old new a b x (inr h) =
+    let w = h.2 in
+    let one = closed_if w.first old (s_task a x) in
+    ap (λ (z : Held). z.entries) w.is ∙ (if_entries one w.second (s_task b x) ∙ if_entries old w.first (s_task a x))
+
+-- the third entry that comes next, and the walk goes down
+pub in_hand : (es : List BasisEntry) (a x : ℕ) (o : Option ℕ) → o ≡ Some x → IsFellow es a o → (x < length es) × (component_at es x ≡ component_at es a)
+in_hand es a x o e h = subst (IsFellow es a) e h
+
+pub goes_down : (component : ℕ → ℕ) (n c : ℕ) (o : Option ℕ) → FindsLast component n c o → done_from o < n + 1
+goes_down component n c None h = omega arith
+goes_down component n c (Some k) h = let w = h.0 in omega (arith, w)

@@ -4,7 +4,8 @@ ghost use Rattle.std.specs.Prelude.{◌≡◌, ◌≤◌, ◌<◌, ◌++◌, ◌
 ghost use Rattle.std.proofs.Common.{refl};
 ghost use Rattle.std.specs.Arc.{arc_value};
 ghost use Rattle.task_table.specs.declared.TheConstants.{ENTRIES as MOST};
-ghost use Rattle.basis_entry.specs.Entries.{BasisEntry, vectors_of};
+ghost use Rattle.strong_pairs.specs.Pairs.{lead_of};
+ghost use Rattle.basis_entry.specs.Entries.{BasisEntry, IsBasisEntry, vectors_of};
 ghost use Rattle.pair_book.specs.Fellows.{FindsLast, component_at};
 ghost use Rattle.pair_book.specs.LogEntries.{IsLogged};
 
@@ -54,9 +55,7 @@ impl Log {
         requires { length self.old.entries < self.old.room }
         ensures { self.new ≡ record self.old { entries = self.old.entries ++ arc_value entry ∷ [] } }
     {
-        // The proof needs what holds of the entry, and the call says so.
-        let component = entry.vector().terms()[0].at.c;
-        self.links.push(component);
+        self.links.push(component(&entry));
         self.entries.push_reserved(entry);
     }
 
@@ -81,7 +80,8 @@ impl Log {
         requires { at < length self.now.entries }
         ensures { FindsLast (component_at self.now.entries) (length self.now.entries) (component_at self.now.entries at) result }
     {
-        self.links.last(lead(self, at).at.c)
+        let component = lead(self, at).at.c;
+        self.links.last(component)
     }
 
     /// The last entry before the one with this number in its component.
@@ -91,6 +91,14 @@ impl Log {
     {
         self.links.before(at)
     }
+}
+
+/// The component of an entry's lead.
+fn component(entry: &Entry) -> u8
+    ensures is { result ≡ (lead_of (entry.now).vector).at.c }
+    ensures entry { IsBasisEntry entry.now }
+{
+    entry.vector().terms()[0].at.c
 }
 
 impl VecList for Log {
