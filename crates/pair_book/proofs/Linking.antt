@@ -22,12 +22,12 @@ finds_more f n c (Some k) ne h = (let w = h.0 in omega (arith, w), h.1, λ m kl 
 finds_own : (f : ℕ → ℕ) (n c : ℕ) → f n ≡ c → FindsLast f (n + 1) c (Some n)
 finds_own f n c e = (omega arith, e, λ m lt le q. omega (arith, lt, le))
 
-pub linked_none : (f : ℕ → ℕ) (before last : List (Option ℕ)) → before ≡ [] → length last ≡ 2 ^ 8 → ((c : ℕ) → get_or last c None ≡ None) → AreLinked f 0 before last
+pub linked_none : (f : ℕ → ℕ) (before last : List (Option ℕ)) → before ≡ [] → length last ≡ 2 ^ 8 → ((c : ℕ) → c < 2 ^ 8 → get_or last c None ≡ None) → AreLinked f 0 before last
 linked_none f before last e long none = record {
   count = ap length e;
   each = λ k lt. absurd (omega (arith, lt));
   components = long;
-  ends = λ c lt. subst (FindsLast f 0 c) (sym (none c)) (λ m below q. omega (arith, below));
+  ends = λ c lt. subst (FindsLast f 0 c) (sym (none c lt)) (λ m below q. omega (arith, below));
 }
 
 linked_at : (f : ℕ → ℕ) (n c : ℕ) (before last : List (Option ℕ)) → AreLinked f n before last → c < 2 ^ 8 → f n ≡ c → AreLinked f (n + 1) (before ++ get_or last c None ∷ []) (slice_set last c (Some n))

@@ -39,7 +39,7 @@ impl Links {
     }
 
     /// The last entry before this one in its component.
-    pub fn before(&self, at: u32) -> Option<u32>
+    pub fn previous(&self, at: u32) -> Option<u32>
         requires { at < length self.now.before.items }
         ensures { result ≡ slice_index_or self.now.before.items at None }
     {
@@ -58,7 +58,7 @@ impl Links {
 /// No entry for each component.
 fn none_of_any(alloc: Global) -> Result<Vec<Option<u32>>, AllocError>
     ensures length { IfOk result (λ last. length last.items ≡ 2 ^ 8) }
-    ensures none { IfOk result (λ last. (c : ℕ) → slice_index_or last.items c None ≡ None) }
+    ensures none { IfOk result (λ last. (c : ℕ) → c < 2 ^ 8 → slice_index_or last.items c None ≡ None) }
 {
     let mut last = Vec::new(alloc);
     last.resize(usize::from(u8::MAX) + 1, None)?;

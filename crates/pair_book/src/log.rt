@@ -89,7 +89,7 @@ impl Log {
         requires { at < length self.now.entries }
         ensures { FindsLast (component_at self.now.entries) at (component_at self.now.entries at) result }
     {
-        self.links.before(at)
+        self.links.previous(at)
     }
 }
 

@@ -23,8 +23,8 @@ chain_at-requires-clause-third c =
     let own = in_hand c.args.self.now.entries c.args.a c.in-Some.x c.loop-third.third c.in-Some.is c.loop-third.invariant.fellow in
     let w = own.0 in omega (arith, w, c.loop-third.invariant.entries)
 
-pub fellow_before-requires : goal.fellow_before-requires
-fellow_before-requires c =
+pub fellow_before-third-requires : goal.fellow_before-third-requires
+fellow_before-third-requires c =
     let own = in_hand c.args.self.now.entries c.args.a c.in-Some.x c.loop-third.third c.in-Some.is c.loop-third.invariant.fellow in
     let same = ap length (at_entries c.loop-third.self c.chain_at.new.self c.args.a c.args.b c.in-Some.x c.chain_at.ensures.chained) in
     let w = own.0 in omega (arith, w, same, c.loop-third.invariant.entries)
@@ -32,7 +32,7 @@ fellow_before-requires c =
 pub loop-third-smaller : goal.loop-third-smaller
 loop-third-smaller c =
     let es = c.chain_at.new.self.entries in
-    let lower = goes_down (component_at es) c.in-Some.x (component_at es c.in-Some.x) c.fellow_before.result c.fellow_before.ensures in
+    let lower = goes_down (component_at es) c.in-Some.x (component_at es c.in-Some.x) c.fellow_before-third.result c.fellow_before-third.ensures in
     let at = ap done_from c.in-Some.is in omega (arith, lower, at)
 
 pub loop-third-preserved : goal.loop-third-preserved
@@ -42,14 +42,14 @@ loop-third-preserved c =
     let b = c.args.b in
     let x = c.in-Some.x in
     let new = c.chain_at.new.self in
-    let next = c.fellow_before.result in
+    let next = c.fellow_before-third.result in
     let own = in_hand mid.entries a x c.loop-third.third c.in-Some.is c.loop-third.invariant.fellow in
     let done : AreChainedFrom (x + 1) mid a b c.loop-third.self = subst (λ (n : ℕ). AreChainedFrom n mid a b c.loop-third.self) (ap done_from c.in-Some.is) c.loop-third.invariant.chained in
     let ab : a ≢ b = omega (arith, c.requires.order) in
     let la : a < length mid.entries = omega (arith, c.requires.order, c.requires.within) in
     let step : AreChainedFrom x mid a b new = chain_step x mid c.loop-third.self new a b c.chain_at.ensures.book ab la c.requires.within own.0 done c.chain_at.ensures.chained in
     let same = entries_same x mid new a b step in
-    let found : FindsLast (component_at mid.entries) x (component_at mid.entries x) next = subst (λ (es : List BasisEntry). FindsLast (component_at es) x (component_at es x) next) same c.fellow_before.ensures in
+    let found : FindsLast (component_at mid.entries) x (component_at mid.entries x) next = subst (λ (es : List BasisEntry). FindsLast (component_at es) x (component_at es x) next) same c.fellow_before-third.ensures in
     record {
       chained = walk_on mid new a b x (component_at mid.entries x) next own.1 found step;
       entries = ap length same;

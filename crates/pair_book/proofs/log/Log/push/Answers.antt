@@ -16,7 +16,7 @@ pub invariant_of-self : goal.invariant_of-self
 invariant_of-self c =
     let es : List BasisEntry = map arc_value c.self.inside.entries.items in
     let e : BasisEntry = arc_value c.args.entry in
-    let links = c.push.new.links in
+    let links = c.push.new.self in
     let room = subst (λ (l : Logged). length l.entries < l.room) (sym c.self.view_is) c.requires in
     let items : map arc_value c.push_reserved.new.self.items ≡ es ++ e ∷ [] = ap (map arc_value) c.push_reserved.ensures.items ∙ map-append arc_value c.self.inside.entries.items (c.args.entry ∷ []) in
     let own : component_at (es ++ e ∷ []) (length es) ≡ c.component.result =
