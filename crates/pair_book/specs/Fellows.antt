@@ -1,5 +1,5 @@
 -- Entries whose leads have one component.
-use Rattle.std.specs.Prelude.{◌≡◌, ◌≢◌, ℕ, ◌<◌, ◌≤◌, ◌^◌, List, length, Option, Some, None, slice_index_or}
+use Rattle.std.specs.Prelude.{◌≡◌, ◌≢◌, ℕ, ◌<◌, ◌^◌, List, length, Option, Some, None, slice_index_or}
 use Rattle.strong_pairs.specs.Pairs.{lead_at}
 use Rattle.basis_entry.specs.Entries.{BasisEntry, vectors_of}
 

@@ -1,4 +1,4 @@
-use Rattle.std.proofs.Common.{arith, ap, refl, sym, ◌≡◌, ◌≢◌, ◌<◌, ◌+◌, ℕ, List, Some, length, subst}
+use Rattle.std.proofs.Common.{arith, ap, refl, ◌≢◌, ◌<◌, ◌+◌, ℕ, List, length, subst}
 use Rattle.basis_entry.specs.Entries.{BasisEntry}
 use Rattle.pair_book.specs.Fellows.{component_at, FindsLast}
 use Rattle.pair_book.specs.Chaining.{AreChainedFrom, done_from}

@@ -1,4 +1,4 @@
-use Rattle.std.proofs.Common.{arith, sym, ap, ◌∙◌, ◌≡◌, ◌<◌, ◌+◌, ◌++◌, ◌∷◌, [], ℕ, List, length, map, subst, length-append}
+use Rattle.std.proofs.Common.{arith, sym, ap, ◌∙◌, ◌≡◌, ◌<◌, ◌++◌, ◌∷◌, [], ℕ, List, length, map, subst, length-append}
 use Rattle.std.proofs.lemmas.List.{map-append}
 use Rattle.std.specs.Arc.{arc_value}
 use Rattle.std.specs.List.{AllByRecursion}
@@ -33,6 +33,6 @@ invariant_of-self c =
       };
       capacity = omega (arith, c.push_reserved.ensures.capacity, c.self.invariant.capacity);
       links = subst (λ (xs : List BasisEntry). AreLinked (component_at xs) (length xs) links.before.items links.last.items) (sym items)
-      (subst (λ (k : ℕ). AreLinked (component_at (es ++ e ∷ [])) k links.before.items links.last.items) (sym n) grown);
+          (subst (λ (k : ℕ). AreLinked (component_at (es ++ e ∷ [])) k links.before.items links.last.items) (sym n) grown);
       links_capacity = omega (arith, c.push.ensures.room, c.self.invariant.links_capacity);
     }

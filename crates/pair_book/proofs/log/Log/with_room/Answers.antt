@@ -1,4 +1,4 @@
-use Rattle.std.proofs.Common.{arith, sym, ap, ◌≡◌, ℕ, List, [], length, map, subst}
+use Rattle.std.proofs.Common.{arith, sym, ap, List, [], length, map, subst}
 use Rattle.std.specs.Arc.{arc_value}
 use Rattle.std.specs.List.{AllByRecursion}
 use Rattle.basis_entry.specs.Entries.{BasisEntry, IsBasisEntry}
