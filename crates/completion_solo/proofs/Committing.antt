@@ -2,6 +2,7 @@
 use Rattle.std.proofs.Common.{ℕ, ◌+◌, ◌<◌, ◌≤◌, ◌≡◌, ◌≢◌, ◌⊎◌, inl, inr, arith, refl, sym, ap, ◌∙◌, List, [], ◌∷◌, ◌++◌, length, map, Bool, true, false, subst, length-append}
 use Rattle.std.proofs.lemmas.List.{append-nil, map-append}
 use Rattle.std.specs.Prelude.{Ok, ◌↔◌, IsTrue}
+use Rattle.presentation.specs.Presented.{Presented}
 use Rattle.outcomes.specs.declared.tasks.Task.{Task}
 use Rattle.module_vec.specs.declared.places.Term.{Term}
 use Rattle.strong_pairs.specs.Pairs.{lead_of, lead_at}
@@ -24,6 +25,7 @@ use Rattle.pair_book.specs.Chaining.{AreChained, ClosesChained}
 use Rattle.pair_book.specs.Commits.{Commits, Fits, OnRest, IfRest, IsFresh, closed_by, appended_by, state_after}
 use Rattle.pair_book.specs.Logs.{NoneDivides}
 use Rattle.pair_book.specs.Outcomes.{Worked}
+use Rattle.pair_book.specs.Works.{ClosesAs}
 use Rattle.pair_book.proofs.Growing.{vectors_push}
 use Rattle.pair_book.proofs.Keeping.{task_in, task_out, taken_unclosed, table_put}
 use Rattle.pair_book.proofs.Starting.{table_grown, state_old, state_new, older, lead_end}
@@ -233,6 +235,12 @@ module _ (mid new : Held) (t : Task) (b : IsBook mid) (hand : IsInHand mid t) (n
         )
 
 -- ---- what a commit answers
+
+-- the rest that work leaves is of the presentation
+pub rest_known : (p : Presented) (b : List (List Term)) (t : Task) (close : Close) → ClosesAs p b t close → IfRest close (λ e. e.source ≡ p)
+rest_known p b t (Covered by) c = tt
+rest_known p b t (Zero steps) c = tt
+rest_known p b t (Rest e) c = c.entry.source
 
 is_closed : (mid new : Held) (w : Worked) → Commits mid w (Ok done.Closed) new → Follows (closed_by mid w.task) new
 is_closed mid new w (_, _, chained) = follows (closed_by mid w.task) new w.task true chained

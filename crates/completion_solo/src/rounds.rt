@@ -120,7 +120,7 @@ fn commit(
     // The proof needs what holds of the book, and the calls say so.
     let _ = book.commits();
     let task = outcome.task();
-    let committed = book.commit(outcome);
+    let committed = book.commit_known(outcome);
     let _ = book.commits();
     match committed {
         Ok(done) => match done {

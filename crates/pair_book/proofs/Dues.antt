@@ -20,7 +20,7 @@ use Rattle.task_table.specs.Rows.{settled_of}
 use Rattle.basis_entry.specs.Entries.{BasisEntry, vectors_of}
 use Rattle.pair_book.specs.Settled.{settled_by}
 use Rattle.pair_book.specs.Books.{Held, IsBook, with_state}
-use Rattle.pair_book.specs.Chaining.{is_waiting, s_task, is_shut, shut_pairs, IsDueBy, IsDue, AreChained, ChainsWith, ChainsAt, closed_if}
+use Rattle.pair_book.specs.Chaining.{is_waiting, s_task, is_shut, shut_pairs, IsDueBy, IsDueFrom, AreChainedFrom, ChainsWith, ChainsAt, closed_if}
 use Rattle.pair_book.proofs.Keeping.{put_read, table_put, book_put}
 
 lt_true : (a b : ℕ) → a < b → nat_lt a b ≡ true
@@ -189,18 +189,18 @@ due_carry h T U a x b ax ab xb e f g d =
       chained = record { number = d.chained.number; not_first = d.chained.not_first; not_second = d.chained.not_second; leads = d.chained.leads; with_first = both.0; with_second = both.1 };
     }
 
--- ---- third entries one after another
+-- ---- third entries one after another, from the last one down
 
--- no task of a later third entry is due yet, nor is that of a and b
-later_not_due : (n : ℕ) (mid : Held) (a b x : ℕ) → a ≢ b → x ≢ a → x ≢ b → n ≤ x → (IsDue n mid a b (s_task a x) → ⊥) × (IsDue n mid a b (s_task b x) → ⊥) × (IsDue n mid a b (s_task a b) → ⊥)
-later_not_due n mid a b x ab xa xb le = (
+-- no task of an earlier third entry is due yet, nor is that of a and b
+earlier_not_due : (n : ℕ) (mid : Held) (a b x : ℕ) → a ≢ b → x ≢ a → x ≢ b → x < n → (IsDueFrom n mid a b (s_task a x) → ⊥) × (IsDueFrom n mid a b (s_task b x) → ⊥) × (IsDueFrom n mid a b (s_task a b) → ⊥)
+earlier_not_due n mid a b x ab xa xb le = (
   (λ d. elim d.either [
-    | inl z ↦ elim (same_tasks a x a d.third (λ y. xa (sym y)) (λ y. d.not_first (sym y)) z.0) [ inl s ↦ let w = d.below in let q = s.1 in omega (arith, w, q, le) | inr s ↦ d.not_first (sym s.0) ]
+    | inl z ↦ elim (same_tasks a x a d.third (λ y. xa (sym y)) (λ y. d.not_first (sym y)) z.0) [ inl s ↦ let w = d.from in let q = s.1 in omega (arith, w, q, le) | inr s ↦ d.not_first (sym s.0) ]
     | inr z ↦ elim (same_tasks a x b d.third (λ y. xa (sym y)) (λ y. d.not_second (sym y)) z.0) [ inl s ↦ ab s.0 | inr s ↦ xb s.1 ]
   ]),
   (λ d. elim d.either [
     | inl z ↦ elim (same_tasks b x a d.third (λ y. xb (sym y)) (λ y. d.not_first (sym y)) z.0) [ inl s ↦ ab (sym s.0) | inr s ↦ d.not_second (sym s.0) ]
-    | inr z ↦ elim (same_tasks b x b d.third (λ y. xb (sym y)) (λ y. d.not_second (sym y)) z.0) [ inl s ↦ let w = d.below in let q = s.1 in omega (arith, w, q, le) | inr s ↦ d.not_second (sym s.0) ]
+    | inr z ↦ elim (same_tasks b x b d.third (λ y. xb (sym y)) (λ y. d.not_second (sym y)) z.0) [ inl s ↦ let w = d.from in let q = s.1 in omega (arith, w, q, le) | inr s ↦ d.not_second (sym s.0) ]
   ]),
   (λ d. elim d.either [
     | inl z ↦ elim (same_tasks a b a d.third ab (λ y. d.not_first (sym y)) z.0) [ inl s ↦ d.not_second (sym s.1) | inr s ↦ d.not_first (sym s.0) ]
@@ -208,24 +208,20 @@ later_not_due n mid a b x ab xa xb le = (
   ]),
 )
 
-due_more : (n : ℕ) (mid : Held) (a b : ℕ) (u : Task) → IsDue n mid a b u → IsDue (n + 1) mid a b u
-due_more n mid a b u d = record { third = d.third; below = let w = d.below in omega (arith, w); not_first = d.not_first; not_second = d.not_second; either = d.either }
+due_more : (n : ℕ) (mid : Held) (a b : ℕ) (u : Task) → IsDueFrom (n + 1) mid a b u → IsDueFrom n mid a b u
+due_more n mid a b u d = record { third = d.third; from = let w = d.from in omega (arith, w); not_first = d.not_first; not_second = d.not_second; either = d.either }
 
--- nothing was tried yet
-pub chain_start : (mid : Held) (a b : ℕ) → AreChained 0 mid a b mid
-chain_start mid a b = record { rest = refl; closed = λ u k d. let w = d.below in absurd (omega (arith, w)); same = λ u k d. refl }
+due_less : (x : ℕ) (mid : Held) (a b : ℕ) (u : Task) → (x ≡ a) ⊎ (x ≡ b) → IsDueFrom x mid a b u → IsDueFrom (x + 1) mid a b u
+due_less x mid a b u e d = record { third = d.third; from = elim (three d.third x) [ inl p ↦ let w = d.from in absurd (omega (arith, p, w)) | inr q ↦ elim q [ inl s ↦ elim e [ inl z ↦ absurd (d.not_first (s ∙ z)) | inr z ↦ absurd (d.not_second (s ∙ z)) ] | inr p ↦ omega (arith, p) ] ]; not_first = d.not_first; not_second = d.not_second; either = d.either }
 
-due_less : (x : ℕ) (mid : Held) (a b : ℕ) (u : Task) → (x ≡ a) ⊎ (x ≡ b) → IsDue (x + 1) mid a b u → IsDue x mid a b u
-due_less x mid a b u e d = record { third = d.third; below = elim (three d.third x) [ inl p ↦ p | inr q ↦ elim q [ inl s ↦ elim e [ inl z ↦ absurd (d.not_first (s ∙ z)) | inr z ↦ absurd (d.not_second (s ∙ z)) ] | inr p ↦ let w = d.below in absurd (omega (arith, p, w)) ] ]; not_first = d.not_first; not_second = d.not_second; either = d.either }
-
-chain_skip : (x : ℕ) (mid cur : Held) (a b : ℕ) → (x ≡ a) ⊎ (x ≡ b) → AreChained x mid a b cur → AreChained (x + 1) mid a b cur
+chain_skip : (x : ℕ) (mid cur : Held) (a b : ℕ) → (x ≡ a) ⊎ (x ≡ b) → AreChainedFrom (x + 1) mid a b cur → AreChainedFrom x mid a b cur
 chain_skip x mid cur a b e c = record { rest = c.rest; closed = λ u k d. c.closed u k (due_less x mid a b u e d); same = λ u k d. c.same u k (λ z. d (due_more x mid a b u z)) }
 
-pub entries_same : (n : ℕ) (mid cur : Held) (a b : ℕ) → AreChained n mid a b cur → cur.entries ≡ mid.entries
+pub entries_same : (n : ℕ) (mid cur : Held) (a b : ℕ) → AreChainedFrom n mid a b cur → cur.entries ≡ mid.entries
 entries_same n mid cur a b c = ap (λ (h : Held). h.entries) c.rest
 
-chain_third : (x : ℕ) (mid cur new : Held) (a b : ℕ) → IsBook cur → a ≢ b → x ≢ a → x ≢ b → a < length mid.entries → b < length mid.entries → x < length mid.entries → AreChained x mid a b cur → ChainsWith cur a b x new → AreChained (x + 1) mid a b new
-chain_third x mid cur new a b book ab xa xb la lb lx c w = subst (AreChained (x + 1) mid a b) (sym w.is) made where
+chain_third : (x : ℕ) (mid cur new : Held) (a b : ℕ) → IsBook cur → a ≢ b → x ≢ a → x ≢ b → a < length mid.entries → b < length mid.entries → x < length mid.entries → AreChainedFrom (x + 1) mid a b cur → ChainsWith cur a b x new → AreChainedFrom x mid a b new
+chain_third x mid cur new a b book ab xa xb la lb lx c w = subst (AreChainedFrom x mid a b) (sym w.is) made where
   ua : Task
   ua = s_task a x
 
@@ -251,13 +247,13 @@ chain_third x mid cur new a b book ab xa xb la lb lx c w = subst (AreChained (x 
   as_mid = c.rest ∙ ap (λ (t : Table). record mid { tasks = t }) (sym (ap (λ (h : Held). h.tasks) c.rest))
 
   in_cur : (u : Task) → IsTask (length mid.entries) u → IsTask cur.tasks.count u
-  in_cur u k = let e = ap length (entries_same x mid cur a b c) in let n = book.count in let z = k.1 in (k.0, omega (arith, e, n, z))
+  in_cur u k = let e = ap length (entries_same (x + 1) mid cur a b c) in let n = book.count in let z = k.1 in (k.0, omega (arith, e, n, z))
 
   in_one : (u : Task) → IsTask (length mid.entries) u → IsTask one.tasks.count u
   in_one u k = let m = in_cur u k in let n = count_if cur w.first ua in let z = m.1 in (m.0, omega (arith, n, z))
 
-  none : (IsDue x mid a b ua → ⊥) × (IsDue x mid a b ub → ⊥) × (IsDue x mid a b (s_task a b) → ⊥)
-  none = later_not_due x mid a b x ab xa xb (omega arith)
+  none : (IsDueFrom (x + 1) mid a b ua → ⊥) × (IsDueFrom (x + 1) mid a b ub → ⊥) × (IsDueFrom (x + 1) mid a b (s_task a b) → ⊥)
+  none = earlier_not_due (x + 1) mid a b x ab xa xb (omega arith)
 
   sa : state_of cur.tasks ua ≡ state_of mid.tasks ua
   sa = c.same ua ka none.0
@@ -300,29 +296,29 @@ chain_third x mid cur new a b book ab xa xb la lb lx c w = subst (AreChained (x 
   at_third u k (inl z) = keep_two u k (ap (state_of one.tasks) z.0 ∙ hit_if cur w.first ua book.table (in_cur ua ka) (first_to z.1))
   at_third u k (inr z) = ap (state_of two.tasks) z.0 ∙ hit_if one w.second ub (table_if cur w.first ua book.table) (in_one ub kb) (second_to z.1)
 
-  closes : (u : Task) → IsTask (length mid.entries) u → IsDue (x + 1) mid a b u → state_of two.tasks u ≡ Closed
+  closes : (u : Task) → IsTask (length mid.entries) u → IsDueFrom x mid a b u → state_of two.tasks u ≡ Closed
   closes u k d = elim (three d.third x) [
-    | inl p ↦ keep_two u k (keep_one u k (c.closed u k (record { third = d.third; below = p; not_first = d.not_first; not_second = d.not_second; either = d.either })))
+    | inl p ↦ let z = d.from in absurd (omega (arith, p, z))
     | inr q ↦ elim q [
       | inl e ↦ at_third u k (subst (λ (y : ℕ). ((u ≡ s_task a y) × IsDueBy mid a y b) ⊎ ((u ≡ s_task b y) × IsDueBy mid b y a)) e d.either)
-      | inr p ↦ let z = d.below in absurd (omega (arith, p, z))
+      | inr p ↦ keep_two u k (keep_one u k (c.closed u k (record { third = d.third; from = omega (arith, p); not_first = d.not_first; not_second = d.not_second; either = d.either })))
     ]
   ]
 
-  due_here : (u : Task) → ((u ≡ s_task a x) × IsDueBy mid a x b) ⊎ ((u ≡ s_task b x) × IsDueBy mid b x a) → IsDue (x + 1) mid a b u
-  due_here u e = record { third = x; below = omega arith; not_first = xa; not_second = xb; either = e }
+  due_here : (u : Task) → ((u ≡ s_task a x) × IsDueBy mid a x b) ⊎ ((u ≡ s_task b x) × IsDueBy mid b x a) → IsDueFrom x mid a b u
+  due_here u e = record { third = x; from = omega arith; not_first = xa; not_second = xb; either = e }
 
-  stays : (u : Task) → IsTask (length mid.entries) u → (IsDue (x + 1) mid a b u → ⊥) → state_of two.tasks u ≡ state_of mid.tasks u
+  stays : (u : Task) → IsTask (length mid.entries) u → (IsDueFrom x mid a b u → ⊥) → state_of two.tasks u ≡ state_of mid.tasks u
   stays u k d =
       let before = c.same u k (λ z. d (due_more x mid a b u z)) in
       let after : state_of one.tasks u ≡ state_of cur.tasks u = elim (read_if cur w.first ua u book.table (in_cur ua ka) (in_cur u k)) [ inl s ↦ s | inr s ↦ absurd (d (due_here u (inl (s.1, first_from s.0)))) ] in
       let last : state_of two.tasks u ≡ state_of one.tasks u = elim (read_if one w.second ub u (table_if cur w.first ua book.table) (in_one ub kb) (in_one u k)) [ inl s ↦ s | inr s ↦ absurd (d (due_here u (inr (s.1, second_from s.0)))) ] in
       last ∙ (after ∙ before)
 
-  made : AreChained (x + 1) mid a b two
+  made : AreChainedFrom x mid a b two
   made = record { rest = states_if mid one w.second ub (states_if mid cur w.first ua c.rest); closed = closes; same = stays }
 
 -- one more third entry
-pub chain_step : (x : ℕ) (mid cur new : Held) (a b : ℕ) → IsBook cur → a ≢ b → a < length mid.entries → b < length mid.entries → x < length mid.entries → AreChained x mid a b cur → ChainsAt cur a b x new → AreChained (x + 1) mid a b new
-chain_step x mid cur new a b book ab la lb lx c (inl h) = subst (AreChained (x + 1) mid a b) (sym h.1) (chain_skip x mid cur a b h.0 c)
+pub chain_step : (x : ℕ) (mid cur new : Held) (a b : ℕ) → IsBook cur → a ≢ b → a < length mid.entries → b < length mid.entries → x < length mid.entries → AreChainedFrom (x + 1) mid a b cur → ChainsAt cur a b x new → AreChainedFrom x mid a b new
+chain_step x mid cur new a b book ab la lb lx c (inl h) = subst (AreChainedFrom x mid a b) (sym h.1) (chain_skip x mid cur a b h.0 c)
 chain_step x mid cur new a b book ab la lb lx c (inr h) = chain_third x mid cur new a b book ab h.0 h.1 la lb lx c h.2

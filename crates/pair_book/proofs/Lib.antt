@@ -8,6 +8,8 @@ pub mod Strangers
 pub mod Bounds
 pub mod Growing
 pub mod Dues
+pub mod Linking
+pub mod Walking
 pub mod Turning
 pub mod Chained
 pub mod Made

@@ -1,5 +1,5 @@
 -- The tasks that the chain rule closes behind a commit.
-use Rattle.std.specs.Prelude.{◌≡◌, ◌≢◌, ◌⊎◌, ◌↔◌, ℕ, ◌<◌, Bool, true, false, cond, nat_lt, List, length}
+use Rattle.std.specs.Prelude.{◌≡◌, ◌≢◌, ◌⊎◌, ◌↔◌, ℕ, ◌+◌, ◌<◌, ◌≤◌, Option, Some, None, Bool, true, false, cond, nat_lt, List, length}
 use Rattle.outcomes.specs.declared.kinds.PairKind.TheVariants.{S, G}
 use Rattle.outcomes.specs.declared.tasks.Task.{Task}
 use Rattle.chain_rule.specs.ClosedPairs.{pairs_where}
@@ -11,6 +11,7 @@ use Rattle.task_table.specs.Tasks.{IsTask, is_closed_later}
 use Rattle.task_table.specs.Tables.{Table, state_of}
 use Rattle.basis_entry.specs.Entries.{BasisEntry, vectors_of}
 use Rattle.pair_book.specs.Books.{Held, with_state}
+use Rattle.pair_book.specs.Fellows.{component_at}
 
 abbrev pub is_waiting : TaskState → Bool
 is_waiting Open = true
@@ -68,3 +69,29 @@ pub record ChainsWith (old : Held) (a b x : ℕ) (new : Held) : Type 0 where
 
 abbrev pub ChainsAt : Held → ℕ → ℕ → ℕ → Held → Type 0
 ChainsAt old a b x new = (((x ≡ a) ⊎ (x ≡ b)) × (new ≡ old)) ⊎ ((x ≢ a) × (x ≢ b) × ChainsWith old a b x new)
+
+-- ---- how the chain rule is carried out: from the last third entry of the component down to the first
+
+-- u is such a task of a or b with a third entry from n on, through the other of the two
+pub record IsDueFrom (n : ℕ) (h : Held) (a b : ℕ) (u : Task) : Type 0 where
+  pub third : ℕ
+  pub from : n ≤ third
+  pub not_first : third ≢ a
+  pub not_second : third ≢ b
+  pub either : ((u ≡ s_task a third) × IsDueBy h a third b) ⊎ ((u ≡ s_task b third) × IsDueBy h b third a)
+
+-- each task that is due with a third entry from n on is closed; no other changes
+pub record AreChainedFrom (n : ℕ) (mid : Held) (a b : ℕ) (new : Held) : Type 0 where
+  pub rest : new ≡ record mid { tasks = record mid.tasks { states = new.tasks.states } }
+  pub closed : (u : Task) → IsTask (length mid.entries) u → IsDueFrom n mid a b u → state_of new.tasks u ≡ Closed
+  pub same : (u : Task) → IsTask (length mid.entries) u → (IsDueFrom n mid a b u → ⊥) → state_of new.tasks u ≡ state_of mid.tasks u
+
+-- where the third entry comes next that is given, those from this number on are done
+abbrev pub done_from : Option ℕ → ℕ
+done_from None = 0
+done_from (Some x) = x + 1
+
+-- the third entry that comes next is one of a's component
+abbrev pub IsFellow : List BasisEntry → ℕ → Option ℕ → Type 0
+IsFellow es a None = Unit {0}
+IsFellow es a (Some x) = (x < length es) × (component_at es x ≡ component_at es a)

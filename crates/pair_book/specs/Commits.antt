@@ -85,6 +85,15 @@ Refuses h w (Some (Stale front now)) = HasBudget h w.task × AllThere h.entries 
 Refuses h w (Some (Full m c)) = OnRest w.close (λ e. IsFresh h w e × NoneDivides (vectors_of h.entries) (lead_of e.vector) × Passes h e m c)
 Refuses h w None = HasBudget h w.task × AllThere h.entries w.used × IfRest w.close (λ e. IsFresh h w e × NoneDivides (vectors_of h.entries) (lead_of e.vector) × Fits h e)
 
+-- the refusal that comes of a task, or none, whatever its outcome is
+abbrev pub RefusesTask : Held → Task → Option CommitFault → Type 0
+RefusesTask h t None = HasBudget h t
+RefusesTask h t (Some NotTaken) = MayCommit h t → ⊥
+RefusesTask h t (Some (Spent n)) = MayCommit h t × (h.limits.budget ≡ Some h.commits) × (n ≡ h.commits)
+RefusesTask h t (Some (Stranger k)) = ⊥
+RefusesTask h t (Some (Stale front now)) = ⊥
+RefusesTask h t (Some (Full m c)) = ⊥
+
 -- the refusal that comes of a rest that is the outcome's, or none, where the refusals before those of rests don't come
 abbrev pub RefusesRest : Held → Worked → BasisEntry → Option CommitFault → Type 0
 RefusesRest h w e (Some NotTaken) = ⊥
@@ -107,8 +116,12 @@ closed_by h t = record (with_state h t Closed) { commits = h.commits + 1 }
 abbrev pub appended_by : Held → Task → BasisEntry → Bool → Held
 appended_by h t e closed = record h { entries = h.entries ++ e ∷ []; tasks = put (grown h.tasks (settled_row h.entries e.vector)) t (state_after closed); commits = h.commits + 1 }
 
+-- what is left where the outcome isn't refused
+abbrev pub IsCommitted : Held → Worked → Committed → Held → Type 0
+IsCommitted old w done.Closed new = Refuses old w None × (OnRest w.close (λ e. Unit {0}) → ⊥) × ClosesChained (closed_by old w.task) w.task true new
+IsCommitted old w (done.Appended k closed) new = Refuses old w None × (k ≡ length old.entries) × OnRest w.close (λ e. (IsTrue closed ↔ IsClosed (vectors_of (old.entries ++ e ∷ [])) w.task.kind w.task.i w.task.j) ×
+    ClosesChained (appended_by old w.task e closed) w.task closed new)
+
 abbrev pub Commits : Held → Worked → Result Committed (CommitFault × Worked) → Held → Type 0
 Commits old w (Err (fault, back)) new = Refuses old w (Some fault) × (back ≡ w) × (new ≡ old)
-Commits old w (Ok done.Closed) new = Refuses old w None × (OnRest w.close (λ e. Unit {0}) → ⊥) × ClosesChained (closed_by old w.task) w.task true new
-Commits old w (Ok (done.Appended k closed)) new = Refuses old w None × (k ≡ length old.entries) × OnRest w.close (λ e. (IsTrue closed ↔ IsClosed (vectors_of (old.entries ++ e ∷ [])) w.task.kind w.task.i w.task.j) ×
-    ClosesChained (appended_by old w.task e closed) w.task closed new)
+Commits old w (Ok committed) new = IsCommitted old w committed new

@@ -1,5 +1,6 @@
 pub mod Faults
 pub mod Logs
+pub mod Fellows
 pub mod Settled
 pub mod Outcomes
 pub mod Works

@@ -5,6 +5,7 @@ use Rattle.std.specs.Arc.{arc_value}
 use Rattle.task_table.specs.declared.TheConstants.{ENTRIES}
 use Rattle.basis_entry.specs.Entries.{BasisEntry, IsBasisEntry}
 use Rattle.pair_book.specs.declared.log.Log.TheInside.{Inside}
+use Rattle.pair_book.specs.Fellows.{component_at, AreLinked}
 use Rattle.pair_book.specs.Outcomes.{recipe_steps}
 
 -- for how many entries there is room, and the entries
@@ -23,6 +24,8 @@ logged l = record { room = l.room; entries = map arc_value l.entries.items }
 pub record IsRoomy (l : Inside) : Type 0 where
   pub logged : IsLogged (logged l)
   pub capacity : l.room ≤ vec_capacity l.entries
+  pub links : AreLinked (component_at (map arc_value l.entries.items)) (length (map arc_value l.entries.items)) l.links.before.items l.links.last.items
+  pub links_capacity : l.room ≤ vec_capacity l.links.before
 
 -- the terms and the recipe steps of all entries
 abbrev pub terms_of : List BasisEntry → ℕ

@@ -7,11 +7,11 @@ ghost use Rattle.task_table.specs.Tasks as tasks;
 ghost use Rattle.task_table.specs.Tables.{state_of};
 ghost use Rattle.basis_entry.specs.Entries.{vectors_of};
 ghost use Rattle.pair_book.specs.Books.{IsBook};
+ghost use Rattle.pair_book.specs.Fellows.{FindsLast, component_at};
 ghost use Rattle.pair_book.specs.Chaining.{IsDueBy, ChainsWith, ChainsAt, AreChained, ClosesChained, s_task, closed_if, is_waiting};
 
 use crate::Book;
 use chain_rule::{Shut, chained};
-use module_vec::VecList;
 use outcomes::{PairKind, Task};
 use strong_pairs::is_pair;
 use task_table::TaskState;
@@ -47,16 +47,34 @@ impl Book {
         }
     }
 
-    /// Closes what is due behind the S task of two entries.
+    /// Closes what is due behind the S task of two entries. Third entries of other components are passed over: nothing is due
+    /// with them.
     fn chain(&mut self, a: u32, b: u32)
         requires order { a < b }
         requires within { b < length self.old.entries }
         ensures { AreChained (length self.old.entries) self.old a b self.new }
     {
-        let count = self.log.count();
-        for x in 0..count {
+        let mut third = self.last_fellow(a);
+        while let Some(x) = third {
             self.chain_at(a, b, x);
+            third = self.fellow_before(x);
         }
+    }
+
+    /// The last entry in the component of this one.
+    fn last_fellow(&self, at: u32) -> Option<u32>
+        requires { at < length self.now.entries }
+        ensures { FindsLast (component_at self.now.entries) (length self.now.entries) (component_at self.now.entries at) result }
+    {
+        self.log.last_fellow(at)
+    }
+
+    /// The last entry before this one in its component.
+    fn fellow_before(&self, at: u32) -> Option<u32>
+        requires { at < length self.now.entries }
+        ensures { FindsLast (component_at self.now.entries) at (component_at self.now.entries at) result }
+    {
+        self.log.fellow_before(at)
     }
 
     /// Closes what is due with this entry, where it is a third one.

@@ -1,14 +1,14 @@
 //! Commits.
 
-ghost use Rattle.std.specs.Prelude.{◌≡◌, ◌↔◌, ◌++◌, ◌∷◌, [], IsTrue};
+ghost use Rattle.std.specs.Prelude.{◌≡◌, ◌↔◌, ◌++◌, ◌∷◌, [], IsTrue, None};
 ghost use Rattle.std.specs.Arc.{arc_value};
 ghost use Rattle.outcomes.specs.declared.kinds.PairKind.TheVariants.{S};
 ghost use Rattle.strong_pairs.specs.Pairs.{IsPair, lead_of};
 ghost use Rattle.strong_pairs.specs.Tasks.{IsClosed};
 ghost use Rattle.basis_entry.specs.Entries.{vectors_of};
-ghost use Rattle.pair_book.specs.Commits.{MayCommit, Fits, Commits, closed_by, appended_by, state_after};
+ghost use Rattle.pair_book.specs.Commits.{MayCommit, Fits, Commits, IsCommitted, Refuses, IfRest, closed_by, appended_by, state_after};
 ghost use Rattle.pair_book.specs.Logs.{NoneDivides};
-ghost use Rattle.pair_book.specs.Outcomes.{IsRestOf};
+ghost use Rattle.pair_book.specs.Outcomes.{AllThere, IsRestOf};
 
 use crate::log::Log;
 use crate::newcomers::enter;
@@ -25,28 +25,50 @@ impl Book {
     /// Commits an outcome of a task that is taken in this book, or hands it back. It takes no memory.
     ///
     /// `Closed` comes exactly where the outcome has no rest. Otherwise the rest is appended to the log, with its tasks. Where
-    /// an S task is closed so, the open and hard S tasks that the chain rule then shows are closed too. The refusals come in the order of [`CommitFault`], but that the lead terms of the log are tried after `Stale`.
+    /// an S task is closed so, the open and hard S tasks that the chain rule then shows are closed too. The refusals come in
+    /// the order of [`CommitFault`], but that the lead terms of the log are tried after `Stale`.
     pub fn commit(&mut self, o: Outcome) -> Result<Committed, (CommitFault, Outcome)>
         ensures { Commits self.old o result self.new }
     {
         if let Some(fault) = self.refusal(&o) {
             return Err((fault, o));
         }
+        Ok(self.carry_out(o))
+    }
+
+    /// Commits an outcome as [`Book::commit`] does, without comparing entries: those that were used are known to be the
+    /// log's, and a rest to be of the book's presentation.
+    pub fn commit_known(&mut self, o: Outcome) -> Result<Committed, (CommitFault, Outcome)>
+        requires there { AllThere self.old.entries o.used }
+        requires source { IfRest o.close (λ e. e.source ≡ self.old.source) }
+        ensures { Commits self.old o result self.new }
+    {
+        if let Some(fault) = self.refusal_of_known(&o) {
+            return Err((fault, o));
+        }
+        Ok(self.carry_out(o))
+    }
+
+    /// Commits an outcome that isn't refused.
+    fn carry_out(&mut self, o: Outcome) -> Committed
+        requires { Refuses self.old o None }
+        ensures { IsCommitted self.old o result self.new }
+    {
         let task = o.task();
         let number = self.log.count();
         match o.into_close() {
             Close::Rest { entry } => {
                 let closed = self.append(task, entry);
                 self.chain_behind(task, closed);
-                Ok(Committed::Appended {
+                Committed::Appended {
                     entry: number,
                     closed,
-                })
+                }
             }
             _ => {
                 self.close(task);
                 self.chain_behind(task, true);
-                Ok(Committed::Closed)
+                Committed::Closed
             }
         }
     }

@@ -12,6 +12,7 @@ mod commits;
 mod faults;
 pub mod laws;
 mod limits;
+mod links;
 mod log;
 mod marks;
 mod newcomers;

@@ -4,20 +4,25 @@ ghost use Rattle.std.specs.Prelude.{◌≡◌, ◌≤◌, ◌<◌, ◌++◌, ◌
 ghost use Rattle.std.proofs.Common.{refl};
 ghost use Rattle.std.specs.Arc.{arc_value};
 ghost use Rattle.task_table.specs.declared.TheConstants.{ENTRIES as MOST};
-ghost use Rattle.basis_entry.specs.Entries.{BasisEntry, vectors_of};
+ghost use Rattle.strong_pairs.specs.Pairs.{lead_of};
+ghost use Rattle.basis_entry.specs.Entries.{BasisEntry, IsBasisEntry, vectors_of};
+ghost use Rattle.pair_book.specs.Fellows.{FindsLast, component_at};
 ghost use Rattle.pair_book.specs.LogEntries.{IsLogged};
 
+use crate::links::Links;
 use basis_entry::{Entry, Front, Sealed};
 use module_vec::{ModVec, VecList};
 use std::alloc::{AllocError, Global};
 use std::marker::Model;
 use std::sync::Arc;
+use strong_pairs::lead;
 
 /// The entries of a log, with room for further ones.
 #[derive(Drop)]
 pub struct Log {
     entries: Vec<Arc<Entry>>,
     room: u32,
+    links: Links,
 }
 
 impl Model for Log {
@@ -41,6 +46,7 @@ impl Log {
         Ok(Log {
             entries: Vec::with_capacity(alloc, room as usize)?,
             room,
+            links: Links::with_room(alloc, room)?,
         })
     }
 
@@ -49,8 +55,7 @@ impl Log {
         requires { length self.old.entries < self.old.room }
         ensures { self.new ≡ record self.old { entries = self.old.entries ++ arc_value entry ∷ [] } }
     {
-        // The proof needs what holds of the entry, and the call says so.
-        let _ = entry.vector();
+        self.links.push(component(&entry));
         self.entries.push_reserved(entry);
     }
 
@@ -69,6 +74,31 @@ impl Log {
     {
         &self.entries[at as usize]
     }
+
+    /// The last entry in the component of the one with this number.
+    pub fn last_fellow(&self, at: u32) -> Option<u32>
+        requires { at < length self.now.entries }
+        ensures { FindsLast (component_at self.now.entries) (length self.now.entries) (component_at self.now.entries at) result }
+    {
+        let component = lead(self, at).at.c;
+        self.links.last(component)
+    }
+
+    /// The last entry before the one with this number in its component.
+    pub fn fellow_before(&self, at: u32) -> Option<u32>
+        requires { at < length self.now.entries }
+        ensures { FindsLast (component_at self.now.entries) at (component_at self.now.entries at) result }
+    {
+        self.links.previous(at)
+    }
+}
+
+/// The component of an entry's lead.
+fn component(entry: &Entry) -> u8
+    ensures is { result ≡ (lead_of (entry.now).vector).at.c }
+    ensures entry { IsBasisEntry entry.now }
+{
+    entry.vector().terms()[0].at.c
 }
 
 impl VecList for Log {

@@ -4,7 +4,7 @@ ghost use Rattle.std.specs.Prelude.{◌≡◌, ◌≢◌, ◌<◌, ◌↔◌, Is
 ghost use Rattle.std.specs.Arc.{arc_value};
 ghost use Rattle.module_vec.specs.declared.places.Term.{Term as TheTerm};
 ghost use Rattle.basis_entry.specs.Entries.{vectors_of};
-ghost use Rattle.pair_book.specs.Commits.{IsStranger, IsLeadDivisor, Passes, Fits, HasBudget, Refuses, RefusesRest};
+ghost use Rattle.pair_book.specs.Commits.{IsStranger, IsLeadDivisor, Passes, Fits, HasBudget, Refuses, RefusesTask, RefusesRest, IfRest};
 ghost use Rattle.pair_book.specs.Logs.{DividesLead, NoneDivides};
 ghost use Rattle.pair_book.specs.Outcomes.{used_entry, AllThere, AreRising, IsThere, recipe_steps};
 ghost use Rattle.strong_pairs.specs.Pairs.{lead_of};
@@ -14,7 +14,7 @@ use crate::newcomers::{divides, entry_lead};
 use crate::{Book, Close, CommitFault, Outcome, Used};
 use basis_entry::{Entry, Recipe};
 use module_vec::{Term, VecList};
-use outcomes::Measure;
+use outcomes::{Measure, Task};
 use strong_pairs::lead;
 
 /// Whether the log has the entry under its number.
@@ -105,13 +105,8 @@ impl Book {
     pub(crate) fn refusal(&self, o: &Outcome) -> Option<CommitFault>
         ensures { Refuses self.now o.now result }
     {
-        if !self.is_taken(o.task()) || self.seal.is_some() {
-            return Some(CommitFault::NotTaken);
-        }
-        if self.limits.budget == Some(self.commits) {
-            return Some(CommitFault::Spent {
-                commits: self.commits,
-            });
+        if let Some(fault) = self.refused_task(o.task()) {
+            return Some(fault);
         }
         if let Some(entry) = stranger(&self.log, o) {
             return Some(CommitFault::Stranger { entry });
@@ -122,6 +117,36 @@ impl Book {
         self.refused_rest(o, entry)
     }
 
+    /// Why an outcome can't be committed now whose used entries are the log's, and whose rest is of the book's presentation.
+    pub(crate) fn refusal_of_known(&self, o: &Outcome) -> Option<CommitFault>
+        requires there { AllThere self.now.entries o.now.used }
+        requires source { IfRest o.now.close (λ e. e.source ≡ self.now.source) }
+        ensures { Refuses self.now o.now result }
+    {
+        if let Some(fault) = self.refused_task(o.task()) {
+            return Some(fault);
+        }
+        let Close::Rest { entry } = o.close() else {
+            return None;
+        };
+        self.refused_known_rest(o, entry)
+    }
+
+    /// Why no outcome of the task can be committed now.
+    fn refused_task(&self, task: Task) -> Option<CommitFault>
+        ensures { RefusesTask self.now task result }
+    {
+        if !self.is_taken(task) || self.seal.is_some() {
+            return Some(CommitFault::NotTaken);
+        }
+        if self.limits.budget == Some(self.commits) {
+            return Some(CommitFault::Spent {
+                commits: self.commits,
+            });
+        }
+        None
+    }
+
     /// Why the rest of an outcome can't be appended now, where the outcome passes the other tests.
     fn refused_rest(&self, o: &Outcome, entry: &Entry) -> Option<CommitFault>
         requires budget { HasBudget self.now (o.now).task }
@@ -129,10 +154,22 @@ impl Book {
         requires short { IsShort entry.now }
         ensures { RefusesRest self.now o.now entry.now result }
     {
-        let now = self.log.count();
         if !entry.presentation().same(&self.source) {
+            let now = self.log.count();
             return Some(CommitFault::Stranger { entry: now });
         }
+        self.refused_known_rest(o, entry)
+    }
+
+    /// The same, where the rest is known to be of the book's presentation.
+    fn refused_known_rest(&self, o: &Outcome, entry: &Entry) -> Option<CommitFault>
+        requires budget { HasBudget self.now (o.now).task }
+        requires there { AllThere self.now.entries (o.now).used }
+        requires source { (entry.now).source ≡ self.now.source }
+        requires short { IsShort entry.now }
+        ensures { RefusesRest self.now o.now entry.now result }
+    {
+        let now = self.log.count();
         let front = o.front();
         if front < now {
             return Some(CommitFault::Stale { front, now });

@@ -10,12 +10,12 @@ use Rattle.pair_book.specs.Outcomes.{IsTrueOf, IsRestOf}
 use Rattle.pair_book.specs.Books.{Held}
 use Rattle.pair_book.specs.Chaining.{ClosesChained}
 use Rattle.pair_book.specs.Commits.{OnRest, appended_by}
-use Rattle.pair_book.proofs.book.Book.commit.Goals as goal
+use Rattle.pair_book.proofs.book.Book.carry_out.Goals as goal
 
 pub append-closed-requires-clause-rest : goal.append-closed-requires-clause-rest
 append-closed-requires-clause-rest c =
     let b = vectors_of c.args.self.now.entries in
-    let t = c.task-task.ensures.outcome.close c.args.self.now.entries c.in_default.ensures.1 in
+    let t = c.task-task.ensures.outcome.close c.args.self.now.entries c.requires.1 in
     let r = subst (λ (x : Close). IsTrueOf b c.args.o.task x) (sym c.in-Rest.ensures) t in
     subst (λ (z : Task). IsRestOf b z (arc_value c.in-Rest.entry)) (sym c.task-task.ensures.is) r
 
@@ -29,4 +29,4 @@ returns-in-Rest c =
     let T : Task → BasisEntry → Type 0 = λ z x. (IsTrue closed ↔ IsClosed (vectors_of (old.entries ++ x ∷ [])) z.kind z.i z.j) × ClosesChained (appended_by old z x closed) z closed new in
     let chained = subst (λ (h : Held). ClosesChained h c.task-task.result closed new) c.append-closed.ensures.new c.chain_behind.ensures in
     let here = subst (λ (z : Task). T z e) c.task-task.ensures.is (c.append-closed.ensures.closed, chained) in
-    (c.in_default.ensures, n, subst (λ (x : Close). OnRest x (λ y. T c.args.o.task y)) c.in-Rest.ensures here)
+    (c.requires, n, subst (λ (x : Close). OnRest x (λ y. T c.args.o.task y)) c.in-Rest.ensures here)
