@@ -30,6 +30,8 @@ use Rattle.metab_run.specs.Gathering.{questions_of, IsAsker, AreAskers, AreAnswe
 use Rattle.metab_run.specs.SoloAnswers.{limits_of, IsFound, ShowsSolo, SoloGives}
 use Rattle.metab_run.proofs.Leading.{gives_lead}
 use Rattle.metab_run.proofs.SessionFiles.{failing_lead}
+use Rattle.metab_run.proofs.TrueAnswers.{solved_answers}
+use Rattle.metab_run.proofs.Accepted.{checks}
 use Rattle.metab_run.proofs.Reportable.{all_from, stands, reportable, told}
 
 -- new sessions ask the book that was opened
@@ -70,13 +72,15 @@ found under q p least ss r presented asked known sources most new legal on accep
       presented = presented;
       questions = questions_of ss;
       asked = asked;
-      known = known;
-      sources = sourced ss sources;
-      solved = record { legal = legal; by_all = by_all };
-      reportable = can;
-      accepted = accepted;
       history = history.0;
-      is_history = history.1;
+      solved = record {
+        legal = legal;
+        by_all = by_all;
+        told = history.1;
+        answers = solved_answers p (limits_of q) (questions_of ss) r history.0 known (sourced ss sources) legal by_all history.1;
+        checked = checks p r history.0 legal.pres (accepted history.0 history.1);
+      };
+      reportable = can;
     }
 
 -- ---- what goes wrong with a session

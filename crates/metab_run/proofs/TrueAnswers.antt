@@ -28,7 +28,6 @@ use Rattle.report_text.specs.Reports.{Reported, IsHistoryOf}
 use Rattle.report_text.proofs.Lists.{all_first}
 use Rattle.session_core.specs.declared.kept.Kept.{Kept}
 use Rattle.metab_run.specs.Legal.{IsLegal, IsLegalSession, AreByAll, seal_at}
-use Rattle.metab_run.specs.SoloAnswers.{IsSolved}
 use Rattle.metab_run.proofs.Fronts.{seal_all}
 use Rattle.metab_run.specs.TrueAnswers.{IsAfterSeal, IsTrueReply, IsTrueAnswer, AreTrueAnswers}
 use Rattle.metab_run.proofs.Reportable.{all_from, all_at, stands}
@@ -154,9 +153,9 @@ after_seal p r front seal all e =
 
 -- where all replies are by all items, they are exact where the log is sealed
 pub solved_answers : (p : Presented) (limits : Limits) (questions : List (List Question)) (r : Reported) (h : History) → IsPresented p → AllByRecursion (AllByRecursion HasSource) questions
-    → IsSolved p limits questions r → IsHistoryOf r h → AreTrueAnswers p (λ a. r.end ≡ Sealed) h
-solved_answers p limits questions r h known sources is told =
-    answers_are p limits questions r known sources is.legal (λ a. r.end ≡ Sealed)
-    (λ a i j s k here kept front e. after_seal p r a.front is.legal.seal
-    (front ∙ all_at (λ (x : Kept). x.front ≡ item_count r.entries r.seal) s.kept j k (all_at (λ (x : SessionState). AreByAll r.entries r.seal x.kept) r.sessions i s is.by_all here) kept) e)
-    (λ a front e. after_seal p r a.front is.legal.seal front e) h told
+    → IsLegal p limits questions r → AllByRecursion (λ s. AreByAll r.entries r.seal s.kept) r.sessions → IsHistoryOf r h → AreTrueAnswers p (λ a. r.end ≡ Sealed) h
+solved_answers p limits questions r h known sources is by_all told =
+    answers_are p limits questions r known sources is (λ a. r.end ≡ Sealed)
+    (λ a i j s k here kept front e. after_seal p r a.front is.seal
+    (front ∙ all_at (λ (x : Kept). x.front ≡ item_count r.entries r.seal) s.kept j k (all_at (λ (x : SessionState). AreByAll r.entries r.seal x.kept) r.sessions i s by_all here) kept) e)
+    (λ a front e. after_seal p r a.front is.seal front e) h told

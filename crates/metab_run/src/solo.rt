@@ -107,7 +107,6 @@ fn is_settled(report: &Report) -> bool
 /// Writes the report, and says how the run ends.
 pub fn deliver_report<K: Sink>(alloc: Global, report: &Report, out: &mut K) -> Status
     requires reportable { IsReportable (reported report.now) }
-    requires told { (h : History) × IsHistoryOf (reported report.now) h }
     ensures written { DeliversReport (CountRose (K.faults out.old) (K.faults out.new)) (K.taken out.old) (K.taken out.new) (reported report.now) result }
     ensures later { K.faults out.old ≤ K.faults out.new }
 {
