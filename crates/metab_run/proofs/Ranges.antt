@@ -1,5 +1,5 @@
 -- The factors of a recipe's steps are in the range.
-use Rattle.std.proofs.Common.{◌≡◌, ◌≢◌, ℕ, zero, suc, ◌+◌, ◌*◌, ◌<◌, ◌≤◌, inl, inr, ℤ, pos, ◌*ℤ◌, unsigned_abs, List, [], ◌∷◌, map, length, sym, ap, subst, ◌∙◌, arith, refl}
+use Rattle.std.proofs.Common.{◌≡◌, ℕ, ◌*◌, ◌<◌, ◌≤◌, inl, inr, ℤ, pos, ◌*ℤ◌, unsigned_abs, List, [], ◌∷◌, map, length, sym, ap, subst, ◌∙◌, arith}
 use Rattle.std.specs.Prelude.{◌<ℤ◌}
 use Rattle.std.proofs.lemmas.Int.{unsigned_abs-mul}
 use borrow.Author.Differences.{ints}
@@ -9,16 +9,15 @@ use Rattle.module_vec.specs.declared.places.Term.{Term}
 use Rattle.module_vec.specs.declared.places.Place.{Place}
 use Rattle.module_vec.specs.declared.steps.Step.{Step}
 use Rattle.module_vec.specs.Chains.{taken_at}
-use Rattle.module_vec.specs.Modules.{vector_at, AreSteps}
 use Rattle.module_vec.specs.Places.{moved}
 use Rattle.module_vec.specs.Vectors.{Coefficients, InRange, IsWide, coefficient_at}
 use Rattle.module_vec.specs.Reducers.{AreEntries}
 use Rattle.outcomes.specs.declared.kinds.PairKind.{PairKind}
 use Rattle.step_lists.specs.declared.way.Way.TheVariants.{Add}
 use Rattle.step_lists.specs.Sums.{IsValue, Adds, passed, zero_vector, IsInReach}
-use Rattle.strong_pairs.specs.Pairs.{IsPair, lead_at, pair_place, ArePairSteps}
+use Rattle.strong_pairs.specs.Pairs.{IsPair, lead_at, pair_place}
 use Rattle.strong_pairs.specs.Tasks.{AreStepsAt}
-use Rattle.strong_pairs.proofs.Shifted.{shifted, taken_is, shifted_lead}
+use Rattle.strong_pairs.proofs.Shifted.{taken_is, shifted_lead}
 use Rattle.strong_pairs.proofs.Entered.{lead_positive}
 use Rattle.strong_pairs.proofs.Chaining.{meeting, first-length, second-length}
 use Rattle.pair_book.specs.Logs.{IsPairRecipe, IsFromPair, StandsFor, turned}

@@ -1,6 +1,6 @@
 -- What `gather` is handed, and what it answers.
 use Rattle.std.specs.List.{AllByRecursion}
-use Rattle.std.specs.Prelude.{◌≡◌, ◌≢◌, ◌≤◌, ℕ, ◌+◌, List, ◌∷◌, [], ◌++◌, length, map, take, slice_get, Option, Some, None}
+use Rattle.std.specs.Prelude.{◌≡◌, ◌≢◌, ◌≤◌, ℕ, ◌+◌, List, ◌++◌, length, map, take, slice_get, Option, Some, None}
 use Rattle.presentation.specs.Presented.{Presented}
 use Rattle.outcomes.specs.declared.ends.End.{End}
 use Rattle.session_text.specs.declared.question.Question.{Question}
