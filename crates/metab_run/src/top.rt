@@ -8,8 +8,9 @@ ghost use Rattle.metab_run.specs.Top.{IsDue, ShownTrivial, AsksReport, Finds};
 
 use crate::answer::{Answer, Halt};
 use crate::checking::check;
+use crate::delivery::deliver_report;
 use crate::fox::fox;
-use crate::solo::{deliver_report, solo};
+use crate::solo::solo;
 use crate::status::Status;
 use crate::steps::steps;
 use crate::words::{Command, read_command};
