@@ -1,12 +1,11 @@
 -- From what is read to the report that `solo` finds.
-use Rattle.std.proofs.Common.{◌≡◌, ℕ, ◌+◌, ◌<◌, ◌≤◌, ◌^◌, List, [], ◌∷◌, ◌++◌, length, take, Option, Some, None, slice_get, sym, ap, subst, ◌∙◌, arith, refl}
+use Rattle.std.proofs.Common.{◌≡◌, ℕ, ◌+◌, ◌≤◌, List, [], ◌∷◌, ◌++◌, length, take, Option, sym, ap, subst, ◌∙◌, arith}
 use Rattle.std.specs.List.{AllByRecursion}
 use Rattle.std.specs.Prelude.{IfSome, Ok, Err}
 use Rattle.presentation.specs.Presented.{Presented, IsPresented}
 use Rattle.presentation.specs.Reading.{presentation_text}
 use Rattle.session_text.specs.declared.question.Question.{Question}
 use Rattle.session_text.specs.Questions.{HasSource}
-use Rattle.basis_entry.specs.Entries.{BasisEntry}
 use Rattle.basis_entry.specs.Seals.{item_count}
 use Rattle.pair_book.specs.declared.limits.Limits.{Limits}
 use Rattle.pair_book.specs.Books.{Held, IsOpened}
@@ -26,10 +25,12 @@ use Rattle.metab_run.specs.Words.{SoloAsked}
 use Rattle.metab_run.specs.Files.{in_lines}
 use Rattle.metab_run.specs.SessionFiles.{AreQuestionsIn, AreQuestionsUnder, SessionFails, SessionsFail, SessionsGive, SessionsLead, IsNewSession, AreNewSessions}
 use Rattle.metab_run.specs.Legal.{IsLegal, AreByAll}
-use Rattle.metab_run.specs.Gathering.{questions_of, IsAsker, AreAskers, AreAnsweredOn, AreReplies}
+use Rattle.metab_run.specs.Gathering.{questions_of, AreAskers, AreAnsweredOn, AreReplies}
 use Rattle.metab_run.specs.SoloAnswers.{limits_of, IsFound, ShowsSolo, SoloGives}
 use Rattle.metab_run.proofs.Leading.{gives_lead}
 use Rattle.metab_run.proofs.SessionFiles.{failing_lead}
+use Rattle.metab_run.proofs.TrueAnswers.{solved_answers}
+use Rattle.metab_run.proofs.Accepted.{checks}
 use Rattle.metab_run.proofs.Reportable.{all_from, stands, reportable, told}
 
 -- new sessions ask the book that was opened
@@ -70,13 +71,15 @@ found under q p least ss r presented asked known sources most new legal on accep
       presented = presented;
       questions = questions_of ss;
       asked = asked;
-      known = known;
-      sources = sourced ss sources;
-      solved = record { legal = legal; by_all = by_all };
-      reportable = can;
-      accepted = accepted;
       history = history.0;
-      is_history = history.1;
+      solved = record {
+        legal = legal;
+        by_all = by_all;
+        told = history.1;
+        answers = solved_answers p (limits_of q) (questions_of ss) r history.0 known (sourced ss sources) legal by_all history.1;
+        checked = checks p r history.0 legal.pres (accepted history.0 history.1);
+      };
+      reportable = can;
     }
 
 -- ---- what goes wrong with a session

@@ -1,11 +1,9 @@
 -- The answers of legal reports are true.
-use Rattle.std.proofs.Common.{◌≡◌, ◌≢◌, ℕ, zero, suc, ◌+◌, ◌<◌, ◌≤◌, Bool, true, false, nat_lt, if◌then◌else◌, List, [], ◌∷◌, length, take, Option, Some, None, slice_get, sym, ap, subst, ◌∙◌, arith, refl}
+use Rattle.std.proofs.Common.{◌≡◌, ℕ, ◌+◌, ◌<◌, Bool, true, false, nat_lt, if◌then◌else◌, List, length, take, Option, Some, None, slice_get, sym, ap, subst, ◌∙◌, arith, refl}
 use Rattle.std.specs.List.{AllByRecursion}
 use Rattle.std.specs.Prelude.{IsSome, IfSome}
 use Rattle.std.proofs.lemmas.List.{take_all}
 use Rattle.presentation.specs.Presented.{Presented, IsPresented}
-use Rattle.module_vec.specs.declared.places.Term.{Term}
-use Rattle.module_vec.specs.Reducers.{AreEntries}
 use Rattle.outcomes.specs.declared.ends.End.{End}
 use Rattle.outcomes.specs.declared.ends.End.TheVariants.{Sealed, Stopped, Full, Spent}
 use Rattle.outcomes.specs.declared.verdicts.Verdict.{Verdict}
@@ -22,13 +20,12 @@ use Rattle.session_core.specs.Sessions.{SessionState}
 use Rattle.session_core.specs.Verdicts.{IsSealedFor, IsVerdict}
 use Rattle.session_core.specs.Meaning.{IsExact}
 use Rattle.session_core.proofs.Exactness.{trivial_verdict, extends_verdict, strong_verdict}
-use Rattle.report_text.specs.Answers.{seal_below, vectors_below, IsReplyTo, IsClosing, IsAnswered, IsSessionAnswered, AreAnswered}
+use Rattle.report_text.specs.Answers.{seal_below, IsReplyTo, IsClosing, IsAnswered, IsSessionAnswered}
 use Rattle.report_text.specs.Histories.{Reply, Answered, SessionAnswers, History}
 use Rattle.report_text.specs.Reports.{Reported, IsHistoryOf}
 use Rattle.report_text.proofs.Lists.{all_first}
 use Rattle.session_core.specs.declared.kept.Kept.{Kept}
 use Rattle.metab_run.specs.Legal.{IsLegal, IsLegalSession, AreByAll, seal_at}
-use Rattle.metab_run.specs.SoloAnswers.{IsSolved}
 use Rattle.metab_run.proofs.Fronts.{seal_all}
 use Rattle.metab_run.specs.TrueAnswers.{IsAfterSeal, IsTrueReply, IsTrueAnswer, AreTrueAnswers}
 use Rattle.metab_run.proofs.Reportable.{all_from, all_at, stands}
@@ -154,9 +151,9 @@ after_seal p r front seal all e =
 
 -- where all replies are by all items, they are exact where the log is sealed
 pub solved_answers : (p : Presented) (limits : Limits) (questions : List (List Question)) (r : Reported) (h : History) → IsPresented p → AllByRecursion (AllByRecursion HasSource) questions
-    → IsSolved p limits questions r → IsHistoryOf r h → AreTrueAnswers p (λ a. r.end ≡ Sealed) h
-solved_answers p limits questions r h known sources is told =
-    answers_are p limits questions r known sources is.legal (λ a. r.end ≡ Sealed)
-    (λ a i j s k here kept front e. after_seal p r a.front is.legal.seal
-    (front ∙ all_at (λ (x : Kept). x.front ≡ item_count r.entries r.seal) s.kept j k (all_at (λ (x : SessionState). AreByAll r.entries r.seal x.kept) r.sessions i s is.by_all here) kept) e)
-    (λ a front e. after_seal p r a.front is.legal.seal front e) h told
+    → IsLegal p limits questions r → AllByRecursion (λ s. AreByAll r.entries r.seal s.kept) r.sessions → IsHistoryOf r h → AreTrueAnswers p (λ a. r.end ≡ Sealed) h
+solved_answers p limits questions r h known sources is by_all told =
+    answers_are p limits questions r known sources is (λ a. r.end ≡ Sealed)
+    (λ a i j s k here kept front e. after_seal p r a.front is.seal
+    (front ∙ all_at (λ (x : Kept). x.front ≡ item_count r.entries r.seal) s.kept j k (all_at (λ (x : SessionState). AreByAll r.entries r.seal x.kept) r.sessions i s by_all here) kept) e)
+    (λ a front e. after_seal p r a.front is.seal front e) h told

@@ -1,15 +1,13 @@
 -- What the command `solo` answers.
 use Rattle.std.specs.List.{AllByRecursion}
-use Rattle.std.specs.Prelude.{◌≡◌, ℕ, ◌≤◌, ◌⊎◌, List, [], length, slice_get, Option, Some, IfSome, Result, Ok, Err}
+use Rattle.std.specs.Prelude.{◌≡◌, ℕ, ◌≤◌, ◌⊎◌, List, [], length, Option, IfSome, Result, Ok, Err}
 use Rattle.mb_io.specs.Shelf.{TakesPrefix}
-use Rattle.presentation.specs.Presented.{Presented, IsPresented}
+use Rattle.presentation.specs.Presented.{Presented}
 use Rattle.presentation.specs.Reading.{presentation_text}
 use Rattle.outcomes.specs.declared.ends.End.TheVariants.{Sealed}
 use Rattle.session_text.specs.declared.question.Question.{Question}
-use Rattle.session_text.specs.Questions.{HasSource}
 use Rattle.task_table.specs.declared.order.Order.TheVariants.{ByNumber}
 use Rattle.pair_book.specs.declared.limits.Limits.{Limits}
-use Rattle.session_core.specs.declared.kept.Kept.{Kept}
 use Rattle.session_core.specs.declared.kept.Tag.{Tag}
 use Rattle.session_core.specs.declared.kept.Tag.TheVariants as tags
 use Rattle.session_core.specs.Sessions.{SessionState}
@@ -17,7 +15,6 @@ use Rattle.report_text.specs.declared.report.Report.{Report}
 use Rattle.report_text.specs.Histories.{History}
 use Rattle.report_text.specs.Reports.{Reported, IsReportable, IsHistoryOf, reported, text_of}
 use Rattle.report_text.specs.Writing.{Stops}
-use Rattle.cert_checker.specs.Texts.{TellsWhole}
 use Rattle.report_acceptance.specs.Accepting.{told_amount}
 use Rattle.metab_run.specs.declared.answer.Halt.{Halt}
 use Rattle.metab_run.specs.declared.answer.Halt.TheVariants as halts
@@ -54,26 +51,26 @@ HasNoStop s = AllByRecursion (λ k. IsNoStop k.tag) s.kept
 abbrev pub IsSettled : Reported → Type 0
 IsSettled r = (r.end ≡ Sealed) × AllByRecursion HasNoStop r.sessions
 
--- the report is legal, and all its replies are by all items
-pub record IsSolved (p : Presented) (limits : Limits) (questions : List (List Question)) (r : Reported) : Type 0 where
+-- The report is legal, this is its history, and all replies are by all items. What is answered is true, and exact where the log
+-- is sealed. `check` finds that the text holds
+pub record IsSolved (p : Presented) (limits : Limits) (questions : List (List Question)) (r : Reported) (h : History) : Type 0 where
   pub legal : IsLegal p limits questions r
   pub by_all : AllByRecursion (λ s. AreByAll r.entries r.seal s.kept) r.sessions
+  pub told : IsHistoryOf r h
+  pub answers : AreTrueAnswers p (λ a. r.end ≡ Sealed) h
+  pub checked : ReportLeads p (text_of r h) (holds (told_amount r h))
 
 -- done where the report is settled, and open otherwise
 abbrev pub ShowsSettled : Reported → Status → Type 0
 ShowsSettled r status = ((status ≡ Done) × IsSettled r) ⊎ ((status ≡ Open) × (IsSettled r → ⊥))
 
--- The answer is the text of a legal report, with all replies by all items. What it answers is true, and exact where the log is
--- sealed, and `check` finds that it holds. The run is done exactly where the report is settled
+-- the answer is the text of such a report, and is done exactly where the report is settled
 pub record ShowsSolo (p : Presented) (limits : Limits) (questions : List (List Question)) (a : Answer) : Type 0 where
-  pub told : Reported
-  pub solved : IsSolved p limits questions told
+  pub report : Reported
   pub history : History
-  pub is_history : IsHistoryOf told history
-  pub answers : AreTrueAnswers p (λ a. told.end ≡ Sealed) history
-  pub text : a.text ≡ text_of told history
-  pub checked : ReportLeads p a.text (holds (told_amount told history))
-  pub status : ShowsSettled told a.status
+  pub solved : IsSolved p limits questions report history
+  pub text : a.text ≡ text_of report history
+  pub status : ShowsSettled report a.status
 
 -- the answer that is due to `solo` over these texts; `counted` says that the shelf has counted a failure
 abbrev pub SoloLeads : Type 0 → (List ℕ → Option (List ℕ)) → SoloAsked → Answer → Type 0
@@ -83,19 +80,15 @@ SoloLeads counted under q a =
 
 -- ---- what the code gives
 
--- the report that is found over these texts, with its history
+-- the report that is found over these texts
 pub record IsFound (under : List ℕ → Option (List ℕ)) (q : SoloAsked) (r : Reported) : Type 0 where
   pub p : Presented
   pub presented : IfSome (under q.presentation) (λ bytes. (length bytes ≤ PRESENTATION_BYTES) × (in_lines presentation_text bytes ≡ Ok p))
   pub questions : List (List Question)
   pub asked : AreQuestionsUnder under p q.sessions questions
-  pub known : IsPresented p
-  pub sources : AllByRecursion (AllByRecursion HasSource) questions
-  pub solved : IsSolved p (limits_of q) questions r
-  pub reportable : IsReportable r
-  pub accepted : (h : History) → IsHistoryOf r h → TellsWhole r.pres (text_of r h) (Ok (told_amount r h))
   pub history : History
-  pub is_history : IsHistoryOf r history
+  pub solved : IsSolved p (limits_of q) questions r history
+  pub reportable : IsReportable r
 
 -- what `solo` finds: a report, or the answer that is due, unless memory runs out
 abbrev pub SoloGives : Type 0 → (List ℕ → Option (List ℕ)) → SoloAsked → Result Report Halt → Type 0
@@ -103,10 +96,14 @@ SoloGives counted under q (Ok r) = IsFound under q (reported r)
 SoloGives counted under q (Err (halts.Says a)) = SoloLeads counted under q a
 SoloGives counted under q (Err halts.NoMemory) = Unit {0}
 
--- A report was written: whole, and the status says whether it is settled; or in part, since the sink has failed, which it
--- has counted, or memory ran out.
-abbrev pub DeliversReport : Type 0 → Option (List ℕ) → Option (List ℕ) → Reported → Status → Type 0
-DeliversReport counted old new r status = (h : History) × IsHistoryOf r h × (
+-- A report with its history was written: whole, and the status says whether it is settled; or in part, since the sink has
+-- failed, which it has counted, or memory ran out.
+abbrev pub WritesReport : Type 0 → Option (List ℕ) → Option (List ℕ) → Reported → History → Status → Type 0
+WritesReport counted old new r h status =
     (ShowsSettled r status × TakesPrefix old (text_of r h) new)
     ⊎ ((status ≡ WriteFault) × counted × Stops old (text_of r h) new)
-    ⊎ ((status ≡ NoMemory) × Stops old (text_of r h) new))
+    ⊎ ((status ≡ NoMemory) × Stops old (text_of r h) new)
+
+-- so it is with each history of the report
+abbrev pub DeliversReport : Type 0 → Option (List ℕ) → Option (List ℕ) → Reported → Status → Type 0
+DeliversReport counted old new r status = (h : History) → IsHistoryOf r h → WritesReport counted old new r h status

@@ -3,6 +3,7 @@
 
 mod answer;
 mod checking;
+mod delivery;
 mod files;
 mod fox;
 mod gathering;

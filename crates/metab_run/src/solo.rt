@@ -1,13 +1,10 @@
 //! The command `solo`: a completion, and then the answers to all questions.
 
-ghost use Rattle.std.specs.List.{AllByRecursion};
-ghost use Rattle.std.specs.Prelude.{◌≡◌, ◌≤◌, ◌↔◌, ℕ, List, length, IfErr, IsTrue};
+ghost use Rattle.std.specs.Prelude.{◌≡◌, ◌≤◌, length, IfErr};
 ghost use Rattle.mb_io.specs.Shelf.{CountRose};
-ghost use Rattle.report_text.specs.Histories.{History};
-ghost use Rattle.report_text.specs.Reports.{reported, IsReportable, IsHistoryOf};
 ghost use Rattle.metab_run.specs.Files.{HasCause};
 ghost use Rattle.metab_run.specs.Words.{solo_asked};
-ghost use Rattle.metab_run.specs.SoloAnswers.{limits_of, HasNoStop, IsSettled, SoloGives, DeliversReport};
+ghost use Rattle.metab_run.specs.SoloAnswers.{limits_of, SoloGives};
 ghost use Rattle.metab_run.specs.declared.words.TheConstants.{LEAST_ENTRIES, MOST_ENTRIES, SESSIONS};
 
 use crate::answer::Halt;
@@ -15,17 +12,14 @@ use crate::files::load_presentation;
 use crate::gathering::gather;
 use crate::known::sources_are_known;
 use crate::sessions::load_sessions;
-use crate::status::Status;
 use crate::words::SoloWords;
 use crate::{LOG_STEPS, LOG_TERMS};
-use mb_io::{Shelf, Sink};
+use mb_io::Shelf;
 use module_vec::VecList;
-use outcomes::End;
 use pair_book::laws::generator_entries_are_within;
 use pair_book::{Book, Limits};
 use report_acceptance::reports::report_is_accepted;
-use report_text::{Report, WriteFault, write_report};
-use session_core::{Session, Tag};
+use report_text::Report;
 use std::alloc::Global;
 use std::sync::Arc;
 use task_table::Order;
@@ -44,7 +38,6 @@ fn limits(words: &SoloWords) -> Limits
 }
 
 /// What `solo` finds over these texts: the report of a completion and of the answers to all questions.
-#[tactic(auto, using(crate::proofs::SoloFound::askers, crate::proofs::SoloFound::found))]
 pub fn solo<S: Shelf>(alloc: Global, shelf: &mut S, words: &SoloWords) -> Result<Report, Halt>
     requires least { LEAST_ENTRIES ≤ words.now.entries }
     requires most { words.now.entries ≤ MOST_ENTRIES }
@@ -54,6 +47,7 @@ pub fn solo<S: Shelf>(alloc: Global, shelf: &mut S, words: &SoloWords) -> Result
     ensures later { S.faults shelf.old ≤ S.faults shelf.new }
 {
     let p = load_presentation(alloc, shelf, words.presentation)?;
+    // The proof needs what holds of every presentation, and below of the questions and of the report; the calls say so.
     p.known();
     generator_entries_are_within();
     let p = Arc::new(alloc, p)?;
@@ -64,62 +58,4 @@ pub fn solo<S: Shelf>(alloc: Global, shelf: &mut S, words: &SoloWords) -> Result
     let report = gather(alloc, &p, book, sessions, limits)?;
     report_is_accepted(&report);
     Ok(report)
-}
-
-/// Whether no reply of the session is a stop.
-#[tactic(auto, using(crate::proofs::Settling::none_yet, crate::proofs::Settling::one_more, crate::proofs::Settling::none_stops, crate::proofs::Settling::one_stops))]
-fn has_no_stop(session: &Session) -> bool
-    requires { length session.now.kept ≡ length session.now.questions }
-    ensures { IsTrue result ↔ HasNoStop session.now }
-{
-    for place in 0..session.count() {
-        if let Some(kept) = session.kept(place + 1) {
-            if let Tag::Stop { .. } = kept.tag {
-                return false;
-            }
-        }
-    }
-    true
-}
-
-/// Whether no reply of the sessions is a stop.
-#[tactic(auto, using(report_text::proofs::Lists::all_more, report_text::proofs::Lists::all_taken))]
-fn have_no_stop(sessions: &[Session]) -> bool
-    requires { AllByRecursion (λ s. length s.kept ≡ length s.questions) sessions.now }
-    ensures { IsTrue result ↔ AllByRecursion HasNoStop sessions.now }
-{
-    for session in sessions {
-        if !has_no_stop(session) {
-            return false;
-        }
-    }
-    true
-}
-
-/// Whether the log of the report is sealed, and no reply is a stop.
-fn is_settled(report: &Report) -> bool
-    requires { IsReportable (reported report.now) }
-    ensures { IsTrue result ↔ IsSettled (reported report.now) }
-{
-    report.end == End::Sealed && have_no_stop(&report.sessions)
-}
-
-/// Writes the report, and says how the run ends.
-pub fn deliver_report<K: Sink>(alloc: Global, report: &Report, out: &mut K) -> Status
-    requires reportable { IsReportable (reported report.now) }
-    requires told { (h : History) × IsHistoryOf (reported report.now) h }
-    ensures written { DeliversReport (CountRose (K.faults out.old) (K.faults out.new)) (K.taken out.old) (K.taken out.new) (reported report.now) result }
-    ensures later { K.faults out.old ≤ K.faults out.new }
-{
-    match write_report(alloc, report, out) {
-        Ok(()) => {
-            if is_settled(report) {
-                Status::Done
-            } else {
-                Status::Open
-            }
-        }
-        Err(WriteFault::Failed) => Status::WriteFault,
-        Err(WriteFault::NoMemory) => Status::NoMemory,
-    }
 }

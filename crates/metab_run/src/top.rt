@@ -8,8 +8,9 @@ ghost use Rattle.metab_run.specs.Top.{IsDue, ShownTrivial, AsksReport, Finds};
 
 use crate::answer::{Answer, Halt};
 use crate::checking::check;
+use crate::delivery::deliver_report;
 use crate::fox::fox;
-use crate::solo::{deliver_report, solo};
+use crate::solo::solo;
 use crate::status::Status;
 use crate::steps::steps;
 use crate::words::{Command, read_command};
@@ -54,6 +55,11 @@ fn find<S: Shelf>(alloc: Global, words: &[String], shelf: &mut S) -> Result<Foun
 /// The words are those after the program's name. It waits for nobody and always returns. Words that ask for no command
 /// that is built are refused. Texts are read in the order of the command line, each whole and then parsed before the
 /// next is opened.
+///
+/// `solo` writes a report, line by line: its log is completed, or has the end that is named there, and each question is
+/// answered by all items of the log. A word is called trivial only where moves carry it to the empty word, and a map is said
+/// to extend only where it does. Where the log is sealed, both are said wherever they hold, a limit that is named aside, and
+/// nothing is unknown (Magnus 1939, Lichtblau 2012).
 #[tactic(auto, using(crate::proofs::ReportEnds::report_ends, crate::proofs::ReportEnds::report_shown, crate::proofs::ReportEnds::never_read, crate::proofs::ReportEnds::write_failed))]
 pub fn metab_alone<S: Shelf, K: Sink>(
     alloc: Global,
@@ -62,7 +68,8 @@ pub fn metab_alone<S: Shelf, K: Sink>(
     out: &mut K,
 ) -> Status
     // The answer that is due was written whole, with its status; or the sink failed and took a front of it; or memory
-    // ran out, and nothing was written, or a front of a report.
+    // ran out, and nothing was written, or a front of a report. To `solo` the text of a legal report is due, whose answers
+    // are true, and exact where the log is sealed, and which `check` accepts.
     ensures ends { Ends (AsksReport (command (map string_bytes words.now))) (IsDue (CountRose (S.faults shelf.old) (S.faults shelf.new)) (S.under shelf.old) (map string_bytes words.now))
         (CountRose (K.faults out.old) (K.faults out.new)) (K.taken out.old) (K.taken out.new) result }
 
