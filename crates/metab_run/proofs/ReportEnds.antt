@@ -2,7 +2,6 @@
 use Rattle.std.proofs.Common.{◌≡◌, ◌⊎◌, ℕ, inl, inr, List, [], ◌∷◌, ◌++◌, length, take, Option, Some, sym, ap, subst, ◌∙◌, refl}
 use Rattle.std.specs.List.{AllByRecursion}
 use Rattle.mb_io.specs.Shelf.{TakesPrefix}
-use Rattle.presentation.specs.Reading.{presentation_text}
 use Rattle.outcomes.specs.declared.ends.End.{End}
 use Rattle.outcomes.specs.declared.ends.End.TheVariants as ends
 use Rattle.session_core.specs.declared.kept.Tag.{Tag}
@@ -12,12 +11,10 @@ use Rattle.report_text.specs.Reports.{Reported, text_of}
 use Rattle.report_text.specs.Writing.{Stops}
 use Rattle.metab_run.specs.declared.status.Status.{Status}
 use Rattle.metab_run.specs.declared.status.Status.TheVariants.{Done, Open, WriteFault, NoMemory, ReadFault}
-use Rattle.metab_run.specs.declared.TheConstants.{PRESENTATION_BYTES}
 use Rattle.metab_run.specs.Answers.{Answer}
 use Rattle.metab_run.specs.Words.{Asked, SoloAsked, Solo, command}
-use Rattle.metab_run.specs.Files.{in_lines}
 use Rattle.metab_run.specs.Ends.{Ends}
-use Rattle.metab_run.specs.SoloAnswers.{limits_of, IsNoStop, HasNoStop, ShowsSettled, ShowsSolo, IsFound, IsReady, WritesReport, DeliversReport}
+use Rattle.metab_run.specs.SoloAnswers.{IsNoStop, HasNoStop, ShowsSettled, ShowsSolo, IsFound, IsReady, WritesReport, DeliversReport}
 use Rattle.metab_run.specs.Top.{CommandLeads, IsDue, AsksReport, ShownTrivial}
 
 -- ---- settled or not

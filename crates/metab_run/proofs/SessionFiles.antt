@@ -1,19 +1,13 @@
 -- Sessions that are read one after another.
-use Rattle.std.proofs.Common.{◌≡◌, ◌≢◌, ℕ, zero, suc, ◌+◌, ◌<◌, ◌≤◌, ◌⊎◌, inl, inr, List, [], ◌∷◌, ◌++◌, append-nil, length, take, map, Option, Some, None, Result, Ok, Err, slice_get, slice_index_or, sym, ap, subst, ◌∙◌, arith, refl}
-use Rattle.std.specs.Prelude.{IfSome}
+use Rattle.std.proofs.Common.{◌≡◌, ℕ, zero, suc, ◌+◌, ◌<◌, ◌≤◌, inl, inr, List, [], ◌∷◌, ◌++◌, length, take, Option, Some, slice_get, slice_index_or, sym, ap, subst, arith, refl}
 use denote.Bor.{Bor}
 use Rattle.metab_run.specs.Words.{shown}
-use Rattle.std.proofs.lemmas.List.{append_assoc, map-append}
+use Rattle.std.proofs.lemmas.List.{map-append}
 use Rattle.presentation.specs.Presented.{Presented}
 use Rattle.session_text.specs.declared.question.Question.{Question}
-use Rattle.session_text.specs.declared.fault.SessionFault.{SessionFault}
-use Rattle.session_text.specs.declared.fault.SessionFault.TheVariants as sessions
-use Rattle.session_text.specs.Reading.{session_text}
 use Rattle.session_core.specs.Sessions.{SessionState}
-use Rattle.metab_run.specs.declared.answer.Halt.TheVariants.{Says}
-use Rattle.metab_run.specs.Answers.{Answer}
 use Rattle.metab_run.specs.Gathering.{questions_of}
-use Rattle.metab_run.specs.SessionFiles.{AreQuestionsIn, AreQuestionsUnder, SessionsFail, IsNewSession, AreNewSessions}
+use Rattle.metab_run.specs.SessionFiles.{AreQuestionsIn, AreQuestionsUnder, IsNewSession, AreNewSessions}
 use Rattle.metab_run.proofs.Fronts.{split_get}
 
 -- ---- one after another
@@ -45,7 +39,7 @@ pub one_read : (under : List ℕ → Option (List ℕ)) (p : Presented) (least :
 one_read under p least names n ss name qs s read at own same new =
     let next : suc n ≡ n + 1 = omega arith in
     let all : AreQuestionsUnder under p (take (suc n) names) (questions_of ss ++ s.questions ∷ []) =
-        more_under under p names n name (questions_of ss) s.questions at read.texts (subst (AreQuestionsIn p (under name)) (sym same) own) in
+    more_under under p names n name (questions_of ss) s.questions at read.texts (subst (AreQuestionsIn p (under name)) (sym same) own) in
     let both : questions_of (ss ++ s ∷ []) ≡ questions_of ss ++ s.questions ∷ [] = map-append (λ (x : SessionState). x.questions) ss (s ∷ []) in
     let long = length_more ss in
     record {
@@ -54,9 +48,9 @@ one_read under p least names n ss name qs s read at own same new =
       new = λ i t here. elim (split_get ss (s ∷ []) i t here) [
         | inl h ↦ read.new i t h
         | inr h ↦
-          let one = one_at s t h.0 h.2 in
-          let place : n + 1 ≡ i + 1 = let a : i ≡ length ss + h.0 = h.1 in let b : h.0 ≡ 0 = one.0 in let c = read.count in omega (arith, a, b, c) in
-          subst (λ (m : ℕ). IsNewSession p least m t) place (subst (IsNewSession p least (n + 1)) one.1 new)
+            let one = one_at s t h.0 h.2 in
+            let place : n + 1 ≡ i + 1 = let a : i ≡ length ss + h.0 = h.1 in let b : h.0 ≡ 0 = one.0 in let c = read.count in omega (arith, a, b, c) in
+            subst (λ (m : ℕ). IsNewSession p least m t) place (subst (IsNewSession p least (n + 1)) one.1 new)
       ];
     }
   where

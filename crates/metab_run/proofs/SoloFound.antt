@@ -1,7 +1,7 @@
 -- From what is read to the report that `solo` finds.
 use Rattle.std.proofs.Common.{◌≡◌, inl, inr, ℕ, ◌+◌, ◌≤◌, List, [], ◌∷◌, ◌++◌, length, take, Option, sym, ap, subst, ◌∙◌, arith}
 use Rattle.std.specs.List.{AllByRecursion}
-use Rattle.std.specs.Prelude.{IfSome, Ok, Err}
+use Rattle.std.specs.Prelude.{Ok, Err}
 use Rattle.presentation.specs.Presented.{Presented, IsPresented}
 use Rattle.presentation.specs.Reading.{presentation_text}
 use Rattle.session_text.specs.declared.question.Question.{Question}
@@ -23,7 +23,7 @@ use Rattle.metab_run.specs.declared.answer.Halt.TheVariants.{Says, NoMemory}
 use Rattle.metab_run.specs.Answers.{Answer}
 use Rattle.metab_run.specs.Words.{SoloAsked}
 use Rattle.metab_run.specs.Files.{in_lines, FileGives, HasCause}
-use Rattle.metab_run.specs.SessionFiles.{AreQuestionsIn, AreQuestionsUnder, SessionFails, SessionsFail, SessionsGive, SessionsLead, IsNewSession, AreNewSessions}
+use Rattle.metab_run.specs.SessionFiles.{AreQuestionsIn, AreQuestionsUnder, SessionFails, SessionsFail, SessionsGive, IsNewSession, AreNewSessions}
 use Rattle.metab_run.specs.Legal.{IsLegal, AreByAll}
 use Rattle.metab_run.specs.Gathering.{questions_of, AreAskers, AreAnsweredOn, AreReplies}
 use Rattle.metab_run.specs.SoloAnswers.{limits_of, IsPresentedIn, IsReady, SoloGives}
@@ -59,10 +59,10 @@ pub found : (under : List ℕ → Option (List ℕ)) (q : SoloAsked) (p : Presen
     → ((h : History) → IsHistoryOf r h → TellsWhole r.pres (text_of r h) (Ok (told_amount r h))) → IsReady under q r
 found under q p least ss r presented asked known sources most new legal on accepted =
     let by_all : AllByRecursion (λ s. AreByAll r.entries r.seal s.kept) r.sessions = all_from (λ (s : SessionState). AreByAll r.entries r.seal s.kept) r.sessions (λ i t at.
-        let old = stands r.sessions ss i t at on.count in
-        let is = on.each i old.0 t old.1 at in
-        let kept : t.kept ≡ is.more = ap (λ (x : SessionState). x.kept) is.is ∙ ap (λ (ks : List Kept). ks ++ is.more) (new i old.0 old.1).kept in
-        subst (AreByAll r.entries r.seal) (sym kept) is.by_all) in
+    let old = stands r.sessions ss i t at on.count in
+    let is = on.each i old.0 t old.1 at in
+    let kept : t.kept ≡ is.more = ap (λ (x : SessionState). x.kept) is.is ∙ ap (λ (ks : List Kept). ks ++ is.more) (new i old.0 old.1).kept in
+    subst (AreByAll r.entries r.seal) (sym kept) is.by_all) in
     let can : IsReportable r = can_be_written q p (questions_of ss) r most legal in
     let history = told r can by_all in
     record {

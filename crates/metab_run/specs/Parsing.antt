@@ -1,7 +1,7 @@
 -- How clap reads the words after a command.
-use Rattle.std.specs.Prelude.{◌≡◌, ℕ, List, [], ◌∷◌, ◌++◌, Option, Some, None, map, unwrap_or, true, codes, Result}
+use Rattle.std.specs.Prelude.{ℕ, List, [], ◌∷◌, ◌++◌, Option, Some, None, map, unwrap_or, true, codes}
 use Rattle.clap.specs.Walk.{Row, Rule, all_of}
-use Rattle.clap.specs.Simple.{App, Shape, new_rule, new_shape, on_top, with_rule, matches_of}
+use Rattle.clap.specs.Simple.{App, new_rule, new_shape, on_top, with_rule, matches_of}
 use Rattle.clap.specs.Faults.{fault_of}
 use Rattle.clap.specs.Kinds.{Kinds}
 use Rattle.clap.specs.declared.builder.action.ArgAction.TheVariants.{Set, Append}

@@ -105,7 +105,12 @@ impl Answer {
     }
 
     /// In the session under this name the image of a relator is too long.
-    pub fn image_too_long(alloc: Global, name: &str, line: u32, relator: u32) -> Result<Answer, AllocError>
+    pub fn image_too_long(
+        alloc: Global,
+        name: &str,
+        line: u32,
+        relator: u32,
+    ) -> Result<Answer, AllocError>
         ensures { IfOk result (λ a. a ≡ image_too_long name.now line relator) }
     {
         let text = format!(in alloc; "refused {name} line {line} image-too-long {relator}\n")?;

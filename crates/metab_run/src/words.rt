@@ -155,7 +155,10 @@ fn solo_names<'m, 'a>(words: &'m [&'a str]) -> Option<(&'a str, &'m [&'a str])>
 }
 
 // What `solo` is asked by these words, if its numbers and names are of its form.
-fn solo_asked<'a>(alloc: Global, found: &ArgMatches<'a>) -> Result<Option<SoloWords<'a>>, AllocError>
+fn solo_asked<'a>(
+    alloc: Global,
+    found: &ArgMatches<'a>,
+) -> Result<Option<SoloWords<'a>>, AllocError>
     ensures within { IfOk result (λ words. IfSome words IsWithinTable) }
     ensures is { IfOk result (λ words. option_map solo_asked words ≡ solo_in (rows_of (found_of found.now))) }
 {

@@ -1,12 +1,10 @@
 use Rattle.std.proofs.Common.{rules, ◌≡◌, ◌≤◌, ℕ, List, Option, length, subst, ◌∙◌}
 use Rattle.std.proofs.lemmas.List.{length-map}
-use Rattle.std.specs.Prelude.{IfSome, Ok}
 use Rattle.std.specs.Arc.{arc_value}
 use Rattle.std.specs.List.{AllByRecursion}
 use Rattle.mb_io.specs.Shelf.{CountRose}
 use Rattle.mb_io.proofs.Giving.{rose_later}
 use Rattle.presentation.specs.Presented.{Presented, IsPresented}
-use Rattle.presentation.specs.Reading.{presentation_text}
 use Rattle.session_text.specs.declared.question.Question.{Question}
 use Rattle.session_text.specs.Questions.{HasSource}
 use Rattle.session_core.specs.Sessions.{SessionState}
@@ -15,8 +13,6 @@ use Rattle.basis_entry.specs.declared.TheConstants.{BASE, BASE_TERMS}
 use Rattle.pair_book.specs.declared.limits.Limits.{Limits}
 use Rattle.pair_book.specs.Books.{Held, IsOpened}
 use Rattle.report_text.specs.Reports.{Reported, reported}
-use Rattle.metab_run.specs.declared.TheConstants.{PRESENTATION_BYTES}
-use Rattle.metab_run.specs.Files.{in_lines}
 use Rattle.metab_run.specs.Gathering.{questions_of, AreAnsweredOn}
 use Rattle.metab_run.specs.Legal.{IsLegal}
 use Rattle.metab_run.specs.SessionFiles.{AreQuestionsUnder, AreNewSessions}
@@ -45,8 +41,11 @@ returns-in_err-sessions-clause-gives g c =
     let under : List ℕ → Option (List ℕ) = g.S.Shelf.under c.args.shelf.now in
     let q : SoloAsked = solo_asked c.args.words.now in
     let presented : IsPresentedIn under q c.in_ok-p.p = search rules in
-    search (rules, halted (CountRose mid now) (CountRose before now) (rose_later before mid now c.load_presentation.ensures.later)
-    (g.S.Shelf.under c.load_presentation.new.shelf) under c.load_presentation.ensures.same q c.in_ok-p.p presented)
+    search (
+      rules,
+      halted (CountRose mid now) (CountRose before now) (rose_later before mid now c.load_presentation.ensures.later)
+          (g.S.Shelf.under c.load_presentation.new.shelf) under c.load_presentation.ensures.same q c.in_ok-p.p presented,
+    )
 
 pub gather-requires-clause-sessions : goal.gather-requires-clause-sessions
 gather-requires-clause-sessions g c =
