@@ -2,7 +2,6 @@
 use Rattle.std.proofs.Common.{◌≡◌, ◌⊎◌, ℕ, inl, inr, List, [], ◌∷◌, ◌++◌, length, take, Option, Some, sym, ap, subst, ◌∙◌, refl}
 use Rattle.std.specs.List.{AllByRecursion}
 use Rattle.mb_io.specs.Shelf.{TakesPrefix}
-use Rattle.presentation.specs.Reading.{presentation_text}
 use Rattle.outcomes.specs.declared.ends.End.{End}
 use Rattle.outcomes.specs.declared.ends.End.TheVariants as ends
 use Rattle.session_core.specs.declared.kept.Tag.{Tag}
@@ -12,16 +11,11 @@ use Rattle.report_text.specs.Reports.{Reported, text_of}
 use Rattle.report_text.specs.Writing.{Stops}
 use Rattle.metab_run.specs.declared.status.Status.{Status}
 use Rattle.metab_run.specs.declared.status.Status.TheVariants.{Done, Open, WriteFault, NoMemory, ReadFault}
-use Rattle.metab_run.specs.declared.TheConstants.{PRESENTATION_BYTES}
 use Rattle.metab_run.specs.Answers.{Answer}
 use Rattle.metab_run.specs.Words.{Asked, SoloAsked, Solo, command}
-use Rattle.metab_run.specs.Files.{in_lines}
 use Rattle.metab_run.specs.Ends.{Ends}
-use Rattle.metab_run.specs.SessionFiles.{SessionsLead}
-use Rattle.metab_run.specs.SoloAnswers.{limits_of, IsNoStop, HasNoStop, ShowsSettled, ShowsSolo, SoloLeads, IsFound, WritesReport, DeliversReport}
+use Rattle.metab_run.specs.SoloAnswers.{IsNoStop, HasNoStop, ShowsSettled, ShowsSolo, IsFound, IsReady, WritesReport, DeliversReport}
 use Rattle.metab_run.specs.Top.{CommandLeads, IsDue, AsksReport, ShownTrivial}
-use Rattle.metab_run.proofs.Leading.{gives_lead}
-use Rattle.metab_run.proofs.SessionFiles.{all_lead}
 
 -- ---- settled or not
 
@@ -63,16 +57,12 @@ some_status r = settled_by r (sealed_or r.end) (all_or HasNoStop (λ s. all_or (
 abbrev told_answer : Reported → History → Status → Answer
 told_answer r h status = record { status = status; text = text_of r h }
 
-due : (counted : Type 0) (under : List ℕ → Option (List ℕ)) (words : List (List ℕ)) (q : SoloAsked) (r : Reported) (found : IsFound under q r) (status : Status) → command words ≡ Some (Solo q)
-    → ShowsSettled r status → IsDue counted under words (told_answer r found.history status)
-due counted under words q r found status asks settled =
-    let a : Answer = told_answer r found.history status in
-    let shows : ShowsSolo found.p (limits_of q) found.questions a = record { report = r; history = found.history; solved = found.solved; text = refl; status = settled } in
-    let leads : SoloLeads counted under q a =
-    gives_lead counted PRESENTATION_BYTES q.presentation (under q.presentation) (in_lines presentation_text)
-    (λ p. SessionsLead counted under p q.sessions [] (ShowsSolo p (limits_of q))) found.p a found.presented
-    (all_lead counted under found.p q.sessions found.questions [] (ShowsSolo found.p (limits_of q)) a found.asked shows) in
-    subst (λ (c : Option Asked). CommandLeads counted under c a) (sym asks) leads
+due : (counted : Type 0) (under : List ℕ → Option (List ℕ)) (words : List (List ℕ)) (q : SoloAsked) (r : Reported) (h : History) (status : Status) → command words ≡ Some (Solo q)
+    → IsFound under q r h → ShowsSettled r status → IsDue counted under words (told_answer r h status)
+due counted under words q r h status asks found settled =
+    let a : Answer = told_answer r h status in
+    let shows : ShowsSolo under q a = record { report = r; history = h; found = found; text = refl; status = settled } in
+    subst (λ (c : Option Asked). CommandLeads counted under c a) (sym asks) (inl shows)
 
 take_front : (xs ys : List ℕ) → take (length xs) (xs ++ ys) ≡ xs
 take_front [] ys = refl
@@ -80,18 +70,18 @@ take_front (x ∷ xs) ys = ap (λ (zs : List ℕ). x ∷ zs) (take_front xs ys)
 
 -- ---- how it ends
 
-module _ (counted : Type 0) (under : List ℕ → Option (List ℕ)) (words : List (List ℕ)) (q : SoloAsked) (r : Reported) (asks : command words ≡ Some (Solo q)) (found : IsFound under q r)
+module _ (counted : Type 0) (under : List ℕ → Option (List ℕ)) (words : List (List ℕ)) (q : SoloAsked) (r : Reported) (asks : command words ≡ Some (Solo q)) (ready : IsReady under q r)
     (failed : Type 0) (old new : Option (List ℕ)) where
   abbrev text : List ℕ
-  text = text_of r found.history
+  text = text_of r ready.history
 
   part : Stops old text new → (a : Answer) × (n : ℕ) × IsDue counted under words a × TakesPrefix old (take n a.text) new
   part stops =
       let status = some_status r in
       let front : take (length stops.front) text ≡ stops.front = ap (take (length stops.front)) stops.is ∙ take_front stops.front stops.rest in (
-        told_answer r found.history status.0,
+        told_answer r ready.history status.0,
         length stops.front,
-        due counted under words q r found status.0 asks status.1,
+        due counted under words q r ready.history status.0 asks ready.found status.1,
         subst (λ (bs : List ℕ). TakesPrefix old bs new) (sym front) stops.took,
       )
 
@@ -100,20 +90,20 @@ module _ (counted : Type 0) (under : List ℕ → Option (List ℕ)) (words : Li
 
   whole : (status : Status) → ShowsSettled r status → TakesPrefix old text new → goes status
   whole status (inl settled) took =
-      subst goes (sym settled.0) (told_answer r found.history Done, due counted under words q r found Done asks (inl (refl, settled.1)), refl, took)
+      subst goes (sym settled.0) (told_answer r ready.history Done, due counted under words q r ready.history Done asks ready.found (inl (refl, settled.1)), refl, took)
   whole status (inr settled) took =
-      subst goes (sym settled.0) (told_answer r found.history Open, due counted under words q r found Open asks (inr (refl, settled.1)), refl, took)
+      subst goes (sym settled.0) (told_answer r ready.history Open, due counted under words q r ready.history Open asks ready.found (inr (refl, settled.1)), refl, took)
 
   reports : AsksReport (command words)
   reports = subst AsksReport (sym asks) tt
 
-  ends_by : (status : Status) → WritesReport failed old new r found.history status → goes status
+  ends_by : (status : Status) → WritesReport failed old new r ready.history status → goes status
   ends_by status (inl d) = whole status d.0 d.1
   ends_by status (inr (inl d)) = subst goes (sym d.0) (d.1, part d.2)
   ends_by status (inr (inr d)) = subst goes (sym d.0) (inr (reports, part d.1))
 
   pub report_ends : (status : Status) → DeliversReport failed old new r status → Ends (AsksReport (command words)) (IsDue counted under words) failed old new status
-  report_ends status d = ends_by status (d found.history found.solved.told)
+  report_ends status d = ends_by status (d ready.history ready.found.solved.told)
 
   pub report_shown : ShownTrivial under (command words)
   report_shown = subst (ShownTrivial under) (sym asks) tt
@@ -132,10 +122,10 @@ module _ (failed : Type 0) (old new : Option (List ℕ)) (r : Reported) (status 
   has_failed h (inr (inl d)) e = d.1
   has_failed h (inr (inr d)) e = absurd (let x : NoMemory ≡ WriteFault = sym d.0 ∙ e in cc)
 
-pub never_read : (under : List ℕ → Option (List ℕ)) (q : SoloAsked) (r : Reported) → IsFound under q r → (failed : Type 0) (old new : Option (List ℕ)) (status : Status)
+pub never_read : (under : List ℕ → Option (List ℕ)) (q : SoloAsked) (r : Reported) → IsReady under q r → (failed : Type 0) (old new : Option (List ℕ)) (status : Status)
     → DeliversReport failed old new r status → status ≡ ReadFault → ⊥
-never_read under q r found failed old new status d e = no_read failed old new r status found.history (d found.history found.solved.told) e
+never_read under q r ready failed old new status d e = no_read failed old new r status ready.history (d ready.history ready.found.solved.told) e
 
-pub write_failed : (under : List ℕ → Option (List ℕ)) (q : SoloAsked) (r : Reported) → IsFound under q r → (failed : Type 0) (old new : Option (List ℕ)) (status : Status)
+pub write_failed : (under : List ℕ → Option (List ℕ)) (q : SoloAsked) (r : Reported) → IsReady under q r → (failed : Type 0) (old new : Option (List ℕ)) (status : Status)
     → DeliversReport failed old new r status → status ≡ WriteFault → failed
-write_failed under q r found failed old new status d e = has_failed failed old new r status found.history (d found.history found.solved.told) e
+write_failed under q r ready failed old new status d e = has_failed failed old new r status ready.history (d ready.history ready.found.solved.told) e

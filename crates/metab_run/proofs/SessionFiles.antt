@@ -1,66 +1,14 @@
 -- Sessions that are read one after another.
-use Rattle.std.proofs.Common.{◌≡◌, ℕ, zero, suc, ◌+◌, ◌<◌, ◌≤◌, inl, inr, List, [], ◌∷◌, ◌++◌, append-nil, length, take, Option, Some, None, Result, Err, slice_get, slice_index_or, sym, ap, subst, arith, refl}
+use Rattle.std.proofs.Common.{◌≡◌, ℕ, zero, suc, ◌+◌, ◌<◌, ◌≤◌, inl, inr, List, [], ◌∷◌, ◌++◌, length, take, Option, Some, slice_get, slice_index_or, sym, ap, subst, arith, refl}
 use denote.Bor.{Bor}
 use Rattle.metab_run.specs.Words.{shown}
-use Rattle.std.proofs.lemmas.List.{append_assoc, map-append}
+use Rattle.std.proofs.lemmas.List.{map-append}
 use Rattle.presentation.specs.Presented.{Presented}
 use Rattle.session_text.specs.declared.question.Question.{Question}
-use Rattle.session_text.specs.declared.fault.SessionFault.{SessionFault}
-use Rattle.session_text.specs.declared.fault.SessionFault.TheVariants as sessions
 use Rattle.session_core.specs.Sessions.{SessionState}
-use Rattle.metab_run.specs.declared.answer.Halt.TheVariants.{Says}
-use Rattle.metab_run.specs.Answers.{Answer}
 use Rattle.metab_run.specs.Gathering.{questions_of}
-use Rattle.metab_run.specs.SessionFiles.{QuestionsLead, SessionLeads, SessionsLead, RefusesSession, SessionFails, AreQuestionsIn, AreQuestionsUnder, SessionsFail, IsNewSession, AreNewSessions}
+use Rattle.metab_run.specs.SessionFiles.{AreQuestionsIn, AreQuestionsUnder, IsNewSession, AreNewSessions}
 use Rattle.metab_run.proofs.Fronts.{split_get}
-
--- ---- what is due
-
--- a session that has no questions leads to its answer, whatever would come next
-refused_leads : (name : List ℕ) (f : SessionFault) (next : List Question → Answer → Type 0) (a : Answer) → RefusesSession name f (Says a) → QuestionsLead name (Err f) next a
-refused_leads name (sessions.Text f) next a h = h
-refused_leads name (sessions.ImageTooLong line relator) next a h = h
-refused_leads name sessions.NoMemory next a h = absurd h
-
-pub fails_lead : (counted later : Type 0) → (counted → later) → (p : Presented) (name : List ℕ) (told : Option (List ℕ)) (next : List Question → Answer → Type 0) (a : Answer)
-    → SessionFails counted p name told a → SessionLeads later p name told next a
-fails_lead counted later on p name told next a (inl h) = inl (on h.0, h.1)
-fails_lead counted later on p name None next a (inr h) = inr tt
-fails_lead counted later on p name (Some bytes) next a (inr (inl h)) = inr (inl h)
-fails_lead counted later on p name (Some bytes) next a (inr (inr h)) =
-    inr (inr (h.0, subst (λ (r : Result (List Question) SessionFault). QuestionsLead name r next a) (sym h.1.1) (refused_leads name h.1.0 next a h.1.2)))
-
-gives_lead : (counted : Type 0) (p : Presented) (name : List ℕ) (told : Option (List ℕ)) (next : List Question → Answer → Type 0) (qs : List Question) (a : Answer)
-    → AreQuestionsIn p told qs → next qs a → SessionLeads counted p name told next a
-gives_lead counted p name None next qs a is on = inr tt
-gives_lead counted p name (Some bytes) next qs a is on = inr (inr (is.0, subst (λ (r : Result (List Question) SessionFault). QuestionsLead name r next a) (sym is.1) on))
-
--- sessions that all have questions lead to what comes next
-pub all_lead : (counted : Type 0) (under : List ℕ → Option (List ℕ)) (p : Presented) (names : List (List ℕ)) (qss before : List (List Question))
-    (next : List (List Question) → Answer → Type 0) (a : Answer) → AreQuestionsUnder under p names qss → next (before ++ qss) a → SessionsLead counted under p names before next a
-all_lead counted under p [] [] before next a are on = subst (λ (all : List (List Question)). next all a) (append-nil before) on
-all_lead counted under p [] (qs ∷ qss) before next a are on = absurd are
-all_lead counted under p (name ∷ names) [] before next a are on = absurd are
-all_lead counted under p (name ∷ names) (qs ∷ qss) before next a are on =
-    gives_lead counted p name (under name) (λ qs. SessionsLead counted under p names (before ++ qs ∷ []) next) qs a are.0
-    (all_lead counted under p names qss (before ++ qs ∷ []) next a are.1 (subst (λ (all : List (List Question)). next all a) (sym (append_assoc before (qs ∷ []) qss)) on))
-
-failing_at : (counted later : Type 0) → (counted → later) → (under : List ℕ → Option (List ℕ)) (p : Presented) (names : List (List ℕ)) (i : ℕ) (name : List ℕ) (qss before : List (List Question))
-    (next : List (List Question) → Answer → Type 0) (a : Answer) → slice_get names i ≡ Some name → AreQuestionsUnder under p (take i names) qss → SessionFails counted p name (under name) a
-    → SessionsLead later under p names before next a
-failing_at counted later on under p [] i name qss before next a at are fails = absurd (cc)
-failing_at counted later on under p (n ∷ names) zero name qss before next a at are fails =
-    let e : n ≡ name = cc in
-    fails_lead counted later on p n (under n) (λ qs. SessionsLead later under p names (before ++ qs ∷ []) next) a (subst (λ (m : List ℕ). SessionFails counted p m (under m) a) (sym e) fails)
-failing_at counted later on under p (n ∷ names) (suc i) name [] before next a at are fails = absurd are
-failing_at counted later on under p (n ∷ names) (suc i) name (qs ∷ qss) before next a at are fails =
-    gives_lead later p n (under n) (λ qs. SessionsLead later under p names (before ++ qs ∷ []) next) qs a are.0
-    (failing_at counted later on under p names i name qss (before ++ qs ∷ []) next a at are.1 fails)
-
--- a session without questions leads to its answer
-pub failing_lead : (counted later : Type 0) → (counted → later) → (under : List ℕ → Option (List ℕ)) (p : Presented) (names : List (List ℕ)) (next : List (List Question) → Answer → Type 0) (a : Answer)
-    → SessionsFail counted under p names a → SessionsLead later under p names [] next a
-failing_lead counted later on under p names next a f = failing_at counted later on under p names f.place f.name f.before [] next a f.is f.read f.fails
 
 -- ---- one after another
 

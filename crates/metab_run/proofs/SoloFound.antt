@@ -1,7 +1,7 @@
 -- From what is read to the report that `solo` finds.
-use Rattle.std.proofs.Common.{◌≡◌, ℕ, ◌+◌, ◌≤◌, List, [], ◌∷◌, ◌++◌, length, take, Option, sym, ap, subst, ◌∙◌, arith}
+use Rattle.std.proofs.Common.{◌≡◌, inl, inr, ℕ, ◌+◌, ◌≤◌, List, [], ◌∷◌, ◌++◌, length, take, Option, sym, ap, subst, ◌∙◌, arith}
 use Rattle.std.specs.List.{AllByRecursion}
-use Rattle.std.specs.Prelude.{IfSome, Ok, Err}
+use Rattle.std.specs.Prelude.{Ok, Err}
 use Rattle.presentation.specs.Presented.{Presented, IsPresented}
 use Rattle.presentation.specs.Reading.{presentation_text}
 use Rattle.session_text.specs.declared.question.Question.{Question}
@@ -22,13 +22,11 @@ use Rattle.metab_run.specs.declared.answer.Halt.{Halt}
 use Rattle.metab_run.specs.declared.answer.Halt.TheVariants.{Says, NoMemory}
 use Rattle.metab_run.specs.Answers.{Answer}
 use Rattle.metab_run.specs.Words.{SoloAsked}
-use Rattle.metab_run.specs.Files.{in_lines}
-use Rattle.metab_run.specs.SessionFiles.{AreQuestionsIn, AreQuestionsUnder, SessionFails, SessionsFail, SessionsGive, SessionsLead, IsNewSession, AreNewSessions}
+use Rattle.metab_run.specs.Files.{in_lines, FileGives, HasCause}
+use Rattle.metab_run.specs.SessionFiles.{AreQuestionsIn, AreQuestionsUnder, SessionFails, SessionsFail, SessionsGive, IsNewSession, AreNewSessions}
 use Rattle.metab_run.specs.Legal.{IsLegal, AreByAll}
 use Rattle.metab_run.specs.Gathering.{questions_of, AreAskers, AreAnsweredOn, AreReplies}
-use Rattle.metab_run.specs.SoloAnswers.{limits_of, IsFound, ShowsSolo, SoloGives}
-use Rattle.metab_run.proofs.Leading.{gives_lead}
-use Rattle.metab_run.proofs.SessionFiles.{failing_lead}
+use Rattle.metab_run.specs.SoloAnswers.{limits_of, IsPresentedIn, IsReady, SoloGives}
 use Rattle.metab_run.proofs.TrueAnswers.{solved_answers}
 use Rattle.metab_run.proofs.Accepted.{checks}
 use Rattle.metab_run.proofs.Reportable.{all_from, stands, reportable, told}
@@ -55,9 +53,10 @@ pub can_be_written : (q : SoloAsked) (p : Presented) (questions : List (List Que
 can_be_written q p questions r most legal = reportable p (limits_of q) questions r legal (omega (arith, most))
 
 pub found : (under : List ℕ → Option (List ℕ)) (q : SoloAsked) (p : Presented) (least : ℕ) (ss : List SessionState) (r : Reported)
-    → IfSome (under q.presentation) (λ bytes. (length bytes ≤ PRESENTATION_BYTES) × (in_lines presentation_text bytes ≡ Ok p)) → AreQuestionsUnder under p q.sessions (questions_of ss)
-    → IsPresented p → AllByRecursion (λ s. AllByRecursion HasSource s.questions) ss → q.entries ≤ MOST_ENTRIES → AreNewSessions p least ss → IsLegal p (limits_of q) (questions_of ss) r → AreAnsweredOn p r.entries r.seal ss r.sessions
-    → ((h : History) → IsHistoryOf r h → TellsWhole r.pres (text_of r h) (Ok (told_amount r h))) → IsFound under q r
+    → IsPresentedIn under q p → AreQuestionsUnder under p q.sessions (questions_of ss)
+    → IsPresented p → AllByRecursion (λ s. AllByRecursion HasSource s.questions) ss → q.entries ≤ MOST_ENTRIES → AreNewSessions p least ss
+    → IsLegal p (limits_of q) (questions_of ss) r → AreAnsweredOn p r.entries r.seal ss r.sessions
+    → ((h : History) → IsHistoryOf r h → TellsWhole r.pres (text_of r h) (Ok (told_amount r h))) → IsReady under q r
 found under q p least ss r presented asked known sources most new legal on accepted =
     let by_all : AllByRecursion (λ s. AreByAll r.entries r.seal s.kept) r.sessions = all_from (λ (s : SessionState). AreByAll r.entries r.seal s.kept) r.sessions (λ i t at.
     let old = stands r.sessions ss i t at on.count in
@@ -67,19 +66,21 @@ found under q p least ss r presented asked known sources most new legal on accep
     let can : IsReportable r = can_be_written q p (questions_of ss) r most legal in
     let history = told r can by_all in
     record {
-      p = p;
-      presented = presented;
-      questions = questions_of ss;
-      asked = asked;
-      history = history.0;
-      solved = record {
-        legal = legal;
-        by_all = by_all;
-        told = history.1;
-        answers = solved_answers p (limits_of q) (questions_of ss) r history.0 known (sourced ss sources) legal by_all history.1;
-        checked = checks p r history.0 legal.pres (accepted history.0 history.1);
-      };
       reportable = can;
+      history = history.0;
+      found = record {
+        p = p;
+        presented = presented;
+        questions = questions_of ss;
+        asked = asked;
+        solved = record {
+          legal = legal;
+          by_all = by_all;
+          told = history.1;
+          answers = solved_answers p (limits_of q) (questions_of ss) r history.0 known (sourced ss sources) legal by_all history.1;
+          checked = checks p r history.0 legal.pres (accepted history.0 history.1);
+        };
+      };
     }
 
 -- ---- what goes wrong with a session
@@ -91,14 +92,18 @@ module _ (u v : List ℕ → Option (List ℕ)) (same : (n : List ℕ) → u n �
   questions_same p (name ∷ names) [] are = absurd are
   questions_same p (name ∷ names) (qs ∷ qss) are = (subst (λ (told : Option (List ℕ)). AreQuestionsIn p told qs) (same name) are.0, questions_same p names qss are.1)
 
-  fail_same : (counted : Type 0) (p : Presented) (names : List (List ℕ)) (a : Answer) → SessionsFail counted u p names a → SessionsFail counted v p names a
-  fail_same counted p names a fail = record {
+  fails_same : (counted later : Type 0) → (counted → later) → (p : Presented) (name : List ℕ) (told : Option (List ℕ)) (a : Answer) → SessionFails counted p name told a → SessionFails later p name told a
+  fails_same counted later on p name told a (inl h) = inl (on h.0, h.1)
+  fails_same counted later on p name told a (inr h) = inr h
+
+  fail_same : (counted later : Type 0) → (counted → later) → (p : Presented) (names : List (List ℕ)) (a : Answer) → SessionsFail counted u p names a → SessionsFail later v p names a
+  fail_same counted later on p names a fail = record {
     place = fail.place;
     name = fail.name;
     is = fail.is;
     before = fail.before;
     read = questions_same p (take fail.place names) fail.before fail.read;
-    fails = subst (λ (told : Option (List ℕ)). SessionFails counted p fail.name told a) (same fail.name) fail.fails;
+    fails = fails_same counted later on p fail.name (v fail.name) a (subst (λ (told : Option (List ℕ)). SessionFails counted p fail.name told a) (same fail.name) fail.fails);
   }
 
 -- the questions of sessions that were read from a shelf which tells the same
@@ -106,10 +111,14 @@ pub asked_same : (u v : List ℕ → Option (List ℕ)) → ((n : List ℕ) → 
     → AreQuestionsUnder u p names qss → AreQuestionsUnder v p names qss
 asked_same u v same p names qss are = questions_same u v same p names qss are
 
--- where a session has no questions, that is what `solo` finds
-pub halted : (counted later : Type 0) → (counted → later) → (u v : List ℕ → Option (List ℕ)) → ((n : List ℕ) → u n ≡ v n) → (q : SoloAsked) (p : Presented) (halt : Halt)
-    → IfSome (v q.presentation) (λ bytes. (length bytes ≤ PRESENTATION_BYTES) × (in_lines presentation_text bytes ≡ Ok p)) → SessionsGive counted u p q.sessions (Err halt) → SoloGives later v q (Err halt)
-halted counted later on u v same q p (Says a) presented fail =
-    gives_lead later PRESENTATION_BYTES q.presentation (v q.presentation) (in_lines presentation_text) (λ x. SessionsLead later v x q.sessions [] (ShowsSolo x (limits_of q))) p a presented
-    (failing_lead counted later on v p q.sessions (ShowsSolo p (limits_of q)) a (fail_same u v same counted p q.sessions a fail))
-halted counted later on u v same q p NoMemory presented fail = tt
+-- what `solo` finds where the presentation's text has no value
+pub not_presented : (counted : Type 0) (under : List ℕ → Option (List ℕ)) (q : SoloAsked) (halt : Halt) → HasCause counted halt
+    → FileGives (λ (p : Presented). p) counted PRESENTATION_BYTES q.presentation (under q.presentation) (in_lines presentation_text) (Err halt) → SoloGives counted under q (Err halt)
+not_presented counted under q (Says a) cause fails = inr (cause.0, cause.1, inl fails)
+not_presented counted under q NoMemory cause fails = tt
+
+-- and where a session's text has none
+pub halted : (counted later : Type 0) → (counted → later) → (u v : List ℕ → Option (List ℕ)) → ((n : List ℕ) → u n ≡ v n) → (q : SoloAsked) (p : Presented) → IsPresentedIn v q p
+    → (halt : Halt) → HasCause counted halt → SessionsGive counted u p q.sessions (Err halt) → SoloGives later v q (Err halt)
+halted counted later on u v same q p presented (Says a) cause fail = inr (cause.0, cause.1, inr (p, presented, fail_same u v same counted later on p q.sessions a fail))
+halted counted later on u v same q p presented NoMemory cause fail = tt

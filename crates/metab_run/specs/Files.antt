@@ -11,7 +11,7 @@ use Rattle.free_words.specs.declared.letter.Letter.{Letter}
 use Rattle.word_text.specs.Machine.{finding}
 use Rattle.word_text.specs.Place.{placed, word_text}
 use Rattle.presentation.specs.Presented.{Presented}
-use Rattle.metab_run.specs.declared.status.Status.TheVariants.{Done, ReadFault}
+use Rattle.metab_run.specs.declared.status.Status.TheVariants.{Done, Open, ReadFault}
 use Rattle.metab_run.specs.Answers.{Answer, unread, too_long, refused}
 
 -- a reader whose faults have a line and a column
@@ -63,10 +63,10 @@ Refuses name (faults.Text f) (Says a) = a ≡ refused name f
 Refuses name faults.NoMemory (Says a) = ⊥
 Refuses name fault NoMemory = Unit {0}
 
--- a command that goes no further has done nothing, and says that a text could not be read only where the shelf has
--- counted it
+-- a command that goes no further has done nothing and reports nothing, and says that a text could not be read only where the
+-- shelf has counted it
 abbrev pub HasCause : Type 0 → Halt → Type 0
-HasCause counted (Says a) = (a.status ≢ Done) × (a.status ≡ ReadFault → counted)
+HasCause counted (Says a) = (a.status ≢ Done) × (a.status ≢ Open) × (a.status ≡ ReadFault → counted)
 HasCause counted NoMemory = Unit {0}
 
 -- what reading a word of the command line answers: its value, or what is wrong

@@ -1,6 +1,6 @@
 -- What the texts of sessions that a command reads lead to.
 use Rattle.std.specs.List.{AllByRecursion}
-use Rattle.std.specs.Prelude.{◌≡◌, ℕ, ◌+◌, ◌<◌, ◌≤◌, ◌⊎◌, List, [], ◌∷◌, ◌++◌, length, take, slice_get, Option, Some, IfSome, Result, Ok, Err, Vec}
+use Rattle.std.specs.Prelude.{◌≡◌, ℕ, ◌+◌, ◌<◌, ◌≤◌, ◌⊎◌, List, [], ◌∷◌, length, take, slice_get, Option, Some, IfSome, Result, Ok, Err, Vec}
 use Rattle.std.specs.declared.alloc.Global.{Global}
 use Rattle.presentation.specs.Presented.{Presented}
 use Rattle.session_text.specs.declared.TheConstants.{QUESTIONS}
@@ -16,30 +16,6 @@ use Rattle.metab_run.specs.declared.answer.Halt.TheVariants.{Says, NoMemory}
 use Rattle.metab_run.specs.declared.TheConstants.{SESSION_BYTES}
 use Rattle.metab_run.specs.Answers.{Answer, unread, too_long, refused, image_too_long}
 use Rattle.metab_run.specs.Gathering.{questions_of}
-
--- ---- what is due
-
--- a session that was parsed: its first fault is the answer, or its questions go on
-abbrev pub QuestionsLead : List ℕ → Result (List Question) SessionFault → (List Question → Answer → Type 0) → Answer → Type 0
-QuestionsLead name (Ok qs) next a = next qs a
-QuestionsLead name (Err (sessions.Text f)) next a = a ≡ refused name f
-QuestionsLead name (Err (sessions.ImageTooLong line relator)) next a = a ≡ image_too_long name line relator
-QuestionsLead name (Err sessions.NoMemory) next a = ⊥
-
--- The session under a name is read whole and then parsed. Reading it failed, which the shelf has counted; or, where the
--- shelf tells the bytes, they lead to the answer.
-abbrev pub SessionLeads : Type 0 → Presented → List ℕ → Option (List ℕ) → (List Question → Answer → Type 0) → Answer → Type 0
-SessionLeads counted p name told next a =
-    (counted × (a ≡ unread name)) ⊎ IfSome told (λ bytes.
-    ((SESSION_BYTES < length bytes) × (a ≡ too_long name SESSION_BYTES)) ⊎ ((length bytes ≤ SESSION_BYTES) × QuestionsLead name (session_text p bytes) next a))
-
--- the sessions under these names behind others, each read whole and parsed before the next is opened
-abbrev pub SessionsLead : Type 0 → (List ℕ → Option (List ℕ)) → Presented → List (List ℕ) → List (List Question) → (List (List Question) → Answer → Type 0) → Answer → Type 0
-SessionsLead counted under p [] before next a = next before a
-SessionsLead counted under p (name ∷ names) before next a =
-    SessionLeads counted p name (under name) (λ qs. SessionsLead counted under p names (before ++ qs ∷ []) next) a
-
--- ---- what the code gives
 
 -- the answer to what is wrong with a session
 abbrev pub RefusesSession : List ℕ → SessionFault → Halt → Type 0

@@ -1,6 +1,6 @@
 -- What the command `solo` answers.
 use Rattle.std.specs.List.{AllByRecursion}
-use Rattle.std.specs.Prelude.{◌≡◌, ℕ, ◌≤◌, ◌⊎◌, List, [], length, Option, IfSome, Result, Ok, Err}
+use Rattle.std.specs.Prelude.{◌≡◌, ◌≢◌, ℕ, ◌≤◌, ◌⊎◌, List, length, Option, IfSome, Result, Ok, Err}
 use Rattle.mb_io.specs.Shelf.{TakesPrefix}
 use Rattle.presentation.specs.Presented.{Presented}
 use Rattle.presentation.specs.Reading.{presentation_text}
@@ -24,8 +24,8 @@ use Rattle.metab_run.specs.declared.TheConstants.{PRESENTATION_BYTES, LOG_TERMS,
 use Rattle.metab_run.specs.Answers.{Answer}
 use Rattle.metab_run.specs.CheckAnswers.{holds, ReportLeads}
 use Rattle.metab_run.specs.Words.{SoloAsked}
-use Rattle.metab_run.specs.Files.{in_lines, FileLeads}
-use Rattle.metab_run.specs.SessionFiles.{SessionsLead, AreQuestionsUnder}
+use Rattle.metab_run.specs.Files.{in_lines, FileFails}
+use Rattle.metab_run.specs.SessionFiles.{SessionsFail, AreQuestionsUnder}
 use Rattle.metab_run.specs.Legal.{IsLegal, AreByAll}
 use Rattle.metab_run.specs.TrueAnswers.{AreTrueAnswers}
 
@@ -64,35 +64,47 @@ pub record IsSolved (p : Presented) (limits : Limits) (questions : List (List Qu
 abbrev pub ShowsSettled : Reported → Status → Type 0
 ShowsSettled r status = ((status ≡ Done) × IsSettled r) ⊎ ((status ≡ Open) × (IsSettled r → ⊥))
 
+-- p is the presentation of its text, where the shelf tells that
+abbrev pub IsPresentedIn : (List ℕ → Option (List ℕ)) → SoloAsked → Presented → Type 0
+IsPresentedIn under q p = IfSome (under q.presentation) (λ bytes. (length bytes ≤ PRESENTATION_BYTES) × (in_lines presentation_text bytes ≡ Ok p))
+
+-- the texts have these values, where the shelf tells them, and this is a solved report on them
+pub record IsFound (under : List ℕ → Option (List ℕ)) (q : SoloAsked) (r : Reported) (h : History) : Type 0 where
+  pub p : Presented
+  pub presented : IsPresentedIn under q p
+  pub questions : List (List Question)
+  pub asked : AreQuestionsUnder under p q.sessions questions
+  pub solved : IsSolved p (limits_of q) questions r h
+
 -- the answer is the text of such a report, and is done exactly where the report is settled
-pub record ShowsSolo (p : Presented) (limits : Limits) (questions : List (List Question)) (a : Answer) : Type 0 where
+pub record ShowsSolo (under : List ℕ → Option (List ℕ)) (q : SoloAsked) (a : Answer) : Type 0 where
   pub report : Reported
   pub history : History
-  pub solved : IsSolved p limits questions report history
+  pub found : IsFound under q report history
   pub text : a.text ≡ text_of report history
   pub status : ShowsSettled report a.status
 
+-- Nothing is reported: the presentation's text has no value, or it has one, and one of the sessions' texts has none
+abbrev pub SoloFails : Type 0 → (List ℕ → Option (List ℕ)) → SoloAsked → Answer → Type 0
+SoloFails counted under q a = (a.status ≢ Done) × (a.status ≢ Open) × (
+    FileFails counted PRESENTATION_BYTES q.presentation (under q.presentation) (in_lines presentation_text) a
+    ⊎ ((p : Presented) × IsPresentedIn under q p × SessionsFail counted under p q.sessions a))
+
 -- the answer that is due to `solo` over these texts; `counted` says that the shelf has counted a failure
 abbrev pub SoloLeads : Type 0 → (List ℕ → Option (List ℕ)) → SoloAsked → Answer → Type 0
-SoloLeads counted under q a =
-    FileLeads counted PRESENTATION_BYTES q.presentation (under q.presentation) (in_lines presentation_text)
-    (λ p. SessionsLead counted under p q.sessions [] (ShowsSolo p (limits_of q))) a
+SoloLeads counted under q a = ShowsSolo under q a ⊎ SoloFails counted under q a
 
 -- ---- what the code gives
 
--- the report that is found over these texts
-pub record IsFound (under : List ℕ → Option (List ℕ)) (q : SoloAsked) (r : Reported) : Type 0 where
-  pub p : Presented
-  pub presented : IfSome (under q.presentation) (λ bytes. (length bytes ≤ PRESENTATION_BYTES) × (in_lines presentation_text bytes ≡ Ok p))
-  pub questions : List (List Question)
-  pub asked : AreQuestionsUnder under p q.sessions questions
-  pub history : History
-  pub solved : IsSolved p (limits_of q) questions r history
+-- the report can be written, and has a history, with which it is the one that is to be found
+pub record IsReady (under : List ℕ → Option (List ℕ)) (q : SoloAsked) (r : Reported) : Type 0 where
   pub reportable : IsReportable r
+  pub history : History
+  pub found : IsFound under q r history
 
 -- what `solo` finds: a report, or the answer that is due, unless memory runs out
 abbrev pub SoloGives : Type 0 → (List ℕ → Option (List ℕ)) → SoloAsked → Result Report Halt → Type 0
-SoloGives counted under q (Ok r) = IsFound under q (reported r)
+SoloGives counted under q (Ok r) = IsReady under q (reported r)
 SoloGives counted under q (Err (halts.Says a)) = SoloLeads counted under q a
 SoloGives counted under q (Err halts.NoMemory) = Unit {0}
 

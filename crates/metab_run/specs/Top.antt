@@ -9,7 +9,7 @@ use Rattle.metab_run.specs.Words.{SoloAsked, Asked, Steps, Fox, Check, Solo, com
 use Rattle.metab_run.specs.Steps.{StepsLead, AskedTrivial}
 use Rattle.metab_run.specs.FoxAnswers.{FoxLeads}
 use Rattle.metab_run.specs.CheckAnswers.{CheckLeads, AskedTrue}
-use Rattle.metab_run.specs.SoloAnswers.{SoloLeads, IsFound}
+use Rattle.metab_run.specs.SoloAnswers.{SoloLeads, IsReady}
 
 -- the answer that is due to a command, or to words that ask for none
 abbrev pub CommandLeads : Type 0 → (List ℕ → Option (List ℕ)) → Option Asked → Answer → Type 0
@@ -43,4 +43,4 @@ ShownTrivial under (Some (Solo q)) = Unit {0}
 -- what is found for these words: the answer that is due, or a report
 abbrev pub Finds : Type 0 → (List ℕ → Option (List ℕ)) → List (List ℕ) → Found → Type 0
 Finds counted under words (Says a) = IsDue counted under words a × (a.status ≡ Done → ShownTrivial under (command words)) × (a.status ≡ ReadFault → counted)
-Finds counted under words (Reports r) = (q : SoloAsked) × (command words ≡ Some (Solo q)) × IsFound under q (reported r)
+Finds counted under words (Reports r) = (q : SoloAsked) × (command words ≡ Some (Solo q)) × IsReady under q (reported r)

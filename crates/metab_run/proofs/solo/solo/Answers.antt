@@ -1,12 +1,10 @@
 use Rattle.std.proofs.Common.{rules, ◌≡◌, ◌≤◌, ℕ, List, Option, length, subst, ◌∙◌}
 use Rattle.std.proofs.lemmas.List.{length-map}
-use Rattle.std.specs.Prelude.{IfSome, Ok}
 use Rattle.std.specs.Arc.{arc_value}
 use Rattle.std.specs.List.{AllByRecursion}
 use Rattle.mb_io.specs.Shelf.{CountRose}
 use Rattle.mb_io.proofs.Giving.{rose_later}
 use Rattle.presentation.specs.Presented.{Presented, IsPresented}
-use Rattle.presentation.specs.Reading.{presentation_text}
 use Rattle.session_text.specs.declared.question.Question.{Question}
 use Rattle.session_text.specs.Questions.{HasSource}
 use Rattle.session_core.specs.Sessions.{SessionState}
@@ -15,14 +13,12 @@ use Rattle.basis_entry.specs.declared.TheConstants.{BASE, BASE_TERMS}
 use Rattle.pair_book.specs.declared.limits.Limits.{Limits}
 use Rattle.pair_book.specs.Books.{Held, IsOpened}
 use Rattle.report_text.specs.Reports.{Reported, reported}
-use Rattle.metab_run.specs.declared.TheConstants.{PRESENTATION_BYTES}
-use Rattle.metab_run.specs.Files.{in_lines}
 use Rattle.metab_run.specs.Gathering.{questions_of, AreAnsweredOn}
 use Rattle.metab_run.specs.Legal.{IsLegal}
 use Rattle.metab_run.specs.SessionFiles.{AreQuestionsUnder, AreNewSessions}
-use Rattle.metab_run.specs.SoloAnswers.{limits_of}
+use Rattle.metab_run.specs.SoloAnswers.{limits_of, IsPresentedIn}
 use Rattle.metab_run.specs.Words.{SoloAsked, solo_asked}
-use Rattle.metab_run.proofs.SoloFound.{askers, can_be_written, found, halted, asked_same}
+use Rattle.metab_run.proofs.SoloFound.{askers, can_be_written, found, not_presented, halted, asked_same}
 use Rattle.metab_run.proofs.solo.solo.Goals as goal
 
 pub open-requires-clause-within : goal.open-requires-clause-within
@@ -34,15 +30,21 @@ open-requires-clause-within g c =
     let terms : BASE_TERMS ≤ limits.terms = search rules in
     c.generator_entries_are_within.ensures p limits known entries terms
 
+pub returns-in_err-p-clause-gives : goal.returns-in_err-p-clause-gives
+returns-in_err-p-clause-gives g c = search (rules, not_presented)
+
 pub returns-in_err-sessions-clause-gives : goal.returns-in_err-sessions-clause-gives
 returns-in_err-sessions-clause-gives g c =
     let before : ℕ = g.S.Shelf.faults c.args.shelf.now in
     let mid : ℕ = g.S.Shelf.faults c.load_presentation.new.shelf in
     let now : ℕ = g.S.Shelf.faults c.load_sessions.new.shelf in
+    let under : List ℕ → Option (List ℕ) = g.S.Shelf.under c.args.shelf.now in
+    let q : SoloAsked = solo_asked c.args.words.now in
+    let presented : IsPresentedIn under q c.in_ok-p.p = search rules in
     search (
       rules,
       halted (CountRose mid now) (CountRose before now) (rose_later before mid now c.load_presentation.ensures.later)
-          (g.S.Shelf.under c.load_presentation.new.shelf) (g.S.Shelf.under c.args.shelf.now) c.load_presentation.ensures.same (solo_asked c.args.words.now) c.in_ok-p.p,
+          (g.S.Shelf.under c.load_presentation.new.shelf) under c.load_presentation.ensures.same q c.in_ok-p.p presented,
     )
 
 pub gather-requires-clause-sessions : goal.gather-requires-clause-sessions
@@ -76,7 +78,7 @@ returns-clause-gives g c =
     let source : c.deref.result.now ≡ p = search rules in
     let arc : arc_value c.in_ok-p-2.p ≡ p = search rules in
     let bounds : c.limits-limits.result ≡ limits_of q = search rules in
-    let presented : IfSome (under q.presentation) (λ bytes. (length bytes ≤ PRESENTATION_BYTES) × (in_lines presentation_text bytes ≡ Ok p)) = search rules in
+    let presented : IsPresentedIn under q p = search rules in
     let asked : AreQuestionsUnder (g.S.Shelf.under c.load_presentation.new.shelf) p q.sessions (questions_of ss) = search rules in
     let sources : AllByRecursion (λ s. AllByRecursion HasSource s.questions) ss = search rules in
     let new : AreNewSessions p c.count.result ss = subst (λ (x : Presented). AreNewSessions x c.count.result ss) source c.in_ok-sessions.ensures.new in
