@@ -1,12 +1,11 @@
 -- Merging the terms of v with those of the multiple q·t·g: what holds after each term of g.
 use Rattle.std.proofs.Common.{◌≡◌, ℕ, suc, ◌+◌, ◌<◌, ◌≤◌, ℤ, pos, ◌+ℤ◌, ◌-ℤ◌, ◌*ℤ◌, Bool, true, false, cond, List, [], ◌∷◌, ◌++◌, length, length-append, take, drop, get_or, ◌⊎◌, inl, inr, refl, sym, ap, ◌∙◌, arith, subst, append_assoc}
-use Rattle.std.specs.Prelude.{Some, None, take_while}
-use Rattle.std.specs.List.{AllByRecursion, prefix_len}
-use Rattle.std.proofs.lemmas.List.{take-append-drop}
-use Rattle.std.proofs.lemmas.List.Folds.{length-prefix_len}
-use Rattle.std.specs.Ordering.{is_gt, ordering_reverse}
+use Rattle.std.specs.Prelude.{Some, None}
+use Rattle.std.specs.List.{AllByRecursion}
+use Rattle.std.proofs.lemmas.List.{take_more, take-append-drop, drop_all}
+use Rattle.std.specs.Ordering.{is_gt, is_eq, ordering_reverse}
 use Rattle.std.specs.declared.cmp.Ordering.{Ordering}
-use Rattle.std.specs.declared.cmp.Ordering.TheVariants.{Less, Equal, Greater}
+use Rattle.std.specs.declared.cmp.Ordering.TheVariants.{Greater}
 use borrow.Author.Differences.{ints}
 use Rattle.formal_sums.specs.FormalSum.{AllBelow}
 use Rattle.formal_sums.proofs.Falling.{coefficient-above, AllBelow_transitive, AllAbove_transitive}
@@ -16,30 +15,38 @@ use Rattle.module_vec.specs.declared.places.Term.{Term}
 use Rattle.module_vec.specs.Places.{place_cmp, IsBelow, same_place, moved}
 use Rattle.module_vec.specs.Vectors.{sum_of, coefficient_at, multiple, multiple_at, difference_at, InRange, IsWide, IsTerm, IsSparse}
 use Rattle.module_vec.specs.Results.{DifferenceIsWide, IsGreatest}
-use Rattle.module_vec.specs.Merging.{IsFound, stands_above, BeginsAtMost, Passes, BeginsElsewhere, TakesFirst, Subtracts}
+use Rattle.module_vec.specs.Merging.{IsFound, BeginsAtMost, Passes, BeginsElsewhere, TakesFirst, PassesTo, begins_at, Meets, Subtracts}
 use Rattle.module_vec.proofs.Order.{place_total, test, order, moved_below}
 use Rattle.module_vec.proofs.FallingTerms.{all_drop, falls_drop, drop_read, Above, Below, Falls, all_insert, all_remove, all_back, above_join, below_from_first, falls_insert, falls_remove, falls_back, at_join, at_above, at_below}
 
 -- ---- the front that stands above a place
 
-above_test : (p : Place) (t : Term) → stands_above p t ≡ true → IsBelow p t.at
-above_test p t e = by (place_cmp t.at p) refl
-  where
-    by : (r : Ordering) → place_cmp t.at p ≡ r → IsBelow p t.at
-    by Less h = let wrong : false ≡ true = ap is_gt (sym h) ∙ e in cc
-    by Equal h = let wrong : false ≡ true = ap is_gt (sym h) ∙ e in cc
-    by Greater h = place_total.antisymm p t.at ∙ ap ordering_reverse h
+-- one more term stands above p
+pub above_more : (p : Place) (v : List Term) (n : ℕ) (t : Term) → Above p (take n v) → n < length v → t ≡ get_or v n t → place_cmp t.at p ≡ Greater → Above p (take (n + 1) v)
+above_more p v n t above h is greater =
+    let more : take (n + 1) v ≡ take n v ++ t ∷ [] = take_more v n t h ∙ ap (λ u. take n v ++ u ∷ []) (sym is) in
+    let below : IsBelow p t.at = place_total.antisymm p t.at ∙ ap ordering_reverse greater in
+    subst (Above p) (sym more) (above_join p (take n v) (t ∷ []) above (below, tt))
 
-not_above_test : (p : Place) (t : Term) → stands_above p t ≡ false → IsBelow p t.at → ⊥
-not_above_test p t e h = let wrong : true ≡ false = ap is_gt (sym (place_total.antisymm t.at p ∙ ap ordering_reverse h)) ∙ e in cc
+not_below : (p : Place) (t : Term) (r : Ordering) → place_cmp t.at p ≡ r → is_gt r ≡ false → IsBelow p t.at → ⊥
+not_below p t r e none h = let wrong : true ≡ false = ap is_gt (sym (place_total.antisymm t.at p ∙ ap ordering_reverse h) ∙ e) ∙ none in cc
 
-parts : (p : Place) (v : List Term) → Above p (take (prefix_len (stands_above p) v) v) × BeginsAtMost p (drop (prefix_len (stands_above p) v) v)
-parts p [] = (tt, tt)
-parts p (t ∷ v) = by (stands_above p t) refl (parts p v)
-  where
-    by : (b : Bool) → stands_above p t ≡ b → Above p (take (prefix_len (stands_above p) v) v) × BeginsAtMost p (drop (prefix_len (stands_above p) v) v) → Above p (take (cond b (1 + prefix_len (stands_above p) v) 0) (t ∷ v)) × BeginsAtMost p (drop (cond b (1 + prefix_len (stands_above p) v) 0) (t ∷ v))
-    by true e rest = let next : 1 + prefix_len (stands_above p) v ≡ suc (prefix_len (stands_above p) v) = omega arith in rw next ((above_test p t e, rest.0), rest.1)
-    by false e rest = (tt, not_above_test p t e)
+-- the term with number n doesn't stand above p
+pub meets : (p : Place) (v : List Term) (n : ℕ) (t : Term) (r : Ordering) → Above p (take n v) → n < length v → t ≡ get_or v n t → place_cmp t.at p ≡ r → is_gt r ≡ false → Meets p v n (is_eq r)
+meets p v n t r above h is e none =
+    let here : drop n v ≡ t ∷ drop (n + 1) v = drop_read v n t h is in
+    record {
+      bound = omega arith;
+      above = above;
+      stays = subst (BeginsAtMost p) (sym here) (not_below p t r e none);
+      next = ap is_eq (sym e) ∙ ap (begins_at p) (sym here);
+    }
+
+-- all terms stand above p
+pub meets_none : (p : Place) (v : List Term) (n : ℕ) → Above p (take n v) → n ≤ length v → length v ≤ n → Meets p v n false
+meets_none p v n above bound whole =
+    let none : drop n v ≡ [] = drop_all n v whole in
+    record { bound = bound; above = above; stays = subst (BeginsAtMost p) (sym none) tt; next = ap (begins_at p) (sym none) }
 
 -- ---- coefficients in range
 
@@ -113,17 +120,41 @@ pub record Put (p : Place) (before made rest : List Term) (z : ℤ) : Type 0 whe
   pub above : (x : Place) → IsBelow x p → Above x made
   pub is : (x : Place) → coefficient_at (made ++ rest) x ≡ coefficient_at before x +ℤ single p z x
 
-pub passes : (p : Place) (made rest made' rest' : List Term) (n : ℕ) → n ≡ length (take_while (stands_above p) rest) → made' ≡ made ++ take n rest → rest' ≡ drop n rest → Passes p made rest made' rest'
-passes p made rest made' rest' n e f h =
-    let count : n ≡ prefix_len (stands_above p) rest = e ∙ length-prefix_len (stands_above p) rest in
-    let split : Above p (take n rest) × BeginsAtMost p (drop n rest) = rw count (parts p rest) in
+pub passes : (p : Place) (made rest made' from : List Term) (n : ℕ) (met : Bool) → Meets p rest n met → made' ≡ made ++ take n rest → from ≡ drop n rest → Passes p made rest made' from
+passes p made rest made' from n met meeting moved left = record {
+  front = take n rest;
+  moved = moved;
+  split = sym (take-append-drop n rest) ∙ ap (λ r. take n rest ++ r) (sym left);
+  above = meeting.above;
+  stays = subst (BeginsAtMost p) (sym left) meeting.stays;
+}
+
+-- the next term stands at p
+pub passes_met : (p : Place) (made rest made' from : List Term) (n : ℕ) (first : Term) (behind : List Term) → Meets p rest n true → made' ≡ made ++ take n rest → from ≡ drop n rest → from ≡ first ∷ behind → PassesTo p made rest made' first.k behind
+passes_met p made rest made' from n first behind meeting moved left is =
+    let stands : true ≡ same_place first.at p = meeting.next ∙ ap (begins_at p) (sym left ∙ is) in
+    let place : first.at ≡ p = test.sound first.at p (sym stands) in
     record {
-      front = take n rest;
-      moved = f;
-      split = sym (take-append-drop n rest) ∙ ap (λ r. take n rest ++ r) (sym h);
-      above = split.0;
-      stays = rw h split.1;
+      from = from;
+      passed = passes p made rest made' from n true meeting moved left;
+      taken = inl (is ∙ (λ i. record { at = place i; k = first.k } ∷ behind));
     }
+
+-- it doesn't
+pub passes_not_met : (p : Place) (made rest made' from : List Term) (n : ℕ) (met : Bool) → Meets p rest n met → begins_at p from ≡ false → made' ≡ made ++ take n rest → from ≡ drop n rest → PassesTo p made rest made' (pos 0) from
+passes_not_met p made rest made' from n met meeting none moved left = record {
+  from = from;
+  passed = passes p made rest made' from n met meeting moved left;
+  taken = inr (refl, refl, elsewhere from none);
+}
+  where
+    elsewhere : (v : List Term) → begins_at p v ≡ false → BeginsElsewhere p v
+    elsewhere [] e = tt
+    elsewhere (t ∷ v) e = λ same. let wrong : true ≡ false = sym (test.reflexive p) ∙ ap (λ q. same_place q p) (sym same) ∙ e in cc
+
+pub begins_nowhere : (p : Place) (v : List Term) → length v ≡ 0 → begins_at p v ≡ false
+begins_nowhere p [] e = refl
+begins_nowhere p (t ∷ v) e = absurd (omega (arith, e))
 
 -- ---- one term of g
 

@@ -1,5 +1,5 @@
 -- The order of places: strict and total, exact, and kept by multiples.
-use Rattle.std.proofs.Common.{◌≡◌, ℕ, ◌≤◌, List, length, refl, sym, ◌∙◌, arith, rules}
+use Rattle.std.proofs.Common.{◌≡◌, ℕ, ◌≤◌, List, length, refl, sym, ap, ◌∙◌, arith, rules}
 use Rattle.std.specs.declared.cmp.Ordering.{Ordering}
 use Rattle.std.specs.declared.cmp.Ordering.TheVariants.{Less, Equal, Greater}
 use Rattle.std.specs.Ordering.{nat_cmp, ordering_then, on, then_cmp}
@@ -7,6 +7,7 @@ use Rattle.std.specs.Cmp.{IsTotalOrder}
 use Rattle.std.specs.Cmp.Rules.{comparing}
 use Rattle.std.proofs.lemmas.Map.Lookups.{exact_unsigned}
 use Rattle.formal_sums.specs.Keys.{IsEqualityTest, IsStrictOrder}
+use Rattle.std.proofs.lemmas.Cmp.{tied_itself}
 use Rattle.formal_sums.proofs.Keys.{cmp_test, cmp_order}
 use Rattle.laurent_terms.specs.Monomials.{mono_cmp, degree}
 use Rattle.laurent_terms.proofs.Ranks.{mono_cmp_total, mono_cmp_exact, mono_cmp-product}
@@ -53,3 +54,6 @@ below_degree p q h = by (nat_cmp (degree p.m) (degree q.m)) refl
     by Less e = grind arith
     by Equal e = grind arith
     by Greater e = let wrong : Greater ≡ Less = sym (rw e refl) ∙ h in cc
+
+pub place_itself : (p q : Place) → p ≡ q → Equal ≡ place_cmp p q
+place_itself p q e = sym (ap (place_cmp p) (sym e) ∙ tied_itself place_total p)

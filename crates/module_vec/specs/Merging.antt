@@ -1,6 +1,5 @@
 -- How the terms of a vector and those of a multiple are merged.
-use Rattle.std.specs.Ordering.{is_gt}
-use Rattle.std.specs.Prelude.{◌≡◌, ◌≢◌, ◌⊎◌, ℤ, pos, ◌-ℤ◌, ◌*ℤ◌, Bool, List, [], ◌∷◌, ◌++◌, Option, Some, None, Result, Ok, Err, length, ◌<◌, ◌≤◌}
+use Rattle.std.specs.Prelude.{◌≡◌, ◌≢◌, ◌⊎◌, ℕ, ℤ, pos, ◌-ℤ◌, ◌*ℤ◌, Bool, false, List, [], ◌∷◌, ◌++◌, Option, Some, None, Result, Ok, Err, length, take, drop, ◌<◌, ◌≤◌}
 use Rattle.module_vec.specs.declared.TheConstants.{TERMS}
 use Rattle.formal_sums.specs.FormalSum.{AllAbove}
 use Rattle.module_vec.specs.declared.places.Place.{Place}
@@ -8,7 +7,7 @@ use Rattle.module_vec.specs.declared.places.Term.{Term}
 use Rattle.module_vec.specs.declared.faults.Stop.TheVariants.{Wide, Long, Deep, Steep}
 use Rattle.module_vec.specs.declared.faults.VecFault.{VecFault}
 use Rattle.module_vec.specs.declared.faults.VecFault.TheVariants as faults
-use Rattle.module_vec.specs.Places.{IsBelow, place_cmp}
+use Rattle.module_vec.specs.Places.{IsBelow, same_place}
 use Rattle.module_vec.specs.Vectors.{Coefficients, sum_of, InRange, IsWide, IsSparse}
 use Rattle.module_vec.specs.Results.{Has, Nowhere, IsGreatest}
 
@@ -25,10 +24,6 @@ FailsBy P (faults.Stop (Long terms n)) = ⊥
 FailsBy P (faults.Stop Deep) = ⊥
 FailsBy P (faults.Stop (Steep d)) = ⊥
 FailsBy P faults.NoMemory = Unit {0}
-
--- whether t stands above p
-abbrev pub stands_above : Place → Term → Bool
-stands_above p t = is_gt (place_cmp t.at p)
 
 -- the first term of v doesn't stand above p
 abbrev pub BeginsAtMost : Place → List Term → Type 0
@@ -51,6 +46,24 @@ BeginsElsewhere p (t ∷ v) = t.at ≢ p
 -- k is the coefficient of the first term of v if that stands at p, and v' follows
 abbrev pub TakesFirst : Place → List Term → ℤ → List Term → Type 0
 TakesFirst p v k v' = (v ≡ record { at = p; k = k } ∷ v') ⊎ ((k ≡ pos 0) × (v' ≡ v) × BeginsElsewhere p v)
+
+-- the same in one: what stood above p in `rest` is now behind `made`, k is the coefficient at p, and rest' follows
+pub record PassesTo (p : Place) (made rest made' : List Term) (k : ℤ) (rest' : List Term) : Type 0 where
+  pub from : List Term
+  pub passed : Passes p made rest made' from
+  pub taken : TakesFirst p from k rest'
+
+-- whether the first term of v stands at p
+abbrev pub begins_at : Place → List Term → Bool
+begins_at p [] = false
+begins_at p (t ∷ v) = same_place t.at p
+
+-- the first n terms of v stand above p, and the next one doesn't; `met` is whether that stands at p
+pub record Meets (p : Place) (v : List Term) (n : ℕ) (met : Bool) : Type 0 where
+  pub bound : n ≤ length v
+  pub above : AllAbove IsBelow p (sum_of (take n v))
+  pub stays : BeginsAtMost p (drop n v)
+  pub next : met ≡ begins_at p (drop n v)
 
 -- q·k is taken from a
 abbrev pub Subtracts : ℤ → ℤ → ℤ → Option ℤ → Type 0

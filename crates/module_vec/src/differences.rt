@@ -1,14 +1,15 @@
 //! A multiple of one vector taken from another: their terms are merged once.
 
-ghost use Rattle.std.specs.Prelude.{◌≡◌, ◌≤◌, ◌+◌, length, MatchResult, IfOk, take_while};
+ghost use Rattle.std.specs.Prelude.{◌≡◌, ◌≤◌, ◌+◌, length, MatchResult, IfOk};
 ghost use Rattle.module_vec.specs.Vectors.{coefficient_at, multiple_at, difference_at, InRange, IsVector, HasRoom};
 ghost use Rattle.module_vec.specs.Results.{DifferenceIsWide};
-ghost use Rattle.module_vec.specs.Merging.{IsFound, FailsBy, Passes, TakesFirst, Subtracts, stands_above};
+ghost use Rattle.module_vec.specs.Merging.{IsFound, FailsBy, PassesTo, Meets, Subtracts};
 
 use crate::range::{checked_difference, checked_product};
 use crate::{Place, Stop, Term, VecFault};
 use laurent_terms::Mono;
 use std::alloc::{AllocError, Global};
+use std::cmp::Ordering;
 
 /// The terms of `v - q·t·g`, of which there may be more than a vector has.
 pub fn difference(
@@ -38,8 +39,7 @@ pub fn difference(
             m: t.product(&term.at.m),
             c: term.at.c,
         };
-        let from = pass(&mut made, rest, &at)?;
-        let (before, behind) = take_first(from, &at);
+        let (before, behind) = pass(&mut made, rest, &at)?;
         rest = behind;
         let Some(k) = reduced(before, q, term.k) else {
             return Err(VecFault::Stop(Stop::Wide { at, step: 0 }));
@@ -52,31 +52,37 @@ pub fn difference(
     Ok(made)
 }
 
-/// Moves what stands above `at` from the front of `rest` to the end of `made`, and gives what is left of `rest`.
-fn pass<'a>(made: &mut Vec<Term>, rest: &'a [Term], at: &Place) -> Result<&'a [Term], AllocError>
-    ensures { IfOk result (λ left. Passes at.now made.old.items rest.now made.new.items left.now) }
+/// Moves what stands above `at` from the front of `rest` to the end of `made`, and gives the coefficient at `at` and what
+/// follows it in `rest`.
+fn pass<'a>(
+    made: &mut Vec<Term>,
+    rest: &'a [Term],
+    at: &Place,
+) -> Result<(i128, &'a [Term]), AllocError>
+    ensures { IfOk result (λ left. PassesTo at.now made.old.items rest.now made.new.items left.0 left.1.now) }
 {
-    let (front, left) = rest.split_at(count_above(rest, at));
+    let (above, met) = meet(rest, at);
+    let (front, left) = rest.split_at(above);
     made.extend_from_slice(front)?;
-    Ok(left)
-}
-
-/// How many terms at the front of `v` stand above `at`.
-fn count_above(v: &[Term], at: &Place) -> usize
-    ensures is { result ≡ length (take_while (stands_above at.now) v.now) }
-    ensures bound { result ≤ length v.now }
-{
-    v.iter().take_while(|u| u.at.compare(at).is_gt()).count()
-}
-
-/// The coefficient of the first term, if that stands at `at`, and the terms behind it.
-fn take_first<'a>(rest: &'a [Term], at: &Place) -> (i128, &'a [Term])
-    ensures { TakesFirst at.now rest.now result.0 result.1.now }
-{
-    match rest.split_first() {
-        Some((first, behind)) if first.at == *at => (first.k, behind),
-        _ => (0, rest),
+    match left.split_first() {
+        Some((first, behind)) if met => Ok((first.k, behind)),
+        _ => Ok((0, left)),
     }
+}
+
+/// How many terms at the front of `v` stand above `at`, and whether the next one stands at `at`.
+fn meet(v: &[Term], at: &Place) -> (usize, bool)
+    ensures { Meets at.now v.now result.0 result.1 }
+{
+    let mut above = 0;
+    for u in v {
+        match u.at.compare(at) {
+            Ordering::Greater => above += 1,
+            Ordering::Equal => return (above, true),
+            Ordering::Less => return (above, false),
+        }
+    }
+    (above, false)
 }
 
 /// `before - q * k`, or `None` where the product or the difference leaves the range.

@@ -28,6 +28,7 @@ impl Place {
     {
         // Most comparisons end at the degree.
         match self.m.degree().cmp(&other.m.degree()) {
+            Ordering::Equal if self == other => Ordering::Equal,
             Ordering::Equal => self.cmp(other),
             unequal => unequal,
         }

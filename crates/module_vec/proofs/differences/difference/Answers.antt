@@ -14,7 +14,7 @@ use Rattle.module_vec.specs.declared.places.Place.{Place}
 use Rattle.module_vec.specs.declared.places.Term.{Term}
 use Rattle.module_vec.specs.Vectors.{coefficient_at, multiple_at, difference_at, IsTerm}
 use Rattle.module_vec.specs.Results.{DifferenceIsWide}
-use Rattle.module_vec.specs.Merging.{IsFound}
+use Rattle.module_vec.specs.Merging.{IsFound, PassesTo}
 
 pub product-requires : goal.product-requires
 product-requires c =
@@ -24,29 +24,31 @@ product-requires c =
 pub returns-in_default : goal.returns-in_default
 returns-in_default c =
     let q : FitsSigned w128 c.args.q = search rules in
-    let k : FitsSigned w128 c.take_first-before.result.0 = search rules in
+    let k : FitsSigned w128 c.in_ok-before.before = search rules in
     let e : FitsSigned w128 c.term-item.result.k = search rules in
     let state = simp to_z-of_z at c.loop-term.invariant.state in
     let wide = simp to_z-of_z at c.in_default.ensures in
-    let place : Place = record { m = c.product.result; c = c.term-item.result.at.c } in (
+    let place : Place = record { m = c.product.result; c = c.term-item.result.at.c } in
+    let passed : PassesTo place c.loop-term.made.items c.loop-term.rest.now c.pass.new.made.items c.in_ok-before.before c.in_ok-before.behind.now = c.in_ok-before.ensures in (
       refl,
-      step_wide c.args.v.now c.args.q c.args.t.now c.args.g.now c.loop-term.made.items c.loop-term.rest.now (drop (c.loop-term.term-index + 1) c.args.g.now) c.term-item.result c.pass.new.made.items c.in_ok-from.from.now c.take_first-before.result.1.now c.take_first-before.result.0 place
-          (found_at c.args.v.now c.args.q c.args.t.now c.args.g.now c.loop-term.made.items c.loop-term.rest.now c.loop-term.term-index c.term-item.result c.pass.new.made.items c.in_ok-from.from.now c.take_first-before.result.1.now c.take_first-before.result.0 place state c.requires.g.sparse c.loop-term-test.true c.term-item.is c.degree.ensures.monomial.variables (λ j. record { m = c.product.ensures.is j; c = c.term-item.result.at.c }) c.in_ok-from.ensures c.take_first-before.ensures)
+      step_wide c.args.v.now c.args.q c.args.t.now c.args.g.now c.loop-term.made.items c.loop-term.rest.now (drop (c.loop-term.term-index + 1) c.args.g.now) c.term-item.result c.pass.new.made.items passed.from c.in_ok-before.behind.now c.in_ok-before.before place
+          (found_at c.args.v.now c.args.q c.args.t.now c.args.g.now c.loop-term.made.items c.loop-term.rest.now c.loop-term.term-index c.term-item.result c.pass.new.made.items passed.from c.in_ok-before.behind.now c.in_ok-before.before place state c.requires.g.sparse c.loop-term-test.true c.term-item.is c.degree.ensures.monomial.variables (λ j. record { m = c.product.ensures.is j; c = c.term-item.result.at.c }) passed.passed passed.taken)
           wide,
     )
 
 pub loop-term-preserved : goal.loop-term-preserved
 loop-term-preserved c =
     let q : FitsSigned w128 c.args.q = search rules in
-    let k : FitsSigned w128 c.take_first-before.result.0 = search rules in
+    let k : FitsSigned w128 c.in_ok-before.before = search rules in
     let e : FitsSigned w128 c.term-item.result.k = search rules in
     let z : FitsSigned w128 c.in-Some.k = search rules in
     let state = simp to_z-of_z at c.loop-term.invariant.state in
     let reduced = simp to_z-of_z at c.in-Some.ensures in
     let place : Place = record { m = c.product.result; c = c.term-item.result.at.c } in
+    let passed : PassesTo place c.loop-term.made.items c.loop-term.rest.now c.pass.new.made.items c.in_ok-before.before c.in_ok-before.behind.now = c.in_ok-before.ensures in
     let left : List Term = drop (c.loop-term.term-index + 1) c.args.g.now in
-    let found : Found c.args.v.now c.args.q c.args.t.now c.args.g.now c.loop-term.made.items c.loop-term.rest.now left c.term-item.result c.pass.new.made.items c.in_ok-from.from.now c.take_first-before.result.1.now c.take_first-before.result.0 place = found_at c.args.v.now c.args.q c.args.t.now c.args.g.now c.loop-term.made.items c.loop-term.rest.now c.loop-term.term-index c.term-item.result c.pass.new.made.items c.in_ok-from.from.now c.take_first-before.result.1.now c.take_first-before.result.0 place state c.requires.g.sparse c.loop-term-test.true c.term-item.is c.degree.ensures.monomial.variables (λ j. record { m = c.product.ensures.is j; c = c.term-item.result.at.c }) c.in_ok-from.ensures c.take_first-before.ensures in
-    let count : length c.pass.new.made.items + length c.take_first-before.result.1.now ≤ length c.loop-term.made.items + length c.loop-term.rest.now = passed_count place c.loop-term.made.items c.loop-term.rest.now c.pass.new.made.items c.in_ok-from.from.now c.take_first-before.result.1.now c.take_first-before.result.0 c.in_ok-from.ensures c.take_first-before.ensures in
+    let found : Found c.args.v.now c.args.q c.args.t.now c.args.g.now c.loop-term.made.items c.loop-term.rest.now left c.term-item.result c.pass.new.made.items passed.from c.in_ok-before.behind.now c.in_ok-before.before place = found_at c.args.v.now c.args.q c.args.t.now c.args.g.now c.loop-term.made.items c.loop-term.rest.now c.loop-term.term-index c.term-item.result c.pass.new.made.items passed.from c.in_ok-before.behind.now c.in_ok-before.before place state c.requires.g.sparse c.loop-term-test.true c.term-item.is c.degree.ensures.monomial.variables (λ j. record { m = c.product.ensures.is j; c = c.term-item.result.at.c }) passed.passed passed.taken in
+    let count : length c.pass.new.made.items + length c.in_ok-before.behind.now ≤ length c.loop-term.made.items + length c.loop-term.rest.now = passed_count place c.loop-term.made.items c.loop-term.rest.now c.pass.new.made.items passed.from c.in_ok-before.behind.now c.in_ok-before.before passed.passed passed.taken in
     elim c.if-k-ne0.branch [
       | then-k-ne0+in_ok-push w ↦
           let nonzero : c.in-Some.k ≢ pos 0 = λ none. absurd (omega (arith, ints, none, w.if-k-ne0.true)) in
@@ -55,14 +57,14 @@ loop-term-preserved c =
           let made = ap (λ (m : Vec Term Global). m.items) w.made-is ∙ push in
           let longer : length c.if-k-ne0.made.items ≡ length c.pass.new.made.items + 1 = ap length made ∙ length-append c.pass.new.made.items (record { at = place; k = c.in-Some.k } ∷ []) in
           simp to_z-of_z (record {
-            state = step_term c.args.v.now c.args.q c.args.t.now c.args.g.now c.loop-term.made.items c.loop-term.rest.now left c.term-item.result c.pass.new.made.items c.in_ok-from.from.now c.take_first-before.result.1.now c.take_first-before.result.0 place found c.in-Some.k term reduced c.if-k-ne0.made.items made;
+            state = step_term c.args.v.now c.args.q c.args.t.now c.args.g.now c.loop-term.made.items c.loop-term.rest.now left c.term-item.result c.pass.new.made.items passed.from c.in_ok-before.behind.now c.in_ok-before.before place found c.in-Some.k term reduced c.if-k-ne0.made.items made;
             count = omega (arith, count, longer, c.loop-term.invariant.count);
           })
       | else-k-ne0 w ↦
           let zero_k : c.in-Some.k ≡ pos 0 = omega (arith, ints, w.if-k-ne0.false) in
           let same : c.if-k-ne0.made.items ≡ c.pass.new.made.items = ap (λ (m : Vec Term Global). m.items) w.made-is in
           simp to_z-of_z (record {
-            state = subst (λ m. Merging c.args.v.now c.args.q c.args.t.now c.args.g.now m c.take_first-before.result.1.now left) (sym same) (step_zero c.args.v.now c.args.q c.args.t.now c.args.g.now c.loop-term.made.items c.loop-term.rest.now left c.term-item.result c.pass.new.made.items c.in_ok-from.from.now c.take_first-before.result.1.now c.take_first-before.result.0 place found c.in-Some.k zero_k reduced);
+            state = subst (λ m. Merging c.args.v.now c.args.q c.args.t.now c.args.g.now m c.in_ok-before.behind.now left) (sym same) (step_zero c.args.v.now c.args.q c.args.t.now c.args.g.now c.loop-term.made.items c.loop-term.rest.now left c.term-item.result c.pass.new.made.items passed.from c.in_ok-before.behind.now c.in_ok-before.before place found c.in-Some.k zero_k reduced);
             count = omega (arith, count, ap length same, c.loop-term.invariant.count);
           })
     ]
