@@ -1,1 +1,3 @@
 mod Listing
+mod Heads
+mod Placing

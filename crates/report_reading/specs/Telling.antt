@@ -1,8 +1,10 @@
 -- What the lines of a report tell, and which line may follow them.
 use Rattle.std.specs.Prelude.{◌≡◌, ◌↔◌, ℕ, ◌+◌, ◌-◌, ◌<◌, ◌≤◌, Bool, true, false, if◌then◌else◌, List, [], ◌∷◌, ◌++◌, length, drop, slice_get, Option, Some, None, IsSome}
 use Rattle.std.specs.Option.{unwrap_or}
-use Rattle.std.specs.Ordering.{Ordering, nat_cmp, ordering_then}
-use Rattle.std.specs.BTreeMap.{insert_entry, is_at, lookup}
+use Rattle.std.specs.declared.cmp.Ordering.{Ordering}
+use Rattle.std.specs.Ordering.{nat_cmp, ordering_then}
+use Rattle.std.specs.BTreeMap.{insert_entry, is_at}
+use Rattle.std.specs.Map.{lookup}
 use Rattle.word_text.specs.Place.{capped}
 use Rattle.module_vec.specs.declared.steps.Step.{Step}
 use Rattle.outcomes.specs.declared.ends.End.{End}
@@ -10,7 +12,7 @@ use Rattle.outcomes.specs.declared.ends.End.TheVariants as ends
 use Rattle.outcomes.specs.declared.verdicts.Verdict.{Verdict}
 use Rattle.outcomes.specs.declared.verdicts.Verdict.TheVariants as verdicts
 use Rattle.session_text.specs.declared.question.Question.{Question}
-use Rattle.session_text.specs.Questions.{HasImages}
+use Rattle.session_text.specs.Questions.{first_long_image}
 use Rattle.basis_entry.specs.declared.recipes.Recipe.{Recipe}
 use Rattle.basis_entry.specs.declared.recipes.Recipe.TheVariants as recipes
 use Rattle.report_lines.specs.declared.lines.Made.{Made}
@@ -33,13 +35,13 @@ pub record Told : Type 0 where
   pub numbers : List (ℕ × ℕ)
   -- where among the replies those stand that leave their question open and have no closing one yet, by the numbers of
   -- session and question
-  pub open : List ((ℕ × ℕ) × ℕ)
+  pub left_open : List ((ℕ × ℕ) × ℕ)
   pub end : Option End
   pub finished : Bool
 
 -- no lines tell this
 abbrev pub nothing : Told
-nothing = record { from = []; entries = []; sealed = false; replies = []; numbers = []; open = []; end = None; finished = false }
+nothing = record { from = []; entries = []; sealed = false; replies = []; numbers = []; left_open = []; end = None; finished = false }
 
 -- ---- what is told so far
 
@@ -95,7 +97,7 @@ IsInOrder session front (Some r) = r.front ≡ front → r.session ≤ session
 pub record IsNextOpen (t : Told) (session number : ℕ) (q : Question) : Type 0 where
   pub place : ℕ
   pub reply : ReplyData
-  pub first : slice_get t.open 0 ≡ Some ((session, number), place)
+  pub first : slice_get t.left_open 0 ≡ Some ((session, number), place)
   pub is : slice_get t.replies place ≡ Some reply
   pub repeats : reply.question ≡ q
 
@@ -110,17 +112,18 @@ abbrev pub IsClosing : Told → Type 0
 IsClosing t = IsSome t.end × (t.finished ≡ false) × IsShown (last_reply t)
 
 -- The line may follow. Items are numbered in order, and none follows the seal; an answer stands behind the item that
--- completes its front, by session and question; a proof stands behind its answer; the seal stands exactly where the end is
--- `sealed`; behind the end, by session and question, exactly the questions that are left open are answered once more
+-- completes its front, by session and question, and no image in it is past its limit; a proof stands behind its answer; the
+-- seal stands exactly where the end is `sealed`; behind the end, by session and question, exactly the questions that are left
+-- open are answered once more
 abbrev pub MayFollow : Told → Line → Type 0
 MayFollow t (lines.Entry number made vector) = MayGoOn t × (t.sealed ≡ false) × (number ≡ length t.entries)
 MayFollow t lines.Seal = MayGoOn t × (t.sealed ≡ false)
 MayFollow t (lines.Live session number front q v) =
-    MayGoOn t × (front ≡ item_count t) × (number ≡ last_number t session + 1) × IsInOrder session front (last_reply t) × HasImages q
+    MayGoOn t × (front ≡ item_count t) × (number ≡ last_number t session + 1) × IsInOrder session front (last_reply t) × (first_long_image q ≡ None)
 MayFollow t (lines.Proof subject steps) = IsDue subject (last_reply t)
 MayFollow t (lines.End end) = MayGoOn t × ((t.sealed ≡ true) ↔ (end ≡ ends.Sealed))
 MayFollow t (lines.Close session number q v) = IsClosing t × IsNextOpen t session number q
-MayFollow t lines.Done = IsClosing t × (t.open ≡ [])
+MayFollow t lines.Done = IsClosing t × (t.left_open ≡ [])
 
 -- ---- what is told with one more line
 
@@ -145,13 +148,13 @@ tell t lines.Seal = record t { sealed = true }
 tell t (lines.Live session number front q v) = record t {
   replies = t.replies ++ record { session = session; question = q; live = true; front = front; verdict = v; proofs = [] } ∷ [];
   numbers = insert_entry nat_cmp t.numbers session number;
-  open = if is_open v then insert_entry by_number t.open (session, number) (length t.replies) else t.open;
+  left_open = if is_open v then insert_entry by_number t.left_open (session, number) (length t.replies) else t.left_open;
 }
 tell t (lines.Proof subject steps) = record t { replies = with_proof steps t.replies }
 tell t (lines.End end) = record t { end = Some end }
 tell t (lines.Close session number q v) = record t {
   replies = t.replies ++ record { session = session; question = q; live = false; front = capped (item_count t); verdict = v; proofs = [] } ∷ [];
-  open = drop 1 t.open;
+  left_open = drop 1 t.left_open;
 }
 tell t lines.Done = record t { finished = true }
 
@@ -171,13 +174,3 @@ pub record IsDataOf (t : Told) (d : ReportData) : Type 0 where
   pub entries : d.entries ≡ t.entries
   pub replies : d.replies ≡ t.replies
   pub end : t.end ≡ Some d.end
-
--- a line that only moves on: the seal, the end, the last line
-abbrev pub IsMark : Line → Type 0
-IsMark (lines.Entry number made vector) = ⊥
-IsMark lines.Seal = Unit {0}
-IsMark (lines.Live session number front q v) = ⊥
-IsMark (lines.Proof subject steps) = ⊥
-IsMark (lines.End end) = Unit {0}
-IsMark (lines.Close session number q v) = ⊥
-IsMark lines.Done = Unit {0}

@@ -1,11 +1,11 @@
 //! Which line may follow.
 
-ghost use Rattle.std.specs.Prelude.{◌≡◌, ◌↔◌, ◌+◌, ◌<◌, ℕ, List, length, IsTrue};
+ghost use Rattle.std.specs.Prelude.{◌≡◌, ◌↔◌, ◌+◌, ◌<◌, ℕ, List, length, None, IsTrue};
 ghost use Rattle.presentation.specs.Presented.{Presented};
 ghost use Rattle.module_vec.specs.declared.places.Term.{Term};
 ghost use Rattle.module_vec.specs.declared.steps.Step.{Step};
 ghost use Rattle.outcomes.specs.declared.verdicts.Verdict.{Verdict};
-ghost use Rattle.session_text.specs.Questions.{IsWritable, HasImages};
+ghost use Rattle.session_text.specs.Questions.{IsWritable, first_long_image};
 ghost use Rattle.report_lines.specs.Lines.{subject_count, IsLineOf};
 ghost use Rattle.report_lines.specs.declared.lines.Made.{Made};
 ghost use Rattle.report_lines.specs.declared.lines.Line.TheVariants as lines;
@@ -42,7 +42,7 @@ impl Reader {
                 question,
                 ..
             } => self.is_closing() && self.is_next_open(*session, *number, question),
-            Line::Done => self.is_closing() && self.open.is_empty(),
+            Line::Done => self.is_closing() && self.left_open.is_empty(),
         }
     }
 
@@ -111,11 +111,17 @@ impl Reader {
     fn is_next_number(&self, session: u32, number: u32) -> bool
         ensures { IsTrue result ↔ (number ≡ last_number self.now session + 1) }
     {
-        let last = match self.numbers.get(&session) {
+        number as u64 == self.last_number(session) as u64 + 1
+    }
+
+    /// The number of the session's last question, 0 before the first.
+    fn last_number(&self, session: u32) -> u32
+        ensures { result ≡ last_number self.now session }
+    {
+        match self.numbers.get(&session) {
             Some(last) => *last,
             None => 0,
-        };
-        number as u64 == last as u64 + 1
+        }
     }
 
     /// Whether no later session was answered at this front.
@@ -132,7 +138,7 @@ impl Reader {
     fn is_next_open(&self, session: u32, number: u32, question: &Question) -> bool
         ensures { IsTrue result ↔ IsNextOpen self.now session number question.now }
     {
-        let Some((at, place)) = self.open.first_key_value() else {
+        let Some((at, place)) = self.left_open.first_key_value() else {
             return false;
         };
         if at.0 != session || at.1 != number {
@@ -167,7 +173,7 @@ fn subject_count(question: &Question) -> usize
 /// Whether the images of a source's relators are within their limit.
 fn has_images(question: &Question) -> bool
     requires { (p : Presented) × IsWritable p question.now }
-    ensures { IsTrue result ↔ HasImages question.now }
+    ensures { IsTrue result ↔ (first_long_image question.now ≡ None) }
 {
     first_long_image(question).is_none()
 }

@@ -20,7 +20,7 @@ pub struct Reader {
     /// The number of each session's last question.
     pub(crate) numbers: BTreeMap<u32, u32>,
     /// Where among the answers those stand that leave their question open and have no closing one, by session and question.
-    pub(crate) open: BTreeMap<(u32, u32), usize>,
+    pub(crate) left_open: BTreeMap<(u32, u32), usize>,
     pub(crate) end: Option<End>,
     pub(crate) finished: bool,
 }
@@ -36,7 +36,7 @@ impl Model for Reader {
         sealed = r.sealed;
         replies = r.replies.items;
         numbers = r.numbers.entries;
-        open = r.open.entries;
+        left_open = r.left_open.entries;
         end = r.end;
         finished = r.finished;
     } };
@@ -53,7 +53,7 @@ impl Reader {
             sealed: false,
             replies: Vec::new(alloc),
             numbers: BTreeMap::new(alloc),
-            open: BTreeMap::new(alloc),
+            left_open: BTreeMap::new(alloc),
             end: None,
             finished: false,
         }
@@ -63,7 +63,10 @@ impl Reader {
     pub fn into_data(self, rest: &[u8]) -> Option<ReportData>
         ensures { MatchOption result ((d : ReportData) → rest.now ≡ [] → IsDataOf self d → ⊥) (λ d. (rest.now ≡ []) × IsDataOf self d) }
     {
-        if !self.finished || !rest.is_empty() {
+        if !self.finished {
+            return None;
+        }
+        if !rest.is_empty() {
             return None;
         }
         let items = self.item_count();

@@ -1,18 +1,18 @@
 //! Taking a line.
 
-ghost use Rattle.std.specs.Prelude.{◌≡◌, ◌++◌, ◌∷◌, [], ℕ, List, length, IfOk, MatchOption};
+ghost use Rattle.std.specs.Prelude.{◌≡◌, ◌++◌, ◌∷◌, [], ℕ, length, if◌then◌else◌, IfOk, MatchOption};
+ghost use Rattle.std.specs.BTreeMap.{insert_entry};
 ghost use Rattle.presentation.specs.Presented.{Presented};
-ghost use Rattle.module_vec.specs.declared.steps.Step.{Step};
 ghost use Rattle.report_lines.specs.Lines.{IsLineOf};
 ghost use Rattle.report_lines.specs.declared.lines.Line.TheVariants as lines;
-ghost use Rattle.report_reading.specs.Telling.{MayFollow, IsMark, is_open, tell};
+ghost use Rattle.report_reading.specs.Telling.{MayFollow, is_open, by_number, recipe_of, tell};
 ghost use Rattle.report_reading.specs.Reading.{IsTaken, NoneFollows};
 
 use crate::reader::Reader;
 use crate::{EntryData, ProofList, ReplyData};
 use basis_entry::Recipe;
 use module_vec::ModVec;
-use outcomes::Verdict;
+use outcomes::{End, Verdict};
 use presentation::Presentation;
 use report_lines::{Line, Made, QuestionNumber, read_line};
 use session_text::Question;
@@ -66,7 +66,9 @@ impl Reader {
                 verdict,
                 ..
             } => self.with_closing(alloc, session, question, verdict),
-            Line::Seal | Line::End(_) | Line::Done => Ok(self.with_mark(&line)),
+            Line::Seal => Ok(self.with_seal()),
+            Line::End(end) => Ok(self.with_end(end)),
+            Line::Done => Ok(self.with_done()),
         }
     }
 
@@ -74,10 +76,7 @@ impl Reader {
         ensures { IfOk result (λ taken. taken ≡ tell self (lines.Entry number made vector)) }
     {
         let mut reader = self;
-        let recipe = match made {
-            Made::Gen { negated } => Recipe::Gen { number, negated },
-            Made::Sum { steps } => Recipe::Sum { steps },
-        };
+        let recipe = recipe_of(number, made);
         reader.entries.push(EntryData { recipe, vector })?;
         reader.from.push(number)?;
         Ok(reader)
@@ -93,11 +92,7 @@ impl Reader {
     ) -> Result<Reader, AllocError>
         ensures { IfOk result (λ taken. taken ≡ tell self (lines.Live at.session at.number front question verdict)) }
     {
-        let mut reader = self;
-        if leaves_open(&verdict) {
-            let place = reader.replies.len();
-            reader.open.insert((at.session, at.number), place)?;
-        }
+        let mut reader = self.with_question(at, &verdict)?;
         reader.numbers.insert(at.session, at.number)?;
         reader.replies.push(ReplyData {
             session: at.session,
@@ -107,6 +102,19 @@ impl Reader {
             verdict,
             proofs: ProofList::new(alloc),
         })?;
+        Ok(reader)
+    }
+
+    /// Notes a question that the verdict leaves open.
+    fn with_question(self, at: QuestionNumber, verdict: &Verdict) -> Result<Reader, AllocError>
+        ensures { IfOk result (λ taken. taken ≡ record self { left_open = if is_open verdict.now then insert_entry by_number self.left_open (at.session, at.number) (length self.replies) else self.left_open }) }
+    {
+        if !leaves_open(verdict) {
+            return Ok(self);
+        }
+        let mut reader = self;
+        let place = reader.replies.len();
+        reader.left_open.insert((at.session, at.number), place)?;
         Ok(reader)
     }
 
@@ -133,7 +141,7 @@ impl Reader {
     {
         let front = self.item_count().min(u32::MAX as usize) as u32;
         let mut reader = self;
-        let _first = reader.open.pop_first();
+        let _first = reader.left_open.pop_first();
         reader.replies.push(ReplyData {
             session,
             question,
@@ -145,16 +153,38 @@ impl Reader {
         Ok(reader)
     }
 
-    fn with_mark(self, line: &Line) -> Reader
-        ensures { IsMark line.now → result ≡ tell self line.now }
+    fn with_seal(self) -> Reader
+        ensures { result ≡ tell self lines.Seal }
     {
         let mut reader = self;
-        match line {
-            Line::Seal => reader.sealed = true,
-            Line::End(end) => reader.end = Some(*end),
-            _ => reader.finished = true,
-        }
+        reader.sealed = true;
         reader
+    }
+
+    fn with_end(self, end: End) -> Reader
+        ensures { result ≡ tell self (lines.End end) }
+    {
+        let mut reader = self;
+        reader.end = Some(end);
+        reader
+    }
+
+    fn with_done(self) -> Reader
+        ensures { result ≡ tell self lines.Done }
+    {
+        let mut reader = self;
+        reader.finished = true;
+        reader
+    }
+}
+
+/// How the entry with this number was made.
+fn recipe_of(number: u32, made: Made) -> Recipe
+    ensures { result ≡ recipe_of number made }
+{
+    match made {
+        Made::Gen { negated } => Recipe::Gen { number, negated },
+        Made::Sum { steps } => Recipe::Sum { steps },
     }
 }
 
