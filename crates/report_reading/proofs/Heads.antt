@@ -8,7 +8,7 @@ use Rattle.report_lines.specs.Texts.{title, pres_line}
 use Rattle.report_reading.specs.declared.data.ReportData.{ReportData}
 use Rattle.report_reading.specs.declared.fault.ReportFault.{ReportFault}
 use Rattle.report_reading.specs.declared.fault.ReportFault.TheVariants.{Line as AtLine, NoMemory}
-use Rattle.report_reading.specs.Reading.{IsOther, IsFirstFault, Answers, AnswersHead, AnswersBody}
+use Rattle.report_reading.specs.Reading.{IsOther, IsFirstFault, Answers, HeadFails, AnswersBody}
 
 pub no_title : (p : Presented) (text : List ℕ) → cut 10 text ≡ None → IsFirstFault p text 1
 no_title p text none = IsFirstFault.at_title (subst (IsOther title) (sym none) tt)
@@ -31,7 +31,7 @@ pub behind_both : (p : Presented) (text others second body : List ℕ) → text 
     → text ≡ title ++ 10 ∷ (pres_line p ++ 10 ∷ body)
 behind_both p text others second body is cuts same = is ∙ ap (λ x. title ++ 10 ∷ x) (behind_line (pres_line p) others second body cuts same)
 
-pub head_fails : (p : Presented) (text : List ℕ) (e : ReportFault) → AnswersHead p text (Err e) → Answers p text (Err e)
+pub head_fails : (p : Presented) (text : List ℕ) (e : ReportFault) → HeadFails p text e → Answers p text (Err e)
 head_fails p text (AtLine n) h = h
 head_fails p text NoMemory h = tt
 

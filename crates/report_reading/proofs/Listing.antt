@@ -32,7 +32,7 @@ text_more p (m ∷ ls) l others =
 
 length_more : (ls : List Line) (l : Line) → length (ls ++ l ∷ []) ≡ length ls + 1
 length_more [] l = refl
-length_more (m ∷ ls) l = ap (λ n. n + 1) (length_more ls l)
+length_more (m ∷ ls) l = let e : length (ls ++ l ∷ []) ≡ length ls + 1 = length_more ls l in omega (arith, e)
 
 capped_more : (n k : ℕ) → n ≡ capped (3 + k) → min (n + 1) 4294967295 ≡ capped (3 + (k + 1))
 capped_more n k is = omega (arith, is)

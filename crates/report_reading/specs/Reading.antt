@@ -14,6 +14,11 @@ use Rattle.report_reading.specs.Telling.{Told, nothing, MayFollow, tell, Tell, I
 
 -- ---- one line
 
+-- the line was taken, or may not follow
+abbrev pub TakesLine : Told → Line → Option Told → Type 0
+TakesLine t l None = MayFollow t l → ⊥
+TakesLine t l (Some taken) = MayFollow t l × (taken ≡ tell t l)
+
 -- the bytes are those of a line that may follow
 pub record IsTaken (p : Presented) (t : Told) (bytes : List ℕ) (taken : Told) : Type 0 where
   pub line : Line
@@ -25,6 +30,10 @@ pub record IsTaken (p : Presented) (t : Told) (bytes : List ℕ) (taken : Told) 
 -- or those of no such line
 abbrev pub NoneFollows : Presented → Told → List ℕ → Type 0
 NoneFollows p t bytes = (l : Line) → IsLineOf p l → MayFollow t l → bytes ≡ line_text p l → ⊥
+
+abbrev pub TakesBytes : Presented → Told → List ℕ → Option Told → Type 0
+TakesBytes p t bytes None = NoneFollows p t bytes
+TakesBytes p t bytes (Some taken) = IsTaken p t bytes taken
 
 -- ---- a whole text
 
@@ -86,12 +95,12 @@ Answers p text (Err NoMemory) = Unit {0}
 
 -- ---- the parts of the text
 
--- the text behind the head, or the line of the head that can't stand
-abbrev pub AnswersHead : Presented → List ℕ → Result (List ℕ) ReportFault → Type 0
-AnswersHead p text (Ok body) = text ≡ title ++ 10 ∷ (pres_line p ++ 10 ∷ body)
-AnswersHead p text (Err (AtLine n)) = IsFirstFault p text n
-AnswersHead p text (Err NoMemory) = Unit {0}
+-- a line of the head can't stand
+abbrev pub HeadFails : Presented → List ℕ → ReportFault → Type 0
+HeadFails p text (AtLine n) = IsFirstFault p text n
+HeadFails p text NoMemory = Unit {0}
 
+-- what is answered to the text behind the head
 abbrev pub AnswersBody : Presented → List ℕ → Result ReportData ReportFault → Type 0
 AnswersBody p text (Ok d) = IsBody p text d
 AnswersBody p text (Err (AtLine n)) = StandsUpTo p text n

@@ -1,6 +1,6 @@
 //! Which line may follow.
 
-ghost use Rattle.std.specs.Prelude.{◌≡◌, ◌↔◌, ◌+◌, ◌<◌, ℕ, List, length, None, IsTrue};
+ghost use Rattle.std.specs.Prelude.{◌≡◌, ◌↔◌, ◌+◌, ◌<◌, ℕ, List, length, slice_get, None, Some, IsTrue, MatchOption};
 ghost use Rattle.presentation.specs.Presented.{Presented};
 ghost use Rattle.module_vec.specs.declared.places.Term.{Term};
 ghost use Rattle.module_vec.specs.declared.steps.Step.{Step};
@@ -144,11 +144,18 @@ impl Reader {
         if at.0 != session || at.1 != number {
             return false;
         }
-        match self.replies.get(*place) {
+        match reply_at(&self.replies, *place) {
             Some(reply) => same_question(&reply.question, question),
             None => false,
         }
     }
+}
+
+/// The answer at this place, if there is one.
+fn reply_at(replies: &[ReplyData], place: usize) -> Option<&ReplyData>
+    ensures { MatchOption result (slice_get replies.now place ≡ None) (λ r. slice_get replies.now place ≡ Some r.now) }
+{
+    replies.get(place)
 }
 
 /// How many proofs belong to the answer.

@@ -1,7 +1,8 @@
 //! Reading a whole text.
 
-ghost use Rattle.std.specs.Prelude.{◌≡◌};
-ghost use Rattle.report_reading.specs.Reading.{Answers, AnswersHead, AnswersBody};
+ghost use Rattle.std.specs.Prelude.{◌≡◌, ◌++◌, ◌∷◌, IfOk, IfErr};
+ghost use Rattle.report_lines.specs.Texts.{title, pres_line};
+ghost use Rattle.report_reading.specs.Reading.{Answers, HeadFails, AnswersBody};
 
 use crate::reader::Reader;
 use crate::{ReportData, ReportFault};
@@ -29,7 +30,8 @@ fn behind_head<'a>(
     p: &Presentation,
     text: &'a [u8],
 ) -> Result<&'a [u8], ReportFault>
-    ensures { AnswersHead p.now text.now result }
+    ensures body { IfOk result (λ body. text.now ≡ title ++ 10 ∷ (pres_line p.now ++ 10 ∷ body.now)) }
+    ensures fault { IfErr result (HeadFails p.now text.now) }
 {
     let Some((first, others)) = cut(text, b'\n') else {
         return Err(ReportFault::Line { line: 1 });

@@ -1,12 +1,12 @@
 //! Taking a line.
 
-ghost use Rattle.std.specs.Prelude.{◌≡◌, ◌++◌, ◌∷◌, [], ℕ, length, if◌then◌else◌, IfOk, MatchOption};
+ghost use Rattle.std.specs.Prelude.{◌≡◌, ◌++◌, ◌∷◌, [], ℕ, length, if◌then◌else◌, IfOk, OnOk};
 ghost use Rattle.std.specs.BTreeMap.{insert_entry};
 ghost use Rattle.presentation.specs.Presented.{Presented};
 ghost use Rattle.report_lines.specs.Lines.{IsLineOf};
 ghost use Rattle.report_lines.specs.declared.lines.Line.TheVariants as lines;
-ghost use Rattle.report_reading.specs.Telling.{MayFollow, is_open, by_number, recipe_of, tell};
-ghost use Rattle.report_reading.specs.Reading.{IsTaken, NoneFollows};
+ghost use Rattle.report_reading.specs.Telling.{MayFollow, is_open, by_number, recipe_of, with_proof, tell};
+ghost use Rattle.report_reading.specs.Reading.{TakesLine, TakesBytes};
 
 use crate::reader::Reader;
 use crate::{EntryData, ProofList, ReplyData};
@@ -27,11 +27,26 @@ impl Reader {
         p: &Presentation,
         bytes: &[u8],
     ) -> Result<Option<Reader>, AllocError>
-        ensures { IfOk result (λ taken. MatchOption taken (NoneFollows p.now self bytes.now) (IsTaken p.now self bytes.now)) }
+        ensures { IfOk result (TakesBytes p.now self bytes.now) }
     {
-        let Some(line) = read_line(alloc, p, bytes)? else {
-            return Ok(None);
-        };
+        p.known();
+        match read_line(alloc, p, bytes)? {
+            Some(line) => self.take_line(alloc, p, line),
+            None => Ok(None),
+        }
+    }
+
+    /// Takes a line over the presentation, if it may follow.
+    fn take_line(
+        self,
+        alloc: Global,
+        p: &Presentation,
+        line: Line,
+    ) -> Result<Option<Reader>, AllocError>
+        requires { IsLineOf p.now line }
+        ensures { IfOk result (TakesLine self line) }
+    {
+        let _ = p;
         if !self.may_follow(&line) {
             return Ok(None);
         }
@@ -119,14 +134,10 @@ impl Reader {
     }
 
     fn with_proof(self, steps: Steps) -> Result<Reader, AllocError>
-        ensures { IfOk result (λ taken. (j : ℕ) → taken ≡ tell self (lines.Proof j steps)) }
+        ensures { (j : ℕ) → IfOk result (λ taken. taken ≡ tell self (lines.Proof j steps)) }
     {
         let mut reader = self;
-        let Some(mut reply) = reader.replies.pop() else {
-            return Ok(reader);
-        };
-        reply.proofs.push(steps)?;
-        reader.replies.push(reply)?;
+        add_proof(&mut reader.replies, steps)?;
         Ok(reader)
     }
 
@@ -137,7 +148,7 @@ impl Reader {
         question: Question,
         verdict: Verdict,
     ) -> Result<Reader, AllocError>
-        ensures { IfOk result (λ taken. (n : ℕ) → taken ≡ tell self (lines.Close session n question verdict)) }
+        ensures { (n : ℕ) → IfOk result (λ taken. taken ≡ tell self (lines.Close session n question verdict)) }
     {
         let front = self.item_count().min(u32::MAX as usize) as u32;
         let mut reader = self;
@@ -176,6 +187,18 @@ impl Reader {
         reader.finished = true;
         reader
     }
+}
+
+/// Puts one more proof to the last answer.
+fn add_proof(replies: &mut Vec<ReplyData>, steps: Steps) -> Result<(), AllocError>
+    ensures { OnOk result (replies.new.items ≡ with_proof steps replies.old.items) }
+{
+    let Some(mut reply) = replies.pop() else {
+        return Ok(());
+    };
+    reply.proofs.push(steps)?;
+    replies.push(reply)?;
+    Ok(())
 }
 
 /// How the entry with this number was made.
