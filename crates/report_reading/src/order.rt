@@ -11,9 +11,9 @@ ghost use Rattle.report_lines.specs.declared.lines.Made.{Made};
 ghost use Rattle.report_lines.specs.declared.lines.Line.TheVariants as lines;
 ghost use Rattle.report_reading.specs.Telling.{proof_count, item_count, last_reply, last_number, IsShown, IsDue, IsInOrder, IsNextOpen, MayGoOn, IsClosing, MayFollow};
 
+use crate::ReplyData;
 use crate::reader::Reader;
 use crate::same::same_question;
-use crate::ReplyData;
 use outcomes::{End, Verdict};
 use report_lines::Line;
 use session_text::{Question, first_long_image};

@@ -31,14 +31,14 @@ impl Model for Reader {
     ghost Value = { Told };
 
     ghost view = { λ r. record {
-        from = r.from.items;
-        entries = r.entries.items;
-        sealed = r.sealed;
-        replies = r.replies.items;
-        numbers = r.numbers.entries;
-        left_open = r.left_open.entries;
-        end = r.end;
-        finished = r.finished;
+      from = r.from.items;
+      entries = r.entries.items;
+      sealed = r.sealed;
+      replies = r.replies.items;
+      numbers = r.numbers.entries;
+      left_open = r.left_open.entries;
+      end = r.end;
+      finished = r.finished;
     } };
 }
 

@@ -25,11 +25,7 @@ pub fn read_report(alloc: Global, p: &Presentation, text: &[u8]) -> Result<Repor
 }
 
 /// What stands behind the two lines at the head.
-fn behind_head<'a>(
-    alloc: Global,
-    p: &Presentation,
-    text: &'a [u8],
-) -> Result<&'a [u8], ReportFault>
+fn behind_head<'a>(alloc: Global, p: &Presentation, text: &'a [u8]) -> Result<&'a [u8], ReportFault>
     ensures body { IfOk result (λ body. text.now ≡ title ++ 10 ∷ (pres_line p.now ++ 10 ∷ body.now)) }
     ensures fault { IfErr result (HeadFails p.now text.now) }
 {

@@ -44,8 +44,14 @@ fn a_report_is_read(rt: HostRuntime) -> Result<(), Fail> {
     assert_eq!(rt; data.entries.entries().len(), 2);
     let replies = data.replies.replies();
     assert_eq!(rt; replies.len(), 6);
-    assert_eq!(rt; (replies[1].session, replies[1].front, replies[1].live), (2, 1, true));
-    assert_eq!(rt; (replies[5].session, replies[5].front, replies[5].live), (1, 3, false));
+    assert_eq!(rt;
+        (replies[1].session, replies[1].front, replies[1].live),
+        (2, 1, true)
+    );
+    assert_eq!(rt;
+        (replies[5].session, replies[5].front, replies[5].live),
+        (1, 3, false)
+    );
     assert_eq!(rt; replies[3].proofs.proofs().len(), 1);
     Ok(())
 }
