@@ -1,3 +1,4 @@
 mod Listing
 mod Heads
 mod Placing
+mod Excluding

@@ -8,6 +8,7 @@
 mod data;
 mod entry;
 mod fault;
+pub mod laws;
 mod order;
 mod proof_list;
 mod reader;
