@@ -1,7 +1,7 @@
 -- A text that is a report has no line that can't stand.
 use Rattle.std.proofs.Common.{◌≡◌, ℕ, ◌==◌, false, List, [], ◌∷◌, ◌++◌, refl, sym, ap, subst, ◌∙◌, append_assoc}
 use Rattle.std.specs.List.{AllByRecursion}
-use Rattle.std.specs.Prelude.{Option, Some, None}
+use Rattle.std.specs.Prelude.{Some, None}
 use Rattle.spelling.specs.Spelling.{cut}
 use Rattle.spelling.proofs.Cuts.{cut_here}
 use Rattle.presentation.specs.Presented.{Presented, IsPresented}
@@ -12,7 +12,7 @@ use Rattle.report_lines.proofs.Pairs.{literal}
 use Rattle.report_lines.proofs.ReadingBack.{one_line}
 use Rattle.report_reading.specs.declared.data.ReportData.{ReportData}
 use Rattle.report_reading.specs.Telling.{Told, nothing, MayFollow, tell, Tell, IsDataOf}
-use Rattle.report_reading.specs.Reading.{IsOther, CantStand, IsReport, IsFirstFault, StandsUpTo, HasWholeLines, at_title, at_presentation, behind}
+use Rattle.report_reading.specs.Reading.{IsOther, CantStand, IsReport, IsFirstFault, HasWholeLines, at_title, at_presentation, behind}
 
 some_same : {X : Type 0} {x y : X} → Some x ≡ Some y → x ≡ y
 some_same e = cc

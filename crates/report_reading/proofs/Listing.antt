@@ -1,7 +1,7 @@
 -- Lines that were told, one more at a time.
 use Rattle.std.proofs.Common.{◌≡◌, ℕ, ◌+◌, List, [], ◌∷◌, ◌++◌, length, min, refl, sym, ap, subst, ◌∙◌, append_assoc, arith}
 use Rattle.std.specs.List.{AllByRecursion}
-use Rattle.std.specs.Prelude.{Option, Some, None}
+use Rattle.std.specs.Prelude.{Some, None}
 use Rattle.spelling.specs.Spelling.{cut}
 use Rattle.spelling.proofs.Cuts.{cut_joins}
 use Rattle.word_text.specs.Place.{capped}
