@@ -1,0 +1,4 @@
+mod Listing
+mod Heads
+mod Placing
+mod Excluding
