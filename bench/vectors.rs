@@ -91,16 +91,29 @@ fn in_range(z: Option<i128>) -> Option<i128> {
     z.filter(|z| z.unsigned_abs() <= COEFFICIENT)
 }
 
+/// How many terms at the front of `v` stand above `at`, and whether the next one stands at `at`.
+fn meet(v: &[Term], at: &Place) -> (usize, bool) {
+    let mut above = 0;
+    for u in v {
+        match u.at.cmp(at) {
+            Ordering::Greater => above += 1,
+            Ordering::Equal => return (above, true),
+            Ordering::Less => return (above, false),
+        }
+    }
+    (above, false)
+}
+
 fn difference(v: &[Term], q: i128, t: &Mono, g: &[Term]) -> Option<Vec<Term>> {
     let mut made = Vec::with_capacity(v.len() + g.len());
     let mut rest = v;
     for term in g {
         let at = Place { m: t.product(&term.at.m), c: term.at.c };
-        let above = rest.iter().take_while(|u| u.at.cmp(&at).is_gt()).count();
+        let (above, met) = meet(rest, &at);
         let (front, from) = rest.split_at(above);
         made.extend_from_slice(front);
         let before = match from.split_first() {
-            Some((first, behind)) if first.at == at => {
+            Some((first, behind)) if met => {
                 rest = behind;
                 first.k
             }
