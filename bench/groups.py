@@ -10,7 +10,7 @@ from runs import timed
 
 HERE = os.path.dirname(os.path.abspath(__file__))
 FOLDER = os.path.join(HERE, "groups")
-RUNS = 3
+RUNS = 5
 PATIENCE = 120
 HEAD = (f"{'group':<16} {'entries':>7} {'end':<8} {'complete':>9} {'questions':>9} {'MB':>6} {'check':>6} "
         f"{'Singular: basis, reductions, whole run':>40} {'ratio':>6} {'growth':>6}")

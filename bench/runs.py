@@ -1,11 +1,13 @@
 """Runs of the program, with their time and memory."""
 import os
 import subprocess
+import tempfile
 import time
 from collections import namedtuple
 
 TOP = os.path.dirname(os.path.dirname(os.path.abspath(__file__)))
 PROGRAM = os.path.join(TOP, "crates", "metab_cli", "out", "metab_cli")
+TIME = "/usr/bin/time"
 
 Run = namedtuple("Run", "seconds memory status answer")
 
@@ -18,8 +20,14 @@ def built():
 
 def timed(folder, words):
     """Seconds, peak memory in MB, status and answer of one run in a folder."""
-    start = time.perf_counter()
-    ran = subprocess.Popen([PROGRAM, *words], cwd=folder, stdout=subprocess.PIPE, stdin=subprocess.DEVNULL)
-    answer = ran.stdout.read().decode("latin1")
-    _, status, usage = os.wait4(ran.pid, 0)
-    return Run(time.perf_counter() - start, usage.ru_maxrss / 1024, os.waitstatus_to_exitcode(status), answer)
+    with tempfile.NamedTemporaryFile("r") as memory:
+        # A child of this program counts this program's memory as its own, so the run is started by a small one, if it is there.
+        by = [TIME, "-f", "%M", "-o", memory.name] if os.access(TIME, os.X_OK) else []
+        start = time.perf_counter()
+        ran = subprocess.Popen([*by, PROGRAM, *words], cwd=folder, stdout=subprocess.PIPE, stdin=subprocess.DEVNULL)
+        answer = ran.stdout.read().decode("latin1")
+        _, status, usage = os.wait4(ran.pid, 0)
+        seconds = time.perf_counter() - start
+        lines = memory.read().split()
+    peak = int(lines[-1]) if lines else usage.ru_maxrss
+    return Run(seconds, peak / 1024, os.waitstatus_to_exitcode(status), answer)
