@@ -18,5 +18,6 @@ pub mod Reportable
 mod ReportEnds
 mod SoloFound
 mod Settling
+mod Counts
 mod TrueAnswers
 mod Accepted

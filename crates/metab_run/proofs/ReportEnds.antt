@@ -82,12 +82,12 @@ due counted under words q r h status asks found is settled =
     let shows : ShowsSolo found.p (limits_of q) found.questions (told_answer r h status) =
     record {
       told = r;
-      solved = found.solved;
+      solved = found.solution.solved;
       history = h;
       is_history = is;
-      answers = solved_answers found.p (limits_of q) found.questions r h found.known found.sources found.solved is;
+      answers = solved_answers found.p (limits_of q) found.questions r h found.solution.known found.solution.sources found.solution.solved is;
       text = refl;
-      checked = checks found.p r h found.solved.legal.pres (found.accepted h is);
+      checked = checks found.p r h found.solution.solved.legal.pres (found.solution.accepted h is);
       status = settled;
     } in
     let next : List (List Question) → Answer → Type 0 = ShowsSolo found.p (limits_of q) in

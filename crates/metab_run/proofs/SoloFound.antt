@@ -27,7 +27,7 @@ use Rattle.metab_run.specs.Files.{in_lines}
 use Rattle.metab_run.specs.SessionFiles.{AreQuestionsIn, AreQuestionsUnder, SessionFails, SessionsFail, SessionsGive, SessionsLead, IsNewSession, AreNewSessions}
 use Rattle.metab_run.specs.Legal.{IsLegal, AreByAll}
 use Rattle.metab_run.specs.Gathering.{questions_of, IsAsker, AreAskers, AreAnsweredOn, AreReplies}
-use Rattle.metab_run.specs.SoloAnswers.{limits_of, IsFound, ShowsSolo, SoloGives}
+use Rattle.metab_run.specs.SoloAnswers.{limits_of, IsSolution, IsFound, ShowsSolo, SoloGives}
 use Rattle.metab_run.proofs.Leading.{gives_lead}
 use Rattle.metab_run.proofs.SessionFiles.{failing_lead}
 use Rattle.metab_run.proofs.Reportable.{all_from, stands, reportable, told}
@@ -50,26 +50,22 @@ sourced : (ss : List SessionState) → AllByRecursion (λ s. AllByRecursion HasS
 sourced [] all = tt
 sourced (s ∷ ss) all = (all.0, sourced ss all.1)
 
-pub can_be_written : (q : SoloAsked) (p : Presented) (questions : List (List Question)) (r : Reported) → q.entries ≤ MOST_ENTRIES → IsLegal p (limits_of q) questions r → IsReportable r
-can_be_written q p questions r most legal = reportable p (limits_of q) questions r legal (omega (arith, most))
+pub can_be_written : (limits : Limits) (p : Presented) (questions : List (List Question)) (r : Reported) → limits.entries ≤ MOST_ENTRIES → IsLegal p limits questions r → IsReportable r
+can_be_written limits p questions r most legal = reportable p limits questions r legal (omega (arith, most))
 
-pub found : (under : List ℕ → Option (List ℕ)) (q : SoloAsked) (p : Presented) (least : ℕ) (ss : List SessionState) (r : Reported)
-    → IfSome (under q.presentation) (λ bytes. (length bytes ≤ PRESENTATION_BYTES) × (in_lines presentation_text bytes ≡ Ok p)) → AreQuestionsUnder under p q.sessions (questions_of ss)
-    → IsPresented p → AllByRecursion (λ s. AllByRecursion HasSource s.questions) ss → q.entries ≤ MOST_ENTRIES → AreNewSessions p least ss → IsLegal p (limits_of q) (questions_of ss) r → AreAnsweredOn p r.entries r.seal ss r.sessions
-    → ((h : History) → IsHistoryOf r h → TellsWhole r.pres (text_of r h) (Ok (told_amount r h))) → IsFound under q r
-found under q p least ss r presented asked known sources most new legal on accepted =
+-- a legal report of new sessions that were answered, and which is accepted
+pub solution : (limits : Limits) (p : Presented) (least : ℕ) (ss : List SessionState) (r : Reported)
+    → IsPresented p → AllByRecursion (λ s. AllByRecursion HasSource s.questions) ss → limits.entries ≤ MOST_ENTRIES → AreNewSessions p least ss → IsLegal p limits (questions_of ss) r → AreAnsweredOn p r.entries r.seal ss r.sessions
+    → ((h : History) → IsHistoryOf r h → TellsWhole r.pres (text_of r h) (Ok (told_amount r h))) → IsSolution p limits (questions_of ss) r
+solution limits p least ss r known sources most new legal on accepted =
     let by_all : AllByRecursion (λ s. AreByAll r.entries r.seal s.kept) r.sessions = all_from (λ (s : SessionState). AreByAll r.entries r.seal s.kept) r.sessions (λ i t at.
     let old = stands r.sessions ss i t at on.count in
     let is = on.each i old.0 t old.1 at in
     let kept : t.kept ≡ is.more = ap (λ (x : SessionState). x.kept) is.is ∙ ap (λ (ks : List Kept). ks ++ is.more) (new i old.0 old.1).kept in
     subst (AreByAll r.entries r.seal) (sym kept) is.by_all) in
-    let can : IsReportable r = can_be_written q p (questions_of ss) r most legal in
+    let can : IsReportable r = can_be_written limits p (questions_of ss) r most legal in
     let history = told r can by_all in
     record {
-      p = p;
-      presented = presented;
-      questions = questions_of ss;
-      asked = asked;
       known = known;
       sources = sourced ss sources;
       solved = record { legal = legal; by_all = by_all };
@@ -78,6 +74,11 @@ found under q p least ss r presented asked known sources most new legal on accep
       history = history.0;
       is_history = history.1;
     }
+
+pub found : (under : List ℕ → Option (List ℕ)) (q : SoloAsked) (p : Presented) (ss : List SessionState) (r : Reported)
+    → IfSome (under q.presentation) (λ bytes. (length bytes ≤ PRESENTATION_BYTES) × (in_lines presentation_text bytes ≡ Ok p)) → AreQuestionsUnder under p q.sessions (questions_of ss)
+    → IsSolution p (limits_of q) (questions_of ss) r → IsFound under q r
+found under q p ss r presented asked solution = record { p = p; presented = presented; questions = questions_of ss; asked = asked; solution = solution }
 
 -- ---- what goes wrong with a session
 

@@ -32,9 +32,13 @@ use Rattle.metab_run.specs.SessionFiles.{SessionsLead, AreQuestionsUnder}
 use Rattle.metab_run.specs.Legal.{IsLegal, AreByAll}
 use Rattle.metab_run.specs.TrueAnswers.{AreTrueAnswers}
 
+-- the limits of a run with so many entries and this budget
+abbrev pub limits_with : ℕ → Option ℕ → Limits
+limits_with entries budget = record { entries = entries; terms = LOG_TERMS; steps = LOG_STEPS; budget = budget; order = ByNumber }
+
 -- the limits that the words give
 abbrev pub limits_of : SoloAsked → Limits
-limits_of q = record { entries = q.entries; terms = LOG_TERMS; steps = LOG_STEPS; budget = q.budget; order = ByNumber }
+limits_of q = limits_with q.entries q.budget
 
 -- the reply is no stop
 abbrev pub IsNoStop : Tag → Type 0
@@ -83,19 +87,23 @@ SoloLeads counted under q a =
 
 -- ---- what the code gives
 
--- the report that is found over these texts, with its history
+-- a solved report with its history, which can be written and which `check` accepts
+pub record IsSolution (p : Presented) (limits : Limits) (questions : List (List Question)) (r : Reported) : Type 0 where
+  pub known : IsPresented p
+  pub sources : AllByRecursion (AllByRecursion HasSource) questions
+  pub solved : IsSolved p limits questions r
+  pub reportable : IsReportable r
+  pub accepted : (h : History) → IsHistoryOf r h → TellsWhole r.pres (text_of r h) (Ok (told_amount r h))
+  pub history : History
+  pub is_history : IsHistoryOf r history
+
+-- the report that is found over these texts
 pub record IsFound (under : List ℕ → Option (List ℕ)) (q : SoloAsked) (r : Reported) : Type 0 where
   pub p : Presented
   pub presented : IfSome (under q.presentation) (λ bytes. (length bytes ≤ PRESENTATION_BYTES) × (in_lines presentation_text bytes ≡ Ok p))
   pub questions : List (List Question)
   pub asked : AreQuestionsUnder under p q.sessions questions
-  pub known : IsPresented p
-  pub sources : AllByRecursion (AllByRecursion HasSource) questions
-  pub solved : IsSolved p (limits_of q) questions r
-  pub reportable : IsReportable r
-  pub accepted : (h : History) → IsHistoryOf r h → TellsWhole r.pres (text_of r h) (Ok (told_amount r h))
-  pub history : History
-  pub is_history : IsHistoryOf r history
+  pub solution : IsSolution p (limits_of q) questions r
 
 -- what `solo` finds: a report, or the answer that is due, unless memory runs out
 abbrev pub SoloGives : Type 0 → (List ℕ → Option (List ℕ)) → SoloAsked → Result Report Halt → Type 0

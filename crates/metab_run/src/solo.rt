@@ -7,44 +7,25 @@ ghost use Rattle.report_text.specs.Histories.{History};
 ghost use Rattle.report_text.specs.Reports.{reported, IsReportable, IsHistoryOf};
 ghost use Rattle.metab_run.specs.Files.{HasCause};
 ghost use Rattle.metab_run.specs.Words.{solo_asked};
-ghost use Rattle.metab_run.specs.SoloAnswers.{limits_of, HasNoStop, IsSettled, SoloGives, DeliversReport};
+ghost use Rattle.metab_run.specs.SoloAnswers.{HasNoStop, IsSettled, SoloGives, DeliversReport};
 ghost use Rattle.metab_run.specs.declared.words.TheConstants.{LEAST_ENTRIES, MOST_ENTRIES, SESSIONS};
 
 use crate::answer::Halt;
 use crate::files::load_presentation;
-use crate::gathering::gather;
-use crate::known::sources_are_known;
 use crate::sessions::load_sessions;
+use crate::solving::{limits, opened, solve};
 use crate::status::Status;
 use crate::words::SoloWords;
-use crate::{LOG_STEPS, LOG_TERMS};
 use mb_io::{Shelf, Sink};
 use module_vec::VecList;
 use outcomes::End;
-use pair_book::laws::generator_entries_are_within;
-use pair_book::{Book, Limits};
-use report_acceptance::reports::report_is_accepted;
 use report_text::{Report, WriteFault, write_report};
 use session_core::{Session, Tag};
 use std::alloc::Global;
 use std::sync::Arc;
-use task_table::Order;
-
-/// The limits that the words give.
-fn limits(words: &SoloWords) -> Limits
-    ensures { result ≡ limits_of (solo_asked words.now) }
-{
-    Limits {
-        entries: words.entries,
-        terms: LOG_TERMS,
-        steps: LOG_STEPS,
-        budget: words.budget,
-        order: Order::ByNumber,
-    }
-}
 
 /// What `solo` finds over these texts: the report of a completion and of the answers to all questions.
-#[tactic(auto, using(crate::proofs::SoloFound::askers, crate::proofs::SoloFound::found))]
+#[tactic(auto, using(crate::proofs::SoloFound::found))]
 pub fn solo<S: Shelf>(alloc: Global, shelf: &mut S, words: &SoloWords) -> Result<Report, Halt>
     requires least { LEAST_ENTRIES ≤ words.now.entries }
     requires most { words.now.entries ≤ MOST_ENTRIES }
@@ -54,15 +35,11 @@ pub fn solo<S: Shelf>(alloc: Global, shelf: &mut S, words: &SoloWords) -> Result
     ensures later { S.faults shelf.old ≤ S.faults shelf.new }
 {
     let p = load_presentation(alloc, shelf, words.presentation)?;
-    p.known();
-    generator_entries_are_within();
     let p = Arc::new(alloc, p)?;
-    let limits = limits(words);
-    let book = Book::open(alloc, &p, limits)?;
+    let limits = limits(words.entries, words.budget);
+    let book = opened(alloc, &p, limits)?;
     let sessions = load_sessions(alloc, shelf, &p, &words.sessions, book.count())?;
-    sources_are_known(&sessions);
-    let report = gather(alloc, &p, book, sessions, limits)?;
-    report_is_accepted(&report);
+    let report = solve(alloc, &p, book, sessions, limits)?;
     Ok(report)
 }
 
@@ -97,7 +74,7 @@ fn have_no_stop(sessions: &[Session]) -> bool
 }
 
 /// Whether the log of the report is sealed, and no reply is a stop.
-fn is_settled(report: &Report) -> bool
+pub fn is_settled(report: &Report) -> bool
     requires { IsReportable (reported report.now) }
     ensures { IsTrue result ↔ IsSettled (reported report.now) }
 {

@@ -9,6 +9,7 @@ ghost use Rattle.metab_run.specs.Top.{IsDue, ShownTrivial, AsksReport, Finds};
 use crate::answer::{Answer, Halt};
 use crate::checking::check;
 use crate::fox::fox;
+use crate::generating::generate;
 use crate::solo::{deliver_report, solo};
 use crate::status::Status;
 use crate::steps::steps;
@@ -41,6 +42,7 @@ fn find<S: Shelf>(alloc: Global, words: &[String], shelf: &mut S) -> Result<Foun
             Ok(report) => return Ok(Found::Reports(report)),
             Err(halt) => Err(halt),
         },
+        Command::Gen(seed) => generate(alloc, seed),
     };
     match answered {
         Ok(answer) => Ok(Found::Says(answer)),

@@ -1,0 +1,81 @@
+-- Replies and sessions that are counted one after another.
+use Rattle.std.proofs.Common.{◌≡◌, ℕ, zero, suc, ◌+◌, ◌*◌, ◌<◌, ◌≤◌, Bool, true, false, if◌then◌else◌, List, [], ◌∷◌, length, take, Some, slice_get, sym, ap, subst, ◌∙◌, arith, refl}
+use Rattle.session_text.specs.declared.TheConstants.{QUESTIONS}
+use Rattle.session_core.specs.declared.kept.Kept.{Kept}
+use Rattle.session_core.specs.declared.kept.Tag.{Tag}
+use Rattle.session_core.specs.Sessions.{SessionState}
+use Rattle.metab_run.specs.declared.counting.Kind.{Kind}
+use Rattle.metab_run.specs.GenAnswers.{is_of, how_many_in, how_many}
+
+-- the number that a test stands for
+abbrev pub one_if : Bool → ℕ
+one_if b = if b then 1 else 0
+
+next_is : (i : ℕ) → suc i ≡ i + 1
+next_is i = omega arith
+
+one_at_most : (b : Bool) → one_if b ≤ 1
+one_at_most true = omega arith
+one_at_most false = omega arith
+
+-- ---- the replies of a session
+
+-- so many of the first i replies are of the kind
+pub record AreCounted (kind : Kind) (ks : List Kept) (i n : ℕ) : Type 0 where
+  pub is : n ≡ how_many_in kind (take i ks)
+  pub few : n ≤ i
+
+pub none_yet : (kind : Kind) (ks : List Kept) → AreCounted kind ks 0 0
+none_yet kind [] = record { is = refl; few = omega arith }
+none_yet kind (k ∷ ks) = record { is = refl; few = omega arith }
+
+more_at : (kind : Kind) (ks : List Kept) (i : ℕ) (k : Kept) → slice_get ks i ≡ Some k → how_many_in kind (take (suc i) ks) ≡ how_many_in kind (take i ks) + one_if (is_of kind k.tag)
+more_at kind [] i k at = absurd (cc)
+more_at kind (x ∷ ks) zero k at = let e : x ≡ k = cc in subst (λ (y : Kept). one_if (is_of kind x.tag) + 0 ≡ 0 + one_if (is_of kind y.tag)) e (omega arith)
+more_at kind (x ∷ ks) (suc i) k at = let rest = more_at kind ks i k at in omega (arith, rest)
+
+pub one_more : (kind : Kind) (ks : List Kept) (i n : ℕ) (k : Kept) → AreCounted kind ks i n → slice_get ks i ≡ Some k → AreCounted kind ks (i + 1) (n + one_if (is_of kind k.tag))
+one_more kind ks i n k so at =
+    let more : how_many_in kind (take (i + 1) ks) ≡ how_many_in kind (take i ks) + one_if (is_of kind k.tag) =
+    subst (λ (m : ℕ). how_many_in kind (take m ks) ≡ how_many_in kind (take i ks) + one_if (is_of kind k.tag)) (next_is i) (more_at kind ks i k at) in
+    let is = so.is in
+    let few = so.few in
+    let one = one_at_most (is_of kind k.tag) in
+    record { is = omega (arith, more, is); few = omega (arith, few, one) }
+
+whole : {A : Type 0} (xs : List A) (i : ℕ) → length xs ≤ i → take i xs ≡ xs
+whole [] zero le = refl
+whole [] (suc i) le = refl
+whole (x ∷ xs) zero le = absurd (omega (arith, le))
+whole (x ∷ xs) (suc i) le = ap (λ ys. x ∷ ys) (whole xs i (omega (arith, le)))
+
+pub all_counted : (kind : Kind) (ks : List Kept) (i n : ℕ) → AreCounted kind ks i n → length ks ≤ i → n ≡ how_many_in kind ks
+all_counted kind ks i n so le = so.is ∙ ap (how_many_in kind) (whole ks i le)
+
+-- ---- the sessions
+
+-- so many of the replies of the first i sessions are of the kind
+pub record AreCountedIn (kind : Kind) (ss : List SessionState) (i n : ℕ) : Type 0 where
+  pub is : n ≡ how_many kind (take i ss)
+  pub few : n ≤ i * QUESTIONS
+
+pub no_session : (kind : Kind) (ss : List SessionState) → AreCountedIn kind ss 0 0
+no_session kind [] = record { is = refl; few = omega arith }
+no_session kind (s ∷ ss) = record { is = refl; few = omega arith }
+
+session_at : (kind : Kind) (ss : List SessionState) (i : ℕ) (s : SessionState) → slice_get ss i ≡ Some s → how_many kind (take (suc i) ss) ≡ how_many kind (take i ss) + how_many_in kind s.kept
+session_at kind [] i s at = absurd (cc)
+session_at kind (x ∷ ss) zero s at = let e : x ≡ s = cc in subst (λ (y : SessionState). how_many_in kind x.kept + 0 ≡ 0 + how_many_in kind y.kept) e (omega arith)
+session_at kind (x ∷ ss) (suc i) s at = let rest = session_at kind ss i s at in omega (arith, rest)
+
+pub one_session : (kind : Kind) (ss : List SessionState) (i n m : ℕ) (s : SessionState) → AreCountedIn kind ss i n → slice_get ss i ≡ Some s → m ≡ how_many_in kind s.kept → m ≤ QUESTIONS
+    → AreCountedIn kind ss (i + 1) (n + m)
+one_session kind ss i n m s so at own most =
+    let more : how_many kind (take (i + 1) ss) ≡ how_many kind (take i ss) + how_many_in kind s.kept =
+    subst (λ (m : ℕ). how_many kind (take m ss) ≡ how_many kind (take i ss) + how_many_in kind s.kept) (next_is i) (session_at kind ss i s at) in
+    let is = so.is in
+    let few = so.few in
+    record { is = omega (arith, more, is, own); few = omega (arith, few, most) }
+
+pub all_sessions : (kind : Kind) (ss : List SessionState) (i n : ℕ) → AreCountedIn kind ss i n → length ss ≤ i → n ≡ how_many kind ss
+all_sessions kind ss i n so le = so.is ∙ ap (how_many kind) (whole ss i le)

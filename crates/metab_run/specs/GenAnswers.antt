@@ -1,0 +1,81 @@
+-- What the command `gen` answers.
+use Rattle.std.specs.Prelude.{◌≡◌, ℕ, ◌+◌, Bool, true, false, if◌then◌else◌, List, [], ◌∷◌, ◌++◌, length, Option, None, codes, decimal}
+use Rattle.presentation.specs.Presented.{Presented}
+use Rattle.presentation.specs.Reading.{presentation_text}
+use Rattle.outcomes.specs.declared.ends.End.{End}
+use Rattle.outcomes.specs.declared.ends.End.TheVariants.{Sealed, Stopped, Full, Spent}
+use Rattle.session_text.specs.declared.question.Question.{Question}
+use Rattle.session_text.specs.Reading.{session_text}
+use Rattle.session_core.specs.declared.kept.Kept.{Kept}
+use Rattle.session_core.specs.declared.kept.Tag.{Tag}
+use Rattle.session_core.specs.declared.kept.Tag.TheVariants as tags
+use Rattle.session_core.specs.Sessions.{SessionState}
+use Rattle.report_text.specs.Histories.{History}
+use Rattle.report_text.specs.Reports.{Reported, IsHistoryOf}
+use Rattle.gen_input.specs.Texts as generated
+use Rattle.metab_run.specs.declared.counting.Kind.{Kind}
+use Rattle.metab_run.specs.declared.counting.Kind.TheVariants.{Trivial, NotTrivial, Normal, Extends, Fails, Unknown, Stop}
+use Rattle.metab_run.specs.declared.words.TheConstants.{ENTRIES}
+use Rattle.metab_run.specs.Answers.{Answer}
+use Rattle.metab_run.specs.Files.{in_lines, ReadLeads}
+use Rattle.metab_run.specs.SessionFiles.{QuestionsLead}
+use Rattle.metab_run.specs.SoloAnswers.{limits_with, IsSolved, ShowsSettled}
+use Rattle.metab_run.specs.TrueAnswers.{AreTrueAnswers}
+
+-- the word for how a log ends
+abbrev pub end_word : End → List ℕ
+end_word Sealed = codes "sealed"
+end_word (Stopped t stop) = codes "stopped"
+end_word (Full m c) = codes "full"
+end_word (Spent c t) = codes "spent"
+
+-- the verdict is of this kind
+abbrev pub is_of : Kind → Tag → Bool
+is_of Trivial tags.Trivial = true
+is_of NotTrivial tags.NotTrivial = true
+is_of Normal tags.Normal = true
+is_of Extends tags.Extends = true
+is_of Fails (tags.Fails j) = true
+is_of Unknown (tags.Unknown j) = true
+is_of Stop (tags.Stop j stop) = true
+is_of kind tag = false
+
+-- how many of the replies have a verdict of this kind
+abbrev pub how_many_in : Kind → List Kept → ℕ
+how_many_in kind [] = 0
+how_many_in kind (k ∷ ks) = (if is_of kind k.tag then 1 else 0) + how_many_in kind ks
+
+-- how many replies of the sessions
+abbrev pub how_many : Kind → List SessionState → ℕ
+how_many kind [] = 0
+how_many kind (s ∷ ss) = how_many_in kind s.kept + how_many kind ss
+
+-- the summary of what a seed leads to
+abbrev pub summary : ℕ → Reported → List ℕ
+summary seed r =
+    codes "gen " ++ decimal seed ++ codes " entries " ++ decimal (length r.entries) ++ codes " end " ++ end_word r.end
+    ++ codes " trivial " ++ decimal (how_many Trivial r.sessions) ++ codes " not-trivial " ++ decimal (how_many NotTrivial r.sessions)
+    ++ codes " normal " ++ decimal (how_many Normal r.sessions) ++ codes " extends " ++ decimal (how_many Extends r.sessions)
+    ++ codes " fails " ++ decimal (how_many Fails r.sessions) ++ codes " unknown " ++ decimal (how_many Unknown r.sessions)
+    ++ codes " stop " ++ decimal (how_many Stop r.sessions) ++ codes "\n"
+
+-- The answer is the summary of a legal report within the limits of `solo` without options, with all replies by all items.
+-- What it answers is true, and exact where the log is sealed. The run is done exactly where the report is settled
+pub record ShowsGen (seed : ℕ) (p : Presented) (questions : List Question) (a : Answer) : Type 0 where
+  pub told : Reported
+  pub solved : IsSolved p (limits_with ENTRIES None) (questions ∷ []) told
+  pub history : History
+  pub is_history : IsHistoryOf told history
+  pub answers : AreTrueAnswers p (λ a. told.end ≡ Sealed) history
+  pub text : a.text ≡ summary seed told
+  pub status : ShowsSettled told a.status
+
+-- the texts of a presentation and of a session are parsed and lead to the answer
+abbrev pub TextsLead : ℕ → List ℕ → List ℕ → Answer → Type 0
+TextsLead seed pres session a =
+    ReadLeads (codes "presentation") (in_lines presentation_text pres)
+    (λ p. QuestionsLead (codes "session") (session_text p session) (ShowsGen seed p)) a
+
+-- the answer that is due to `gen` with this seed
+abbrev pub GenLeads : ℕ → Answer → Type 0
+GenLeads seed a = TextsLead seed (generated.presentation_text seed) (generated.session_text seed) a
