@@ -19,5 +19,6 @@ mod ReportEnds
 mod SoloFound
 mod Settling
 mod Counts
+mod Generated
 mod TrueAnswers
 mod Accepted

@@ -17,7 +17,7 @@ use Rattle.metab_run.proofs.Fronts.{split_get}
 -- ---- what is due
 
 -- a session that has no questions leads to its answer, whatever would come next
-refused_leads : (name : List ℕ) (f : SessionFault) (next : List Question → Answer → Type 0) (a : Answer) → RefusesSession name f (Says a) → QuestionsLead name (Err f) next a
+pub refused_leads : (name : List ℕ) (f : SessionFault) (next : List Question → Answer → Type 0) (a : Answer) → RefusesSession name f (Says a) → QuestionsLead name (Err f) next a
 refused_leads name (sessions.Text f) next a h = h
 refused_leads name (sessions.ImageTooLong line relator) next a h = h
 refused_leads name sessions.NoMemory next a h = absurd h

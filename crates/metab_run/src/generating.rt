@@ -92,7 +92,8 @@ fn summarize(
     ensures read { IfOk result (λ a. a.status ≢ Status.ReadFault) }
     ensures cause { IfErr result (HasCause ⊥) }
 {
-    let p = Arc::new(alloc, presentation_in(alloc, presentation)?)?;
+    let p = presentation_in(alloc, presentation)?;
+    let p = Arc::new(alloc, p)?;
     let limits = limits(ENTRIES, None);
     let book = opened(alloc, &p, limits)?;
     let questions = questions_in(alloc, &p, session)?;

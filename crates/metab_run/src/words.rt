@@ -264,9 +264,12 @@ fn generate<'a>(alloc: Global, words: &'a [String]) -> Result<Option<Command<'a>
     ensures within { IfOk result (λ found. IfSome found HasLimits) }
     ensures is { IfOk result (λ found. option_map asked found ≡ option_map Gen (option_and_then one_seed (plain (codes "gen") (map string_bytes words.now)))) }
 {
-    match plain(alloc, "gen", words)? {
+    let Some(found) = plain(alloc, "gen", words)? else {
+        return Ok(None);
+    };
+    match one_seed(&found) {
         None => Ok(None),
-        Some(found) => Ok(one_seed(&found).map(Command::Gen)),
+        Some(seed) => Ok(Some(Command::Gen(seed))),
     }
 }
 
