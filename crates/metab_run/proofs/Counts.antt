@@ -1,22 +1,27 @@
 -- Replies and sessions that are counted one after another.
-use Rattle.std.proofs.Common.{◌≡◌, ℕ, zero, suc, ◌+◌, ◌*◌, ◌<◌, ◌≤◌, Bool, true, false, if◌then◌else◌, List, [], ◌∷◌, length, take, Some, slice_get, sym, ap, subst, ◌∙◌, arith, refl}
+use Rattle.std.proofs.Common.{◌≡◌, ℕ, zero, suc, ◌+◌, ◌*◌, ◌<◌, ◌≤◌, Bool, true, false, if◌then◌else◌, List, [], ◌∷◌, length, take, get_or, Option, Some, None, slice_get, sym, ap, subst, ◌∙◌, arith, refl}
+use Rattle.std.specs.Int.{from_bool}
 use Rattle.session_text.specs.declared.TheConstants.{QUESTIONS}
 use Rattle.session_core.specs.declared.kept.Kept.{Kept}
 use Rattle.session_core.specs.declared.kept.Tag.{Tag}
 use Rattle.session_core.specs.Sessions.{SessionState}
 use Rattle.metab_run.specs.declared.counting.Kind.{Kind}
-use Rattle.metab_run.specs.GenAnswers.{is_of, how_many_in, how_many}
+use Rattle.metab_run.specs.GenAnswers.{is_of, counted, how_many_in, how_many}
 
--- the number that a test stands for
-abbrev pub one_if : Bool → ℕ
-one_if b = if b then 1 else 0
+pub from_is : (b : Bool) → from_bool b ≡ (if b then 1 else 0)
+from_is true = refl
+from_is false = refl
 
 next_is : (i : ℕ) → suc i ≡ i + 1
 next_is i = omega arith
 
-one_at_most : (b : Bool) → one_if b ≤ 1
+one_at_most : (b : Bool) → (if b then 1 else 0) ≤ 1
 one_at_most true = omega arith
 one_at_most false = omega arith
+
+one_or_none : (kind : Kind) (k : Option Kept) → counted kind k ≤ 1
+one_or_none kind None = omega arith
+one_or_none kind (Some k) = one_at_most (is_of kind k.tag)
 
 -- ---- the replies of a session
 
@@ -29,19 +34,20 @@ pub none_yet : (kind : Kind) (ks : List Kept) → AreCounted kind ks 0 0
 none_yet kind [] = record { is = refl; few = omega arith }
 none_yet kind (k ∷ ks) = record { is = refl; few = omega arith }
 
-more_at : (kind : Kind) (ks : List Kept) (i : ℕ) (k : Kept) → slice_get ks i ≡ Some k → how_many_in kind (take (suc i) ks) ≡ how_many_in kind (take i ks) + one_if (is_of kind k.tag)
-more_at kind [] i k at = absurd (cc)
-more_at kind (x ∷ ks) zero k at = let e : x ≡ k = cc in subst (λ (y : Kept). one_if (is_of kind x.tag) + 0 ≡ 0 + one_if (is_of kind y.tag)) e (omega arith)
-more_at kind (x ∷ ks) (suc i) k at = let rest = more_at kind ks i k at in omega (arith, rest)
+more_at : (kind : Kind) (ks : List Kept) (i : ℕ) → how_many_in kind (take (suc i) ks) ≡ how_many_in kind (take i ks) + counted kind (slice_get ks i)
+more_at kind [] zero = refl
+more_at kind [] (suc i) = refl
+more_at kind (x ∷ ks) zero = omega arith
+more_at kind (x ∷ ks) (suc i) = let rest = more_at kind ks i in omega (arith, rest)
 
-pub one_more : (kind : Kind) (ks : List Kept) (i n : ℕ) (k : Kept) → AreCounted kind ks i n → slice_get ks i ≡ Some k → AreCounted kind ks (i + 1) (n + one_if (is_of kind k.tag))
-one_more kind ks i n k so at =
-    let more : how_many_in kind (take (i + 1) ks) ≡ how_many_in kind (take i ks) + one_if (is_of kind k.tag) =
-    subst (λ (m : ℕ). how_many_in kind (take m ks) ≡ how_many_in kind (take i ks) + one_if (is_of kind k.tag)) (next_is i) (more_at kind ks i k at) in
+pub one_more : (kind : Kind) (ks : List Kept) (i n m : ℕ) → AreCounted kind ks i n → m ≡ counted kind (slice_get ks i) → AreCounted kind ks (i + 1) (n + m)
+one_more kind ks i n m so own =
+    let more : how_many_in kind (take (i + 1) ks) ≡ how_many_in kind (take i ks) + counted kind (slice_get ks i) =
+    subst (λ (j : ℕ). how_many_in kind (take j ks) ≡ how_many_in kind (take i ks) + counted kind (slice_get ks i)) (next_is i) (more_at kind ks i) in
     let is = so.is in
     let few = so.few in
-    let one = one_at_most (is_of kind k.tag) in
-    record { is = omega (arith, more, is); few = omega (arith, few, one) }
+    let one = one_or_none kind (slice_get ks i) in
+    record { is = omega (arith, more, is, own); few = omega (arith, few, one, own) }
 
 whole : {A : Type 0} (xs : List A) (i : ℕ) → length xs ≤ i → take i xs ≡ xs
 whole [] zero le = refl
@@ -63,16 +69,16 @@ pub no_session : (kind : Kind) (ss : List SessionState) → AreCountedIn kind ss
 no_session kind [] = record { is = refl; few = omega arith }
 no_session kind (s ∷ ss) = record { is = refl; few = omega arith }
 
-session_at : (kind : Kind) (ss : List SessionState) (i : ℕ) (s : SessionState) → slice_get ss i ≡ Some s → how_many kind (take (suc i) ss) ≡ how_many kind (take i ss) + how_many_in kind s.kept
-session_at kind [] i s at = absurd (cc)
-session_at kind (x ∷ ss) zero s at = let e : x ≡ s = cc in subst (λ (y : SessionState). how_many_in kind x.kept + 0 ≡ 0 + how_many_in kind y.kept) e (omega arith)
-session_at kind (x ∷ ss) (suc i) s at = let rest = session_at kind ss i s at in omega (arith, rest)
+session_at : (kind : Kind) (ss : List SessionState) (i : ℕ) (s : SessionState) → i < length ss → s ≡ get_or ss i s → how_many kind (take (suc i) ss) ≡ how_many kind (take i ss) + how_many_in kind s.kept
+session_at kind [] i s lt is = absurd (omega (arith, lt))
+session_at kind (x ∷ ss) zero s lt is = subst (λ (y : SessionState). how_many_in kind y.kept + 0 ≡ 0 + how_many_in kind s.kept) is (omega arith)
+session_at kind (x ∷ ss) (suc i) s lt is = let rest = session_at kind ss i s (omega (arith, lt)) is in omega (arith, rest)
 
-pub one_session : (kind : Kind) (ss : List SessionState) (i n m : ℕ) (s : SessionState) → AreCountedIn kind ss i n → slice_get ss i ≡ Some s → m ≡ how_many_in kind s.kept → m ≤ QUESTIONS
+pub one_session : (kind : Kind) (ss : List SessionState) (i n m : ℕ) (s : SessionState) → AreCountedIn kind ss i n → i < length ss → s ≡ get_or ss i s → m ≡ how_many_in kind s.kept → m ≤ QUESTIONS
     → AreCountedIn kind ss (i + 1) (n + m)
-one_session kind ss i n m s so at own most =
+one_session kind ss i n m s so lt at own most =
     let more : how_many kind (take (i + 1) ss) ≡ how_many kind (take i ss) + how_many_in kind s.kept =
-    subst (λ (m : ℕ). how_many kind (take m ss) ≡ how_many kind (take i ss) + how_many_in kind s.kept) (next_is i) (session_at kind ss i s at) in
+    subst (λ (j : ℕ). how_many kind (take j ss) ≡ how_many kind (take i ss) + how_many_in kind s.kept) (next_is i) (session_at kind ss i s lt at) in
     let is = so.is in
     let few = so.few in
     record { is = omega (arith, more, is, own); few = omega (arith, few, most) }

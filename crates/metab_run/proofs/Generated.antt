@@ -49,7 +49,7 @@ module _ (seed : ℕ) (pres session : List ℕ) where
   goes_on : (p : Presented) (a : Answer) → in_lines presentation_text pres ≡ Ok p → next p a → TextsLead seed pres session a
   goes_on p a is on = subst (λ (r : Result Presented TextFault). ReadLeads (codes "presentation") r next a) (sym is) on
 
-  pub no_presentation : (halt : Halt) → TextGives {Presented} (codes "presentation") (in_lines presentation_text pres) (Err halt) → CommandEnd (TextsLead seed pres session) (Err halt)
+  pub no_presentation : (halt : Halt) → TextGives {X = Presented} (codes "presentation") (in_lines presentation_text pres) (Err halt) → CommandEnd (TextsLead seed pres session) (Err halt)
   no_presentation (Says a) (f, is, refuses) = subst (λ (r : Result Presented TextFault). ReadLeads (codes "presentation") r next a) (sym is) refuses
   no_presentation NoMemory gives = tt
 

@@ -1,5 +1,5 @@
 -- What the command `gen` answers.
-use Rattle.std.specs.Prelude.{◌≡◌, ℕ, ◌+◌, Bool, true, false, if◌then◌else◌, List, [], ◌∷◌, ◌++◌, length, Option, None, codes, decimal}
+use Rattle.std.specs.Prelude.{◌≡◌, ℕ, ◌+◌, Bool, true, false, if◌then◌else◌, List, [], ◌∷◌, ◌++◌, length, Option, Some, None, codes, decimal}
 use Rattle.presentation.specs.Presented.{Presented}
 use Rattle.presentation.specs.Reading.{presentation_text}
 use Rattle.outcomes.specs.declared.ends.End.{End}
@@ -40,24 +40,38 @@ is_of Unknown (tags.Unknown j) = true
 is_of Stop (tags.Stop j stop) = true
 is_of kind tag = false
 
+-- 1 where there is a reply with a verdict of this kind, else 0
+abbrev pub counted : Kind → Option Kept → ℕ
+counted kind None = 0
+counted kind (Some k) = if is_of kind k.tag then 1 else 0
+
 -- how many of the replies have a verdict of this kind
 abbrev pub how_many_in : Kind → List Kept → ℕ
 how_many_in kind [] = 0
-how_many_in kind (k ∷ ks) = (if is_of kind k.tag then 1 else 0) + how_many_in kind ks
+how_many_in kind (k ∷ ks) = counted kind (Some k) + how_many_in kind ks
 
 -- how many replies of the sessions
 abbrev pub how_many : Kind → List SessionState → ℕ
 how_many kind [] = 0
 how_many kind (s ∷ ss) = how_many_in kind s.kept + how_many kind ss
 
+-- the seed, the number of entries, and how the log ends
+abbrev pub summary_head : ℕ → ℕ → End → List ℕ
+summary_head seed entries end = codes "gen " ++ decimal seed ++ codes " entries " ++ decimal entries ++ codes " end " ++ end_word end
+
+-- the number of replies of a kind behind the name of the kind
+abbrev pub count_text : List ℕ → Kind → List SessionState → List ℕ
+count_text name kind ss = name ++ decimal (how_many kind ss)
+
+-- the numbers of replies of each kind
+abbrev pub counts_text : List SessionState → List ℕ
+counts_text ss =
+    count_text (codes " trivial ") Trivial ss ++ (count_text (codes " not-trivial ") NotTrivial ss ++ (count_text (codes " normal ") Normal ss
+    ++ (count_text (codes " extends ") Extends ss ++ (count_text (codes " fails ") Fails ss ++ (count_text (codes " unknown ") Unknown ss ++ count_text (codes " stop ") Stop ss)))))
+
 -- the summary of what a seed leads to
 abbrev pub summary : ℕ → Reported → List ℕ
-summary seed r =
-    codes "gen " ++ decimal seed ++ codes " entries " ++ decimal (length r.entries) ++ codes " end " ++ end_word r.end
-    ++ codes " trivial " ++ decimal (how_many Trivial r.sessions) ++ codes " not-trivial " ++ decimal (how_many NotTrivial r.sessions)
-    ++ codes " normal " ++ decimal (how_many Normal r.sessions) ++ codes " extends " ++ decimal (how_many Extends r.sessions)
-    ++ codes " fails " ++ decimal (how_many Fails r.sessions) ++ codes " unknown " ++ decimal (how_many Unknown r.sessions)
-    ++ codes " stop " ++ decimal (how_many Stop r.sessions) ++ codes "\n"
+summary seed r = summary_head seed (length r.entries) r.end ++ (counts_text r.sessions ++ codes "\n")
 
 -- The answer is the summary of a legal report within the limits of `solo` without options, with all replies by all items.
 -- What it answers is true, and exact where the log is sealed. The run is done exactly where the report is settled

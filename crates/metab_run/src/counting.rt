@@ -1,15 +1,15 @@
 //! How many replies have a verdict of each kind, and the summary of a report.
 
-ghost use Rattle.std.specs.List.{AllByRecursion};
-ghost use Rattle.std.specs.Prelude.{◌≡◌, ◌≤◌, length, IfOk};
+ghost use Rattle.std.specs.Prelude.{◌≡◌, ◌≤◌, ◌-◌, ◌++◌, length, slice_get, IfOk, OnOk};
 ghost use Rattle.session_text.specs.declared.TheConstants.{QUESTIONS};
-ghost use Rattle.report_text.specs.Reports.{reported, IsReportable};
-ghost use Rattle.metab_run.specs.GenAnswers.{end_word, is_of, how_many_in, how_many, summary};
+ghost use Rattle.report_text.specs.Reports.{reported};
+ghost use Rattle.metab_run.specs.GenAnswers.{end_word, is_of, counted, how_many_in, how_many, summary_head, count_text, counts_text, summary};
 ghost use Rattle.metab_run.specs.declared.words.TheConstants.{SESSIONS};
 
 use outcomes::End;
 use report_text::Report;
 use session_core::{Session, Tag};
+use spelling::write_number;
 use std::alloc::{AllocError, Global};
 
 /// The kinds of verdicts.
@@ -39,27 +39,36 @@ fn is_of(kind: Kind, tag: Tag) -> bool
     }
 }
 
+// How many verdicts of this kind the question with this number has: one or none.
+#[tactic(auto, using(crate::proofs::Counts::from_is))]
+fn counted(kind: Kind, session: &Session, question: u32) -> u32
+    requires first { 1 ≤ question }
+    requires within { question ≤ length session.now.questions }
+    ensures { result ≡ counted kind (slice_get session.now.kept (question - 1)) }
+{
+    match session.kept(question) {
+        Some(kept) => u32::from(is_of(kind, kept.tag)),
+        None => 0,
+    }
+}
+
 // How many replies of the session have a verdict of this kind.
-#[tactic(auto, using(crate::proofs::Counts::none_yet, crate::proofs::Counts::one_more, crate::proofs::Counts::all_counted))]
+#[tactic(auto, using(crate::proofs::Counts::none_yet, crate::proofs::Counts::all_counted))]
 fn how_many_in(kind: Kind, session: &Session) -> u32
-    requires { length session.now.kept ≡ length session.now.questions }
     ensures is { result ≡ how_many_in kind session.now.kept }
     ensures few { result ≤ QUESTIONS }
 {
     let mut number = 0;
     for place in 0..session.count() {
-        if let Some(kept) = session.kept(place + 1) {
-            number += u32::from(is_of(kind, kept.tag));
-        }
+        number += counted(kind, session, place + 1);
     }
     number
 }
 
-/// How many replies of the sessions have a verdict of this kind.
-#[tactic(auto, using(crate::proofs::Counts::no_session, crate::proofs::Counts::one_session, crate::proofs::Counts::all_sessions))]
+// How many replies of the sessions have a verdict of this kind.
+#[tactic(auto, using(crate::proofs::Counts::no_session, crate::proofs::Counts::all_sessions))]
 fn how_many(kind: Kind, sessions: &[Session]) -> u32
-    requires replied { AllByRecursion (λ s. length s.kept ≡ length s.questions) sessions.now }
-    requires few { length sessions.now ≤ SESSIONS }
+    requires { length sessions.now ≤ SESSIONS }
     ensures { result ≡ how_many kind sessions.now }
 {
     let mut number = 0;
@@ -81,23 +90,50 @@ fn end_word(end: &End) -> &'static str
     }
 }
 
+// The seed, the number of entries, and how the log ends.
+fn head(alloc: Global, seed: u32, entries: usize, end: &End) -> Result<Vec<u8>, AllocError>
+    ensures { IfOk result (λ text. text.items ≡ summary_head seed entries end.now) }
+{
+    let word = end_word(end);
+    let text = format!(in alloc; "gen {seed} entries {entries} end {word}")?;
+    Ok(text.into_bytes())
+}
+
+// Puts the number of replies of a kind at the end, behind the kind's name.
+fn put_count(
+    out: &mut Vec<u8>,
+    name: &[u8],
+    kind: Kind,
+    sessions: &[Session],
+) -> Result<(), AllocError>
+    requires { length sessions.now ≤ SESSIONS }
+    ensures { OnOk result (out.new.items ≡ out.old.items ++ count_text name.now kind sessions.now) }
+{
+    out.extend_from_slice(name)?;
+    write_number(out, how_many(kind, sessions))
+}
+
+// Puts the numbers of replies of each kind at the end.
+fn put_counts(out: &mut Vec<u8>, sessions: &[Session]) -> Result<(), AllocError>
+    requires { length sessions.now ≤ SESSIONS }
+    ensures { OnOk result (out.new.items ≡ out.old.items ++ counts_text sessions.now) }
+{
+    put_count(out, b" trivial ", Kind::Trivial, sessions)?;
+    put_count(out, b" not-trivial ", Kind::NotTrivial, sessions)?;
+    put_count(out, b" normal ", Kind::Normal, sessions)?;
+    put_count(out, b" extends ", Kind::Extends, sessions)?;
+    put_count(out, b" fails ", Kind::Fails, sessions)?;
+    put_count(out, b" unknown ", Kind::Unknown, sessions)?;
+    put_count(out, b" stop ", Kind::Stop, sessions)
+}
+
 /// The summary of what a seed leads to.
 pub fn summary(alloc: Global, seed: u32, report: &Report) -> Result<Vec<u8>, AllocError>
-    requires reportable { IsReportable (reported report.now) }
-    requires few { length report.now.sessions.items ≤ SESSIONS }
+    requires { length report.now.sessions.items ≤ SESSIONS }
     ensures { IfOk result (λ text. text.items ≡ summary seed (reported report.now)) }
 {
-    let entries = report.entries.len();
-    let end = end_word(&report.end);
-    let trivial = how_many(Kind::Trivial, &report.sessions);
-    let not_trivial = how_many(Kind::NotTrivial, &report.sessions);
-    let normal = how_many(Kind::Normal, &report.sessions);
-    let extends = how_many(Kind::Extends, &report.sessions);
-    let fails = how_many(Kind::Fails, &report.sessions);
-    let unknown = how_many(Kind::Unknown, &report.sessions);
-    let stop = how_many(Kind::Stop, &report.sessions);
-    let text = format!(in alloc;
-        "gen {seed} entries {entries} end {end} trivial {trivial} not-trivial {not_trivial} normal {normal} extends {extends} fails {fails} unknown {unknown} stop {stop}\n"
-    )?;
-    Ok(text.into_bytes())
+    let mut text = head(alloc, seed, report.entries.len(), &report.end)?;
+    put_counts(&mut text, &report.sessions)?;
+    text.push(b'\n')?;
+    Ok(text)
 }
