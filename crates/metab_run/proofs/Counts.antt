@@ -1,5 +1,5 @@
 -- Replies and sessions that are counted one after another.
-use Rattle.std.proofs.Common.{◌≡◌, ℕ, zero, suc, ◌+◌, ◌*◌, ◌<◌, ◌≤◌, Bool, true, false, if◌then◌else◌, List, [], ◌∷◌, length, take, get_or, Option, Some, None, slice_get, sym, ap, subst, ◌∙◌, arith, refl}
+use Rattle.std.proofs.Common.{◌≡◌, ℕ, zero, suc, ◌+◌, ◌*◌, ◌<◌, ◌≤◌, Bool, true, false, if◌then◌else◌, List, [], ◌∷◌, ◌++◌, append_assoc, length, take, get_or, Option, Some, None, slice_get, sym, ap, subst, ◌∙◌, arith, refl}
 use Rattle.std.specs.Int.{from_bool}
 use Rattle.session_text.specs.declared.TheConstants.{QUESTIONS}
 use Rattle.session_core.specs.declared.kept.Kept.{Kept}
@@ -85,3 +85,9 @@ one_session kind ss i n m s so lt at own most =
 
 pub all_sessions : (kind : Kind) (ss : List SessionState) (i n : ℕ) → AreCountedIn kind ss i n → length ss ≤ i → n ≡ how_many kind ss
 all_sessions kind ss i n so le = so.is ∙ ap (how_many kind) (whole ss i le)
+
+-- ---- pieces of a text
+
+-- a piece behind a text, and what comes behind that
+pub behind : (l x y m n : List ℕ) → m ≡ l ++ x → n ≡ m ++ y → n ≡ l ++ (x ++ y)
+behind l x y m n one other = other ∙ ap (λ (z : List ℕ). z ++ y) one ∙ append_assoc l x y

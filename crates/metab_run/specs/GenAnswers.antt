@@ -63,15 +63,15 @@ summary_head seed entries end = codes "gen " ++ decimal seed ++ codes " entries 
 abbrev pub count_text : List ℕ → Kind → List SessionState → List ℕ
 count_text name kind ss = name ++ decimal (how_many kind ss)
 
--- the numbers of replies of each kind
+-- the numbers of replies of each kind, and the end of the line
 abbrev pub counts_text : List SessionState → List ℕ
 counts_text ss =
     count_text (codes " trivial ") Trivial ss ++ (count_text (codes " not-trivial ") NotTrivial ss ++ (count_text (codes " normal ") Normal ss
-    ++ (count_text (codes " extends ") Extends ss ++ (count_text (codes " fails ") Fails ss ++ (count_text (codes " unknown ") Unknown ss ++ count_text (codes " stop ") Stop ss)))))
+    ++ (count_text (codes " extends ") Extends ss ++ (count_text (codes " fails ") Fails ss ++ (count_text (codes " unknown ") Unknown ss ++ (count_text (codes " stop ") Stop ss ++ codes "\n"))))))
 
 -- the summary of what a seed leads to
 abbrev pub summary : ℕ → Reported → List ℕ
-summary seed r = summary_head seed (length r.entries) r.end ++ (counts_text r.sessions ++ codes "\n")
+summary seed r = summary_head seed (length r.entries) r.end ++ counts_text r.sessions
 
 -- The answer is the summary of a legal report within the limits of `solo` without options, with all replies by all items.
 -- What it answers is true, and exact where the log is sealed. The run is done exactly where the report is settled

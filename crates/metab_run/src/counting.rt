@@ -113,7 +113,7 @@ fn put_count(
     write_number(out, how_many(kind, sessions))
 }
 
-// Puts the numbers of replies of each kind at the end.
+// Puts the numbers of replies of each kind at the end, and the end of the line.
 fn put_counts(out: &mut Vec<u8>, sessions: &[Session]) -> Result<(), AllocError>
     requires { length sessions.now ≤ SESSIONS }
     ensures { OnOk result (out.new.items ≡ out.old.items ++ counts_text sessions.now) }
@@ -124,7 +124,9 @@ fn put_counts(out: &mut Vec<u8>, sessions: &[Session]) -> Result<(), AllocError>
     put_count(out, b" extends ", Kind::Extends, sessions)?;
     put_count(out, b" fails ", Kind::Fails, sessions)?;
     put_count(out, b" unknown ", Kind::Unknown, sessions)?;
-    put_count(out, b" stop ", Kind::Stop, sessions)
+    put_count(out, b" stop ", Kind::Stop, sessions)?;
+    out.push(b'\n')?;
+    Ok(())
 }
 
 /// The summary of what a seed leads to.
@@ -134,6 +136,5 @@ pub fn summary(alloc: Global, seed: u32, report: &Report) -> Result<Vec<u8>, All
 {
     let mut text = head(alloc, seed, report.entries.len(), &report.end)?;
     put_counts(&mut text, &report.sessions)?;
-    text.push(b'\n')?;
     Ok(text)
 }
