@@ -82,12 +82,7 @@ fn shown(alloc: Global, seed: u32, report: &Report) -> Result<Answer, AllocError
 }
 
 // The answer to these texts.
-fn summarize(
-    alloc: Global,
-    seed: u32,
-    presentation: &[u8],
-    session: &[u8],
-) -> Result<Answer, Halt>
+fn summarize(alloc: Global, seed: u32, presentation: &[u8], session: &[u8]) -> Result<Answer, Halt>
     ensures exact { CommandEnd (TextsLead seed presentation.now session.now) result }
     ensures read { IfOk result (λ a. a.status ≢ Status.ReadFault) }
     ensures cause { IfErr result (HasCause ⊥) }

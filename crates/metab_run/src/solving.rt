@@ -36,11 +36,7 @@ pub fn limits(entries: u32, budget: Option<u32>) -> Limits
 }
 
 /// The book of the presentation before its completion. The limit on entries is one that the words can give.
-pub fn opened(
-    alloc: Global,
-    p: &Arc<Presentation>,
-    limits: Limits,
-) -> Result<Book, AllocError>
+pub fn opened(alloc: Global, p: &Arc<Presentation>, limits: Limits) -> Result<Book, AllocError>
     requires least { LEAST_ENTRIES ≤ limits.entries }
     requires most { limits.entries ≤ MOST_ENTRIES }
     requires terms { limits.terms ≡ LOG_TERMS }
