@@ -1,5 +1,5 @@
 -- The texts of legal reports hold.
-use Rattle.std.proofs.Common.{ℕ, ◌+◌, ◌<◌, ◌^◌, List}
+use Rattle.std.proofs.Common.{◌+◌, ◌<◌, ◌^◌, List}
 use Rattle.std.specs.Prelude.{Ok}
 use Rattle.presentation.specs.Presented.{Presented}
 use Rattle.session_text.specs.declared.question.Question.{Question}

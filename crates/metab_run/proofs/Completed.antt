@@ -1,5 +1,5 @@
 -- What a completion has come to, where the book was sealed already and where it is finished now.
-use Rattle.std.proofs.Common.{◌≡◌, ◌≢◌, [], ◌++◌, append-nil, Option, Some, None, false, sym, ap, subst, ◌∙◌, refl}
+use Rattle.std.proofs.Common.{◌≡◌, [], append-nil, Some, None, false, sym, ap, subst, ◌∙◌, refl}
 use Rattle.presentation.specs.Presented.{Presented}
 use Rattle.outcomes.specs.declared.ends.End.{End}
 use Rattle.outcomes.specs.declared.ends.End.TheVariants.{Sealed, Stopped, Full, Spent}

@@ -1,9 +1,8 @@
 -- Replies and sessions that are counted one after another.
-use Rattle.std.proofs.Common.{◌≡◌, ℕ, zero, suc, ◌+◌, ◌*◌, ◌<◌, ◌≤◌, Bool, true, false, if◌then◌else◌, List, [], ◌∷◌, ◌++◌, append_assoc, length, take, get_or, Option, Some, None, slice_get, sym, ap, subst, ◌∙◌, arith, refl}
+use Rattle.std.proofs.Common.{◌≡◌, ℕ, zero, suc, ◌+◌, ◌*◌, ◌<◌, ◌≤◌, Bool, true, false, if◌then◌else◌, List, [], ◌∷◌, ◌++◌, append_assoc, length, take, get_or, Option, Some, None, slice_get, ap, subst, ◌∙◌, arith, refl}
 use Rattle.std.specs.Int.{from_bool}
 use Rattle.session_text.specs.declared.TheConstants.{QUESTIONS}
 use Rattle.session_core.specs.declared.kept.Kept.{Kept}
-use Rattle.session_core.specs.declared.kept.Tag.{Tag}
 use Rattle.session_core.specs.Sessions.{SessionState}
 use Rattle.metab_run.specs.declared.counting.Kind.{Kind}
 use Rattle.metab_run.specs.GenAnswers.{is_of, counted, how_many_in, how_many}

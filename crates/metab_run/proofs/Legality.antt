@@ -1,5 +1,5 @@
 -- From a completed log and answered sessions to a legal report.
-use Rattle.std.proofs.Common.{◌≡◌, ◌≢◌, ℕ, ◌+◌, ◌<◌, ◌≤◌, inl, inr, List, [], ◌∷◌, ◌++◌, length, length-append, map, take, Option, Some, None, slice_get, sym, ap, subst, ◌∙◌, arith, refl}
+use Rattle.std.proofs.Common.{◌≡◌, ℕ, ◌+◌, ◌≤◌, inl, inr, List, ◌++◌, length, length-append, take, Option, Some, None, slice_get, sym, ap, subst, ◌∙◌, arith, refl}
 use Rattle.std.specs.List.{AllByRecursion}
 use Rattle.std.proofs.lemmas.List.{take-append-le, length-map}
 use Rattle.presentation.specs.Presented.{Presented}
@@ -13,11 +13,10 @@ use Rattle.pair_book.specs.Logs.{IsLawful}
 use Rattle.session_core.specs.declared.kept.Kept.{Kept}
 use Rattle.session_core.specs.Questions.{CanBeAsked}
 use Rattle.session_core.specs.Replies.{IsReply}
-use Rattle.session_core.specs.Sessions.{SessionState, IsSession, AreRising, last_front}
+use Rattle.session_core.specs.Sessions.{SessionState, AreRising, last_front}
 use Rattle.completion_solo.specs.Ends.{Ends}
-use Rattle.report_text.specs.Reports.{Reported, IsReplied}
 use Rattle.report_text.specs.Answers.{seal_below}
-use Rattle.metab_run.specs.Legal.{IsLegal, IsLegalSession, AreWithinLimits, AreByAll, seal_at}
+use Rattle.metab_run.specs.Legal.{IsLegal, IsLegalSession, AreWithinLimits}
 use Rattle.metab_run.specs.Gathering.{questions_of, IsAsker, AreAskers, CanGoOn, IsAnsweredOn, AreAnsweredOn, IsCompleted, AreReplies}
 use Rattle.metab_run.proofs.Fronts.{split_get, map_get, last_low, all_get, seal_low, seal_all, take_items}
 

@@ -1,5 +1,5 @@
 -- How a run ends that has a report.
-use Rattle.std.proofs.Common.{◌≡◌, ◌⊎◌, ℕ, inl, inr, List, [], ◌∷◌, ◌++◌, length, take, Option, Some, None, sym, ap, subst, ◌∙◌, refl}
+use Rattle.std.proofs.Common.{◌≡◌, ◌⊎◌, ℕ, inl, inr, List, [], ◌∷◌, ◌++◌, length, take, Option, Some, sym, ap, subst, ◌∙◌, refl}
 use Rattle.std.specs.List.{AllByRecursion}
 use Rattle.std.specs.Prelude.{Ok}
 use Rattle.mb_io.specs.Shelf.{TakesPrefix}
@@ -8,10 +8,8 @@ use Rattle.presentation.specs.Reading.{presentation_text}
 use Rattle.outcomes.specs.declared.ends.End.{End}
 use Rattle.outcomes.specs.declared.ends.End.TheVariants as ends
 use Rattle.session_text.specs.declared.question.Question.{Question}
-use Rattle.session_core.specs.declared.kept.Kept.{Kept}
 use Rattle.session_core.specs.declared.kept.Tag.{Tag}
 use Rattle.session_core.specs.declared.kept.Tag.TheVariants as tags
-use Rattle.session_core.specs.Sessions.{SessionState}
 use Rattle.report_text.specs.Histories.{History}
 use Rattle.report_text.specs.Reports.{Reported, IsHistoryOf, text_of}
 use Rattle.report_text.specs.Writing.{Stops}
@@ -26,7 +24,7 @@ use Rattle.metab_run.specs.Words.{Asked, SoloAsked, Solo, command}
 use Rattle.metab_run.specs.Files.{in_lines}
 use Rattle.metab_run.specs.Ends.{Ends}
 use Rattle.metab_run.specs.SessionFiles.{SessionsLead}
-use Rattle.metab_run.specs.SoloAnswers.{limits_of, IsNoStop, HasNoStop, IsSettled, ShowsSettled, ShowsSolo, SoloLeads, IsFound, DeliversReport}
+use Rattle.metab_run.specs.SoloAnswers.{limits_of, IsNoStop, HasNoStop, ShowsSettled, ShowsSolo, SoloLeads, IsFound, DeliversReport}
 use Rattle.metab_run.specs.Top.{CommandLeads, IsDue, AsksReport, ShownTrivial}
 use Rattle.metab_run.proofs.Leading.{gives_lead}
 use Rattle.metab_run.proofs.SessionFiles.{all_lead}

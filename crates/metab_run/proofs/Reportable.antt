@@ -1,5 +1,5 @@
 -- Legal reports can be written, and have their history.
-use Rattle.std.proofs.Common.{◌≡◌, ◌≢◌, ℕ, zero, suc, ◌+◌, ◌<◌, ◌≤◌, ◌^◌, ◌⊎◌, inl, inr, Bool, true, false, pos, List, [], ◌∷◌, ◌++◌, length, take, map, Option, Some, None, slice_get, sym, ap, subst, ◌∙◌, arith, refl}
+use Rattle.std.proofs.Common.{◌≡◌, ◌≢◌, ℕ, zero, suc, ◌+◌, ◌<◌, ◌≤◌, ◌^◌, ◌⊎◌, inl, inr, Bool, pos, List, [], ◌∷◌, length, take, Option, Some, slice_get, sym, ap, subst, ◌∙◌, arith, refl}
 use Rattle.std.specs.List.{AllByRecursion}
 use Rattle.std.specs.Prelude.{IsSome, ◌↔◌}
 use Rattle.presentation.specs.Presented.{Presented}
@@ -8,19 +8,18 @@ use Rattle.outcomes.specs.declared.ends.End.TheVariants.{Sealed, Stopped, Full, 
 use Rattle.outcomes.specs.declared.tasks.Task.{Task}
 use Rattle.module_vec.specs.declared.faults.Stop.{Stop}
 use Rattle.module_vec.specs.declared.faults.Stop.TheVariants.{Wide, Long, Deep, Steep}
-use Rattle.module_vec.specs.declared.places.Term.{Term}
 use Rattle.module_vec.specs.declared.steps.Step.{Step}
 use Rattle.module_vec.specs.Vectors.{InRange}
 use Rattle.module_vec.specs.Modules.{vector_at}
 use Rattle.module_vec.specs.Reducers.{AreEntries}
-use Rattle.step_text.specs.Over.{StepIsOver, StepsAreOver}
-use Rattle.vector_text.specs.Over.{MonoIsOver, VectorIsOver}
+use Rattle.step_text.specs.Over.{StepsAreOver}
+use Rattle.vector_text.specs.Over.{VectorIsOver}
 use Rattle.session_text.specs.declared.question.Question.{Question}
 use Rattle.report_lines.specs.Lines.{EndIsOver, StopIsOver, MadeIsOver}
 use Rattle.basis_entry.specs.declared.recipes.Recipe.{Recipe}
 use Rattle.basis_entry.specs.declared.recipes.Recipe.TheVariants.{Gen, Sum}
-use Rattle.basis_entry.specs.Entries.{BasisEntry, IsBasisEntry, AreOf, RecipeIsOver, MonosAreOver, vectors_of}
-use Rattle.basis_entry.specs.Base.{AreBase, has_negative_lead}
+use Rattle.basis_entry.specs.Entries.{BasisEntry, IsBasisEntry, RecipeIsOver, MonosAreOver, vectors_of}
+use Rattle.basis_entry.specs.Base.{has_negative_lead}
 use Rattle.basis_entry.specs.Seals.{Seal, item_count}
 use Rattle.pair_book.specs.Logs.{IsLawful}
 use Rattle.pair_book.specs.Works.{Stops}
@@ -29,13 +28,12 @@ use Rattle.pair_book.proofs.OverStops.{stop_over}
 use Rattle.session_core.specs.declared.kept.Kept.{Kept}
 use Rattle.session_core.specs.Replies.{IsReply}
 use Rattle.session_core.specs.Sessions.{SessionState, AreRising}
-use Rattle.report_text.specs.Answers.{seal_below, vectors_below, to_show, AreProofsOf}
-use Rattle.report_text.specs.Closing.{is_left_open, HasClosing, HasClosings}
-use Rattle.report_text.specs.Histories.{History, Reply, made_by}
+use Rattle.report_text.specs.Answers.{seal_below, vectors_below, to_show}
+use Rattle.report_text.specs.Closing.{HasClosing, HasClosings}
+use Rattle.report_text.specs.Histories.{History, made_by}
 use Rattle.report_text.specs.Reports.{Reported, IsReportable, IsHistoryOf, IsRecord, IsSumOver, EntryIsOver, IsReplied, AreFrom}
 use Rattle.report_text.proofs.Existing.{history_there}
 use Rattle.report_text.proofs.Lists.{all_first}
-use Rattle.report_text.proofs.Telling.{all_below, seal_of_all}
 use Rattle.report_text.proofs.Building.{proofs_there}
 use Rattle.report_text.proofs.Verdicts.{yes_is_shown}
 use Rattle.metab_run.specs.Legal.{IsLegal, IsLegalSession, AreByAll, seal_at}

@@ -1,12 +1,11 @@
 -- From what is read to the report that `solo` finds.
-use Rattle.std.proofs.Common.{◌≡◌, ℕ, ◌+◌, ◌<◌, ◌≤◌, ◌^◌, List, [], ◌∷◌, ◌++◌, length, take, Option, Some, None, slice_get, sym, ap, subst, ◌∙◌, arith, refl}
+use Rattle.std.proofs.Common.{◌≡◌, ℕ, ◌+◌, ◌≤◌, List, [], ◌∷◌, ◌++◌, length, take, Option, sym, ap, subst, ◌∙◌, arith}
 use Rattle.std.specs.List.{AllByRecursion}
 use Rattle.std.specs.Prelude.{IfSome, Ok, Err}
 use Rattle.presentation.specs.Presented.{Presented, IsPresented}
 use Rattle.presentation.specs.Reading.{presentation_text}
 use Rattle.session_text.specs.declared.question.Question.{Question}
 use Rattle.session_text.specs.Questions.{HasSource}
-use Rattle.basis_entry.specs.Entries.{BasisEntry}
 use Rattle.basis_entry.specs.Seals.{item_count}
 use Rattle.pair_book.specs.declared.limits.Limits.{Limits}
 use Rattle.pair_book.specs.Books.{Held, IsOpened}
@@ -26,7 +25,7 @@ use Rattle.metab_run.specs.Words.{SoloAsked}
 use Rattle.metab_run.specs.Files.{in_lines}
 use Rattle.metab_run.specs.SessionFiles.{AreQuestionsIn, AreQuestionsUnder, SessionFails, SessionsFail, SessionsGive, SessionsLead, IsNewSession, AreNewSessions}
 use Rattle.metab_run.specs.Legal.{IsLegal, AreByAll}
-use Rattle.metab_run.specs.Gathering.{questions_of, IsAsker, AreAskers, AreAnsweredOn, AreReplies}
+use Rattle.metab_run.specs.Gathering.{questions_of, AreAskers, AreAnsweredOn, AreReplies}
 use Rattle.metab_run.specs.SoloAnswers.{limits_of, IsSolution, IsFound, ShowsSolo, SoloGives}
 use Rattle.metab_run.proofs.Leading.{gives_lead}
 use Rattle.metab_run.proofs.SessionFiles.{failing_lead}

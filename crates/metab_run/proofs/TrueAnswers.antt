@@ -1,11 +1,9 @@
 -- The answers of legal reports are true.
-use Rattle.std.proofs.Common.{◌≡◌, ◌≢◌, ℕ, zero, suc, ◌+◌, ◌<◌, ◌≤◌, Bool, true, false, nat_lt, if◌then◌else◌, List, [], ◌∷◌, length, take, Option, Some, None, slice_get, sym, ap, subst, ◌∙◌, arith, refl}
+use Rattle.std.proofs.Common.{◌≡◌, ℕ, ◌+◌, ◌<◌, Bool, true, false, nat_lt, if◌then◌else◌, List, length, take, Option, Some, None, slice_get, sym, ap, subst, ◌∙◌, arith, refl}
 use Rattle.std.specs.List.{AllByRecursion}
 use Rattle.std.specs.Prelude.{IsSome, IfSome}
 use Rattle.std.proofs.lemmas.List.{take_all}
 use Rattle.presentation.specs.Presented.{Presented, IsPresented}
-use Rattle.module_vec.specs.declared.places.Term.{Term}
-use Rattle.module_vec.specs.Reducers.{AreEntries}
 use Rattle.outcomes.specs.declared.ends.End.{End}
 use Rattle.outcomes.specs.declared.ends.End.TheVariants.{Sealed, Stopped, Full, Spent}
 use Rattle.outcomes.specs.declared.verdicts.Verdict.{Verdict}
@@ -22,7 +20,7 @@ use Rattle.session_core.specs.Sessions.{SessionState}
 use Rattle.session_core.specs.Verdicts.{IsSealedFor, IsVerdict}
 use Rattle.session_core.specs.Meaning.{IsExact}
 use Rattle.session_core.proofs.Exactness.{trivial_verdict, extends_verdict, strong_verdict}
-use Rattle.report_text.specs.Answers.{seal_below, vectors_below, IsReplyTo, IsClosing, IsAnswered, IsSessionAnswered, AreAnswered}
+use Rattle.report_text.specs.Answers.{seal_below, IsReplyTo, IsClosing, IsAnswered, IsSessionAnswered}
 use Rattle.report_text.specs.Histories.{Reply, Answered, SessionAnswers, History}
 use Rattle.report_text.specs.Reports.{Reported, IsHistoryOf}
 use Rattle.report_text.proofs.Lists.{all_first}

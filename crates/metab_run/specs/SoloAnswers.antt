@@ -1,6 +1,6 @@
 -- What the command `solo` answers.
 use Rattle.std.specs.List.{AllByRecursion}
-use Rattle.std.specs.Prelude.{◌≡◌, ℕ, ◌≤◌, ◌⊎◌, List, [], length, slice_get, Option, Some, IfSome, Result, Ok, Err}
+use Rattle.std.specs.Prelude.{◌≡◌, ℕ, ◌≤◌, ◌⊎◌, List, [], length, Option, IfSome, Result, Ok, Err}
 use Rattle.mb_io.specs.Shelf.{TakesPrefix}
 use Rattle.presentation.specs.Presented.{Presented, IsPresented}
 use Rattle.presentation.specs.Reading.{presentation_text}
@@ -9,7 +9,6 @@ use Rattle.session_text.specs.declared.question.Question.{Question}
 use Rattle.session_text.specs.Questions.{HasSource}
 use Rattle.task_table.specs.declared.order.Order.TheVariants.{ByNumber}
 use Rattle.pair_book.specs.declared.limits.Limits.{Limits}
-use Rattle.session_core.specs.declared.kept.Kept.{Kept}
 use Rattle.session_core.specs.declared.kept.Tag.{Tag}
 use Rattle.session_core.specs.declared.kept.Tag.TheVariants as tags
 use Rattle.session_core.specs.Sessions.{SessionState}

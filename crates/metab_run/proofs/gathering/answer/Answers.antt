@@ -1,7 +1,7 @@
-use Rattle.std.proofs.Common.{rules, arith, ◌≡◌, ◌<◌, ◌≤◌, length, Some, slice_get, slice_index_or}
+use Rattle.std.proofs.Common.{rules, ◌≡◌, ◌<◌, ◌≤◌, length, Some, slice_get, slice_index_or}
 use Rattle.std.proofs.lemmas.Option.{slice_get-get_or}
 use Rattle.session_core.specs.Sessions.{SessionState}
-use Rattle.metab_run.specs.Gathering.{CanGoOn, IsAnsweredOn}
+use Rattle.metab_run.specs.Gathering.{IsAnsweredOn}
 use Rattle.metab_run.proofs.Answering.{one_answered, all_answered, next_goes_on}
 use Rattle.metab_run.proofs.gathering.answer.Goals as goal
 

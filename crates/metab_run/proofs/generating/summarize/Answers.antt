@@ -1,4 +1,4 @@
-use Rattle.std.proofs.Common.{rules, ◌≡◌, ap, subst, List, ℕ, None}
+use Rattle.std.proofs.Common.{rules, ◌≡◌, ap, subst, List, None}
 use Rattle.std.specs.Prelude.{Ok}
 use Rattle.std.specs.Arc.{arc_value}
 use Rattle.presentation.specs.Presented.{Presented}

@@ -2,23 +2,18 @@ use Rattle.std.proofs.Common.{rules, ◌≡◌, ◌≤◌, ℕ, List, Option, le
 use Rattle.std.proofs.lemmas.List.{length-map}
 use Rattle.std.specs.Prelude.{IfSome, Ok}
 use Rattle.std.specs.Arc.{arc_value}
-use Rattle.std.specs.List.{AllByRecursion}
 use Rattle.mb_io.specs.Shelf.{CountRose}
 use Rattle.mb_io.proofs.Giving.{rose_later}
-use Rattle.presentation.specs.Presented.{Presented, IsPresented}
+use Rattle.presentation.specs.Presented.{Presented}
 use Rattle.presentation.specs.Reading.{presentation_text}
-use Rattle.session_text.specs.declared.question.Question.{Question}
-use Rattle.session_text.specs.Questions.{HasSource}
 use Rattle.session_core.specs.Sessions.{SessionState}
 use Rattle.basis_entry.specs.Entries.{BasisEntry}
-use Rattle.basis_entry.specs.declared.TheConstants.{BASE, BASE_TERMS}
 use Rattle.pair_book.specs.declared.limits.Limits.{Limits}
-use Rattle.pair_book.specs.Books.{Held, IsOpened}
+use Rattle.pair_book.specs.Books.{Held}
 use Rattle.report_text.specs.Reports.{Reported, reported}
 use Rattle.metab_run.specs.declared.TheConstants.{PRESENTATION_BYTES}
 use Rattle.metab_run.specs.Files.{in_lines}
-use Rattle.metab_run.specs.Gathering.{questions_of, AreAnsweredOn}
-use Rattle.metab_run.specs.Legal.{IsLegal}
+use Rattle.metab_run.specs.Gathering.{questions_of}
 use Rattle.metab_run.specs.SessionFiles.{AreQuestionsUnder, AreNewSessions}
 use Rattle.metab_run.specs.SoloAnswers.{limits_of, IsSolution}
 use Rattle.metab_run.specs.Words.{SoloAsked, solo_asked}
