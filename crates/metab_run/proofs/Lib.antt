@@ -18,5 +18,7 @@ pub mod Reportable
 mod ReportEnds
 mod SoloFound
 mod Settling
+mod Counts
+mod Generated
 mod TrueAnswers
 mod Accepted

@@ -26,7 +26,7 @@ use Rattle.metab_run.specs.Files.{in_lines, FileGives, HasCause}
 use Rattle.metab_run.specs.SessionFiles.{AreQuestionsIn, AreQuestionsUnder, SessionFails, SessionsFail, SessionsGive, IsNewSession, AreNewSessions}
 use Rattle.metab_run.specs.Legal.{IsLegal, AreByAll}
 use Rattle.metab_run.specs.Gathering.{questions_of, AreAskers, AreAnsweredOn, AreReplies}
-use Rattle.metab_run.specs.SoloAnswers.{limits_of, IsPresentedIn, IsReady, SoloGives}
+use Rattle.metab_run.specs.SoloAnswers.{limits_of, IsPresentedIn, IsSolution, IsReady, SoloGives}
 use Rattle.metab_run.proofs.TrueAnswers.{solved_answers}
 use Rattle.metab_run.proofs.Accepted.{checks}
 use Rattle.metab_run.proofs.Reportable.{all_from, stands, reportable, told}
@@ -49,38 +49,42 @@ sourced : (ss : List SessionState) → AllByRecursion (λ s. AllByRecursion HasS
 sourced [] all = tt
 sourced (s ∷ ss) all = (all.0, sourced ss all.1)
 
-pub can_be_written : (q : SoloAsked) (p : Presented) (questions : List (List Question)) (r : Reported) → q.entries ≤ MOST_ENTRIES → IsLegal p (limits_of q) questions r → IsReportable r
-can_be_written q p questions r most legal = reportable p (limits_of q) questions r legal (omega (arith, most))
+pub can_be_written : (limits : Limits) (p : Presented) (questions : List (List Question)) (r : Reported) → limits.entries ≤ MOST_ENTRIES → IsLegal p limits questions r → IsReportable r
+can_be_written limits p questions r most legal = reportable p limits questions r legal (omega (arith, most))
 
-pub found : (under : List ℕ → Option (List ℕ)) (q : SoloAsked) (p : Presented) (least : ℕ) (ss : List SessionState) (r : Reported)
-    → IsPresentedIn under q p → AreQuestionsUnder under p q.sessions (questions_of ss)
-    → IsPresented p → AllByRecursion (λ s. AllByRecursion HasSource s.questions) ss → q.entries ≤ MOST_ENTRIES → AreNewSessions p least ss
-    → IsLegal p (limits_of q) (questions_of ss) r → AreAnsweredOn p r.entries r.seal ss r.sessions
-    → ((h : History) → IsHistoryOf r h → TellsWhole r.pres (text_of r h) (Ok (told_amount r h))) → IsReady under q r
-found under q p least ss r presented asked known sources most new legal on accepted =
+-- a legal report of new sessions that were answered, and which is accepted
+pub solution : (limits : Limits) (p : Presented) (least : ℕ) (ss : List SessionState) (r : Reported)
+    → IsPresented p → AllByRecursion (λ s. AllByRecursion HasSource s.questions) ss → limits.entries ≤ MOST_ENTRIES → AreNewSessions p least ss
+    → IsLegal p limits (questions_of ss) r → AreAnsweredOn p r.entries r.seal ss r.sessions
+    → ((h : History) → IsHistoryOf r h → TellsWhole r.pres (text_of r h) (Ok (told_amount r h))) → IsSolution p limits (questions_of ss) r
+solution limits p least ss r known sources most new legal on accepted =
     let by_all : AllByRecursion (λ s. AreByAll r.entries r.seal s.kept) r.sessions = all_from (λ (s : SessionState). AreByAll r.entries r.seal s.kept) r.sessions (λ i t at.
     let old = stands r.sessions ss i t at on.count in
     let is = on.each i old.0 t old.1 at in
     let kept : t.kept ≡ is.more = ap (λ (x : SessionState). x.kept) is.is ∙ ap (λ (ks : List Kept). ks ++ is.more) (new i old.0 old.1).kept in
     subst (AreByAll r.entries r.seal) (sym kept) is.by_all) in
-    let can : IsReportable r = can_be_written q p (questions_of ss) r most legal in
+    let can : IsReportable r = can_be_written limits p (questions_of ss) r most legal in
     let history = told r can by_all in
     record {
       reportable = can;
       history = history.0;
-      found = record {
-        p = p;
-        presented = presented;
-        questions = questions_of ss;
-        asked = asked;
-        solved = record {
-          legal = legal;
-          by_all = by_all;
-          told = history.1;
-          answers = solved_answers p (limits_of q) (questions_of ss) r history.0 known (sourced ss sources) legal by_all history.1;
-          checked = checks p r history.0 legal.pres (accepted history.0 history.1);
-        };
+      solved = record {
+        legal = legal;
+        by_all = by_all;
+        told = history.1;
+        answers = solved_answers p limits (questions_of ss) r history.0 known (sourced ss sources) legal by_all history.1;
+        checked = checks p r history.0 legal.pres (accepted history.0 history.1);
       };
+    }
+
+-- the texts have these values, and this is a solution on them
+pub found : (under : List ℕ → Option (List ℕ)) (q : SoloAsked) (p : Presented) (ss : List SessionState) (r : Reported)
+    → IsPresentedIn under q p → AreQuestionsUnder under p q.sessions (questions_of ss) → IsSolution p (limits_of q) (questions_of ss) r → IsReady under q r
+found under q p ss r presented asked solution =
+    record {
+      reportable = solution.reportable;
+      history = solution.history;
+      found = record { p = p; presented = presented; questions = questions_of ss; asked = asked; solved = solution.solved };
     }
 
 -- ---- what goes wrong with a session

@@ -69,11 +69,15 @@ abbrev pub HasCause : Type 0 → Halt → Type 0
 HasCause counted (Says a) = (a.status ≢ Done) × (a.status ≢ Open) × (a.status ≡ ReadFault → counted)
 HasCause counted NoMemory = Unit {0}
 
--- what reading a word of the command line answers: its value, or what is wrong
+-- what reading a text that is at hand answers: its value, or what is wrong with the text, which has this name
+abbrev pub TextGives : {X : Type 0} → List ℕ → Result X TextFault → Result X Halt → Type 0
+TextGives name read (Ok x) = read ≡ Ok x
+TextGives name read (Err (Says a)) = (f : TextFault) × (read ≡ Err f) × (a ≡ refused name f)
+TextGives name read (Err NoMemory) = Unit {0}
+
+-- what reading a word of the command line answers
 abbrev pub WordGives : {X : Type 0} → Result X TextFault → Result X Halt → Type 0
-WordGives read (Ok x) = read ≡ Ok x
-WordGives read (Err (Says a)) = (f : TextFault) × (read ≡ Err f) × (a ≡ refused (codes "word") f)
-WordGives read (Err NoMemory) = Unit {0}
+WordGives read given = TextGives (codes "word") read given
 
 -- the word of the command line as a text
 abbrev pub read_word : Presented → List ℕ → Result (List Letter) TextFault

@@ -11,4 +11,5 @@ pub mod Legal
 pub mod Gathering
 pub mod SessionFiles
 pub mod SoloAnswers
+pub mod GenAnswers
 pub mod TrueAnswers

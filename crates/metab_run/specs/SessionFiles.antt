@@ -40,6 +40,12 @@ SessionGives counted p name told (Ok qs) = AreQuestionsIn p told qs.items
 SessionGives counted p name told (Err (Says a)) = SessionFails counted p name told a
 SessionGives counted p name told (Err NoMemory) = Unit {0}
 
+-- what parsing a session that is at hand answers: its questions, or what is wrong with the text, which has this name
+abbrev pub QuestionsGive : List ℕ → Result (List Question) SessionFault → Result (Vec Question Global) Halt → Type 0
+QuestionsGive name read (Ok qs) = read ≡ Ok qs.items
+QuestionsGive name read (Err (Says a)) = (f : SessionFault) × (read ≡ Err f) × RefusesSession name f (Says a)
+QuestionsGive name read (Err NoMemory) = Unit {0}
+
 -- questions that a session may have
 abbrev pub AreAskable : Presented → List Question → Type 0
 AreAskable p qs = (length qs ≤ QUESTIONS) × AllByRecursion (CanBeAsked p) qs

@@ -29,9 +29,13 @@ use Rattle.metab_run.specs.SessionFiles.{SessionsFail, AreQuestionsUnder}
 use Rattle.metab_run.specs.Legal.{IsLegal, AreByAll}
 use Rattle.metab_run.specs.TrueAnswers.{AreTrueAnswers}
 
+-- the limits of a run with so many entries and this budget
+abbrev pub limits_with : ℕ → Option ℕ → Limits
+limits_with entries budget = record { entries = entries; terms = LOG_TERMS; steps = LOG_STEPS; budget = budget; order = ByNumber }
+
 -- the limits that the words give
 abbrev pub limits_of : SoloAsked → Limits
-limits_of q = record { entries = q.entries; terms = LOG_TERMS; steps = LOG_STEPS; budget = q.budget; order = ByNumber }
+limits_of q = limits_with q.entries q.budget
 
 -- the reply is no stop
 abbrev pub IsNoStop : Tag → Type 0
@@ -95,6 +99,12 @@ abbrev pub SoloLeads : Type 0 → (List ℕ → Option (List ℕ)) → SoloAsked
 SoloLeads counted under q a = ShowsSolo under q a ⊎ SoloFails counted under q a
 
 -- ---- what the code gives
+
+-- the report can be written, and has a history, with which it is solved
+pub record IsSolution (p : Presented) (limits : Limits) (questions : List (List Question)) (r : Reported) : Type 0 where
+  pub reportable : IsReportable r
+  pub history : History
+  pub solved : IsSolved p limits questions r history
 
 -- the report can be written, and has a history, with which it is the one that is to be found
 pub record IsReady (under : List ℕ → Option (List ℕ)) (q : SoloAsked) (r : Reported) : Type 0 where

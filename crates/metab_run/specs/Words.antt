@@ -10,7 +10,7 @@ use Rattle.metab_run.specs.declared.words.CheckWords.{CheckWords}
 use Rattle.metab_run.specs.declared.words.SoloWords.{SoloWords}
 use Rattle.metab_run.specs.declared.words.Command.{Command}
 use Rattle.metab_run.specs.declared.words.Command.TheVariants as commands
-use Rattle.metab_run.specs.declared.words.TheConstants.{ENTRIES, LEAST_ENTRIES, MOST_ENTRIES, MOST_BUDGET, SESSIONS}
+use Rattle.metab_run.specs.declared.words.TheConstants.{ENTRIES, LEAST_ENTRIES, MOST_ENTRIES, MOST_BUDGET, SESSIONS, MOST_SEED}
 use Rattle.metab_run.specs.Parsing.{declared, parsed, names_in}
 
 -- what words on loan show
@@ -53,12 +53,13 @@ pub record SoloAsked : Type 0 where
   pub presentation : List ℕ
   pub sessions : List (List ℕ)
 
--- a command with what it is asked
+-- a command with what it is asked; `gen` is asked a seed
 pub data Asked : Type 0 where
   Steps : StepsAsked → Asked
   Fox : FoxAsked → Asked
   Check : CheckAsked → Asked
   Solo : SoloAsked → Asked
+  Gen : ℕ → Asked
 
 abbrev pub three : List (List ℕ) → Option StepsAsked
 three (p ∷ w ∷ d ∷ []) = Some (record { presentation = p; word = w; derivation = d })
@@ -71,6 +72,11 @@ two _ = None
 abbrev pub two_names : List (List ℕ) → Option CheckAsked
 two_names (p ∷ r ∷ []) = Some (record { presentation = p; report = r })
 two_names _ = None
+
+-- a seed
+abbrev pub one_seed : List (List ℕ) → Option ℕ
+one_seed (seed ∷ []) = number_between 0 MOST_SEED seed
+one_seed _ = None
 
 -- a presentation's name and those of 1 to so many sessions
 abbrev pub solo_names : List (List ℕ) → Option (List ℕ × List (List ℕ))
@@ -115,6 +121,7 @@ command_of name ws =
     else if bytes_eq name (codes "fox") then option_map Fox (option_and_then two (plain (codes "fox") ws))
     else if bytes_eq name (codes "check") then option_map Check (option_and_then two_names (plain (codes "check") ws))
     else if bytes_eq name (codes "solo") then option_map Solo (option_and_then solo_in (parsed (declared (codes "solo") solo_options) ws))
+    else if bytes_eq name (codes "gen") then option_map Gen (option_and_then one_seed (plain (codes "gen") ws))
     else None
 
 -- what the words of the command line ask for: its first word is a command's name
@@ -140,6 +147,7 @@ asked (commands.Steps w) = Steps (steps_asked w)
 asked (commands.Fox w) = Fox (fox_asked w)
 asked (commands.Check w) = Check (check_asked w)
 asked (commands.Solo w) = Solo (solo_asked w)
+asked (commands.Gen seed) = Gen seed
 
 -- the limit on entries lies in its range, and there aren't too many sessions
 pub record IsWithinTable (w : SoloWords) : Type 0 where
@@ -152,3 +160,4 @@ HasLimits (commands.Steps w) = Unit {0}
 HasLimits (commands.Fox w) = Unit {0}
 HasLimits (commands.Check w) = Unit {0}
 HasLimits (commands.Solo w) = IsWithinTable w
+HasLimits (commands.Gen seed) = seed ≤ MOST_SEED

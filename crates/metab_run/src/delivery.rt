@@ -44,7 +44,7 @@ fn have_no_stop(sessions: &[Session]) -> bool
 }
 
 /// Whether the log of the report is sealed, and no reply is a stop.
-fn is_settled(report: &Report) -> bool
+pub fn is_settled(report: &Report) -> bool
     requires { IsReportable (reported report.now) }
     ensures { IsTrue result ↔ IsSettled (reported report.now) }
 {

@@ -3,15 +3,18 @@
 
 mod answer;
 mod checking;
+mod counting;
 mod delivery;
 mod files;
 mod fox;
 mod gathering;
+mod generating;
 mod known;
 pub mod laws;
 mod parsing;
 mod sessions;
 mod solo;
+mod solving;
 mod status;
 mod steps;
 #[cfg(test)]

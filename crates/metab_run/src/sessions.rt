@@ -17,7 +17,7 @@ use session_text::{Question, SessionFault, read_session};
 use std::alloc::Global;
 
 /// The answer to what is wrong with a session.
-fn refusal(alloc: Global, name: &str, fault: &SessionFault) -> Halt
+pub fn refusal(alloc: Global, name: &str, fault: &SessionFault) -> Halt
     ensures refuses { RefusesSession name.now fault.now result }
     ensures cause { HasCause ⊥ result }
 {

@@ -291,7 +291,7 @@ fn texts_are_refused_at_their_first_fault(rt: HostRuntime) -> Result<(), Fail> {
 #[test]
 fn words_outside_the_table_are_refused(rt: HostRuntime) -> Result<(), Fail> {
     let alloc = rt.alloc();
-    let lines: [&[&str]; 13] = [
+    let lines: [&[&str]; 16] = [
         &[],
         &["step"],
         &["steps"],
@@ -305,6 +305,9 @@ fn words_outside_the_table_are_refused(rt: HostRuntime) -> Result<(), Fail> {
         &["fox", "--", "p"],
         &["run", "--workers", "0", "p", "q"],
         &["solo", "p"],
+        &["gen", "x"],
+        &["gen", "1000000000"],
+        &["gen", "3", "p"],
     ];
     for line in lines {
         let files = two(alloc, "<a|>", "d", "")?;
@@ -490,5 +493,17 @@ fn sessions_are_read_after_the_presentation(rt: HostRuntime) -> Result<(), Fail>
             "{text}"
         );
     }
+    Ok(())
+}
+
+// The answers of `solo` to the two texts of this seed, counted.
+const THREE: &str =
+    "gen 3 entries 25 end sealed trivial 0 not-trivial 1009 normal 499 extends 0 fails 492 unknown 0 stop 0\n";
+
+#[test]
+fn large_inputs_are_summed_up(rt: HostRuntime) -> Result<(), Fail> {
+    let alloc = rt.alloc();
+    let files = shelf(alloc, &[], &[])?;
+    assert!(rt; ends(alloc, &["gen", "003"], files, THREE, Status::Done)?);
     Ok(())
 }

@@ -10,6 +10,7 @@ use crate::answer::{Answer, Halt};
 use crate::checking::check;
 use crate::delivery::deliver_report;
 use crate::fox::fox;
+use crate::generating::generate;
 use crate::solo::solo;
 use crate::status::Status;
 use crate::steps::steps;
@@ -42,6 +43,7 @@ fn find<S: Shelf>(alloc: Global, words: &[String], shelf: &mut S) -> Result<Foun
             Ok(report) => return Ok(Found::Reports(report)),
             Err(halt) => Err(halt),
         },
+        Command::Gen(seed) => generate(alloc, seed),
     };
     match answered {
         Ok(answer) => Ok(Found::Says(answer)),

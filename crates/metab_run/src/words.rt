@@ -5,7 +5,7 @@ ghost use Rattle.clap.specs.Words.{found_of, rows_of};
 ghost use Rattle.clap.specs.Walk.{first_of};
 ghost use Rattle.clap.specs.Faults.{is_simple_and_free};
 ghost use Rattle.metab_run.specs.Parsing.{declared, parsed};
-ghost use Rattle.metab_run.specs.Words.{number_between, entries_of, budget_of, three, two, two_names, solo_names, solo_in, command_of, command, shown, plain, solo_options, steps_asked, fox_asked, check_asked, solo_asked, asked, Steps, Fox, Check, Solo, IsWithinTable, HasLimits};
+ghost use Rattle.metab_run.specs.Words.{number_between, entries_of, budget_of, three, two, two_names, one_seed, solo_names, solo_in, command_of, command, shown, plain, solo_options, steps_asked, fox_asked, check_asked, solo_asked, asked, Steps, Fox, Check, Solo, Gen, IsWithinTable, HasLimits};
 
 use crate::parsing::{names, parse, value};
 use clap::ArgMatches;
@@ -23,6 +23,9 @@ pub const MOST_ENTRIES: u32 = 4_096;
 
 /// The greatest budget.
 pub const MOST_BUDGET: u32 = 999_999_999;
+
+/// The greatest seed.
+pub const MOST_SEED: u32 = 999_999_999;
 
 /// At most so many sessions.
 pub const SESSIONS: usize = 16;
@@ -66,6 +69,8 @@ pub enum Command<'a> {
     Fox(FoxWords<'a>),
     Check(CheckWords<'a>),
     Solo(SoloWords<'a>),
+    /// The seed.
+    Gen(u32),
 }
 
 // The number that one to nine digits spell, if it lies in this range.
@@ -117,6 +122,17 @@ fn two_names<'a>(words: &[&'a str]) -> Option<CheckWords<'a>>
             presentation,
             report,
         }),
+        _ => None,
+    }
+}
+
+// A seed, as `gen` wants it.
+fn one_seed(words: &[&str]) -> Option<u32>
+    ensures is { result ≡ one_seed (shown words.now) }
+    ensures within { IfSome result (λ n. n ≤ MOST_SEED) }
+{
+    match words {
+        [seed] => number_between(seed, 0, MOST_SEED),
         _ => None,
     }
 }
@@ -243,6 +259,20 @@ fn solo<'a>(alloc: Global, words: &'a [String]) -> Result<Option<Command<'a>>, A
     }
 }
 
+// What `gen` is asked by the words after it.
+fn generate<'a>(alloc: Global, words: &'a [String]) -> Result<Option<Command<'a>>, AllocError>
+    ensures within { IfOk result (λ found. IfSome found HasLimits) }
+    ensures is { IfOk result (λ found. option_map asked found ≡ option_map Gen (option_and_then one_seed (plain (codes "gen") (map string_bytes words.now)))) }
+{
+    let Some(found) = plain(alloc, "gen", words)? else {
+        return Ok(None);
+    };
+    match one_seed(&found) {
+        None => Ok(None),
+        Some(seed) => Ok(Some(Command::Gen(seed))),
+    }
+}
+
 // The command of this name, if the words after it are of its form.
 fn command_of<'a>(
     alloc: Global,
@@ -260,6 +290,8 @@ fn command_of<'a>(
         check(alloc, words)
     } else if name == "solo" {
         solo(alloc, words)
+    } else if name == "gen" {
+        generate(alloc, words)
     } else {
         Ok(None)
     }

@@ -1,7 +1,7 @@
-use Rattle.std.proofs.Common.{◌≡◌, Err, subst, List, ℕ}
+use Rattle.std.proofs.Common.{◌≡◌, Err, subst, List, ℕ, codes}
 use Rattle.word_text.specs.Machine.{finding}
 use Rattle.word_text.specs.Place.{word_text, ReadsText}
-use Rattle.metab_run.proofs.Wording.{word_refused}
+use Rattle.metab_run.proofs.Wording.{text_refused}
 use Rattle.metab_run.proofs.files.command_word.Goals as goal
 
 pub returns-in-Err : goal.returns-in-Err
@@ -11,7 +11,7 @@ returns-in-Err c =
     let exact : P c.as_bytes.result.now = c.in-Err.ensures.exact in
     let same : c.as_bytes.result.now ≡ c.args.text.now = cc in
     record {
-      gives = word_refused c.args.text.now (word_text find c.args.text.now) c.in-Err.fault c.refusal.result (subst P same exact) c.refusal.ensures.refuses;
+      gives = text_refused (codes "word") c.args.text.now (word_text find c.args.text.now) c.in-Err.fault c.refusal.result (subst P same exact) c.refusal.ensures.refuses;
       cause = c.refusal.ensures.cause;
       over = tt;
     }

@@ -1,34 +1,20 @@
-use Rattle.std.proofs.Common.{rules, ◌≡◌, ◌≤◌, ℕ, List, Option, length, subst, ◌∙◌}
+use Rattle.std.proofs.Common.{rules, ◌≡◌, ℕ, List, Option, length, subst, ◌∙◌}
 use Rattle.std.proofs.lemmas.List.{length-map}
 use Rattle.std.specs.Arc.{arc_value}
-use Rattle.std.specs.List.{AllByRecursion}
 use Rattle.mb_io.specs.Shelf.{CountRose}
 use Rattle.mb_io.proofs.Giving.{rose_later}
-use Rattle.presentation.specs.Presented.{Presented, IsPresented}
-use Rattle.session_text.specs.declared.question.Question.{Question}
-use Rattle.session_text.specs.Questions.{HasSource}
+use Rattle.presentation.specs.Presented.{Presented}
 use Rattle.session_core.specs.Sessions.{SessionState}
 use Rattle.basis_entry.specs.Entries.{BasisEntry}
-use Rattle.basis_entry.specs.declared.TheConstants.{BASE, BASE_TERMS}
 use Rattle.pair_book.specs.declared.limits.Limits.{Limits}
-use Rattle.pair_book.specs.Books.{Held, IsOpened}
+use Rattle.pair_book.specs.Books.{Held}
 use Rattle.report_text.specs.Reports.{Reported, reported}
-use Rattle.metab_run.specs.Gathering.{questions_of, AreAnsweredOn}
-use Rattle.metab_run.specs.Legal.{IsLegal}
+use Rattle.metab_run.specs.Gathering.{questions_of}
 use Rattle.metab_run.specs.SessionFiles.{AreQuestionsUnder, AreNewSessions}
-use Rattle.metab_run.specs.SoloAnswers.{limits_of, IsPresentedIn}
+use Rattle.metab_run.specs.SoloAnswers.{limits_of, IsPresentedIn, IsSolution}
 use Rattle.metab_run.specs.Words.{SoloAsked, solo_asked}
-use Rattle.metab_run.proofs.SoloFound.{askers, can_be_written, found, not_presented, halted, asked_same}
+use Rattle.metab_run.proofs.SoloFound.{found, not_presented, halted, asked_same}
 use Rattle.metab_run.proofs.solo.solo.Goals as goal
-
-pub open-requires-clause-within : goal.open-requires-clause-within
-open-requires-clause-within g c =
-    let p : Presented = arc_value c.in_ok-p-2.p in
-    let limits : Limits = c.limits-limits.result in
-    let known : IsPresented p = search rules in
-    let entries : BASE ≤ limits.entries = search rules in
-    let terms : BASE_TERMS ≤ limits.terms = search rules in
-    c.generator_entries_are_within.ensures p limits known entries terms
 
 pub returns-in_err-p-clause-gives : goal.returns-in_err-p-clause-gives
 returns-in_err-p-clause-gives g c = search (rules, not_presented)
@@ -47,26 +33,14 @@ returns-in_err-sessions-clause-gives g c =
           (g.S.Shelf.under c.load_presentation.new.shelf) under c.load_presentation.ensures.same q c.in_ok-p.p presented,
     )
 
-pub gather-requires-clause-sessions : goal.gather-requires-clause-sessions
-gather-requires-clause-sessions g c =
+pub solve-requires-clause-sessions : goal.solve-requires-clause-sessions
+solve-requires-clause-sessions g c =
     let p : Presented = arc_value c.in_ok-p-2.p in
     let book : Held = c.in_ok-book.book in
-    let opened : IsOpened p c.limits-limits.result book = search rules in
     let same : c.deref.result.now ≡ p = search rules in
     let least : c.count.result ≡ length book.entries = c.count.ensures.is ∙ length-map book.entries (λ (e : BasisEntry). e.vector) in
-    let new : AreNewSessions p (length book.entries) c.in_ok-sessions.sessions.items =
     subst (λ (x : Presented). AreNewSessions x (length book.entries) c.in_ok-sessions.sessions.items) same
-    (subst (λ (n : ℕ). AreNewSessions c.deref.result.now n c.in_ok-sessions.sessions.items) least c.in_ok-sessions.ensures.new) in
-    askers p c.limits-limits.result book c.in_ok-sessions.sessions.items opened new
-
-pub report_is_accepted-requires : goal.report_is_accepted-requires
-report_is_accepted-requires g c =
-    let p : Presented = arc_value c.in_ok-p-2.p in
-    let q : SoloAsked = solo_asked c.args.words.now in
-    let bounds : c.limits-limits.result ≡ limits_of q = search rules in
-    let r : Reported = reported c.in_ok-report.report in
-    let qss : List (List Question) = questions_of c.in_ok-sessions.sessions.items in
-    can_be_written q p qss r c.requires.most (subst (λ (l : Limits). IsLegal p l qss r) bounds c.in_ok-report.ensures.legal)
+    (subst (λ (n : ℕ). AreNewSessions c.deref.result.now n c.in_ok-sessions.sessions.items) least c.in_ok-sessions.ensures.new)
 
 pub returns-clause-gives : goal.returns-clause-gives
 returns-clause-gives g c =
@@ -75,15 +49,10 @@ returns-clause-gives g c =
     let under : List ℕ → Option (List ℕ) = g.S.Shelf.under c.args.shelf.now in
     let ss : List SessionState = c.in_ok-sessions.sessions.items in
     let r : Reported = reported c.in_ok-report.report in
-    let source : c.deref.result.now ≡ p = search rules in
     let arc : arc_value c.in_ok-p-2.p ≡ p = search rules in
     let bounds : c.limits-limits.result ≡ limits_of q = search rules in
     let presented : IsPresentedIn under q p = search rules in
     let asked : AreQuestionsUnder (g.S.Shelf.under c.load_presentation.new.shelf) p q.sessions (questions_of ss) = search rules in
-    let sources : AllByRecursion (λ s. AllByRecursion HasSource s.questions) ss = search rules in
-    let new : AreNewSessions p c.count.result ss = subst (λ (x : Presented). AreNewSessions x c.count.result ss) source c.in_ok-sessions.ensures.new in
-    let legal : IsLegal p (limits_of q) (questions_of ss) r =
-    subst (λ (l : Limits). IsLegal p l (questions_of ss) r) bounds (subst (λ (x : Presented). IsLegal x c.limits-limits.result (questions_of ss) r) arc c.in_ok-report.ensures.legal) in
-    let on : AreAnsweredOn p r.entries r.seal ss r.sessions = subst (λ (x : Presented). AreAnsweredOn x r.entries r.seal ss r.sessions) arc c.in_ok-report.ensures.stand in
-    found under q p c.count.result ss r presented (asked_same (g.S.Shelf.under c.load_presentation.new.shelf) under c.load_presentation.ensures.same p q.sessions (questions_of ss) asked)
-    c.known.ensures sources c.requires.most new legal on c.report_is_accepted.ensures.told
+    let solution : IsSolution p (limits_of q) (questions_of ss) r =
+    subst (λ (l : Limits). IsSolution p l (questions_of ss) r) bounds (subst (λ (x : Presented). IsSolution x c.limits-limits.result (questions_of ss) r) arc c.in_ok-report.ensures) in
+    found under q p ss r presented (asked_same (g.S.Shelf.under c.load_presentation.new.shelf) under c.load_presentation.ensures.same p q.sessions (questions_of ss) asked) solution
