@@ -1,6 +1,4 @@
 pub mod Taking
-pub mod WordBytes
-pub mod LineBytes
 pub mod Exclusion
 pub mod Told
 pub mod Generating
