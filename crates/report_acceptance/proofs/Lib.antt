@@ -13,3 +13,7 @@ pub mod Sessions
 pub mod Answering
 pub mod Items
 pub mod Acceptance
+pub mod Puts
+pub mod Goes
+pub mod ReplyLines
+pub mod Fronts

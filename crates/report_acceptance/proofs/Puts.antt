@@ -1,5 +1,5 @@
 -- What is found in a map when an entry is put into it, and questions that are left open.
-use Rattle.std.proofs.Common.{◌≡◌, ◌≢◌, ℕ, zero, suc, ◌<◌, nat_lt, ◌==◌, Bool, true, false, List, [], ◌∷◌, ◌++◌, length, drop, slice_get, refl, sym, ap, subst, ◌∙◌, arith}
+use Rattle.std.proofs.Common.{◌≡◌, ◌≢◌, ℕ, zero, suc, ◌<◌, nat_lt, ◌==◌, cond, Bool, true, false, List, [], ◌∷◌, ◌++◌, length, drop, slice_get, refl, sym, ap, subst, ◌∙◌, arith}
 use Rattle.std.proofs.lemmas.Bool.Decides.{nat_tests}
 use Rattle.std.specs.Prelude.{Some, None}
 use Rattle.std.specs.List.{AllByRecursion}
@@ -45,23 +45,34 @@ equal_keys a b e = by (nat_lt a b) refl (a == b) refl
 -- ---- the number of a session's last question
 
 module _ (s n : ℕ) where
+  -- a look-up of t where the new number goes to its place
+  found : (t : ℕ) (x : ℕ × ℕ) (xs : List (ℕ × ℕ)) (o : Ordering) → nat_cmp s x.0 ≡ o
+      → lookup (is_at (nat_cmp t)) (insert_entry nat_cmp (x ∷ xs) s n) ≡ lookup (is_at (nat_cmp t)) (match_ordering o ((s, n) ∷ x ∷ xs) ((x.0, n) ∷ xs) (x ∷ insert_entry nat_cmp xs s n))
+  found t x xs o e = ap (λ r. lookup (is_at (nat_cmp t)) (match_ordering r ((s, n) ∷ x ∷ xs) ((x.0, n) ∷ xs) (x ∷ insert_entry nat_cmp xs s n))) e
+
+  first_is : (t : ℕ) (x : ℕ × ℕ) (xs : List (ℕ × ℕ)) (b : Bool) → is_at (nat_cmp t) x.0 ≡ b → lookup (is_at (nat_cmp t)) (x ∷ xs) ≡ cond b (Some x.1) (lookup (is_at (nat_cmp t)) xs)
+  first_is t x xs b e = ap (λ r. cond r (Some x.1) (lookup (is_at (nat_cmp t)) xs)) e
+
   pub put_here : (xs : List (ℕ × ℕ)) → lookup (is_at (nat_cmp s)) (insert_entry nat_cmp xs s n) ≡ Some n
-  put_here [] = rw (nat_same s) refl
-  put_here (x ∷ xs) = by (nat_cmp s x.0) refl
+  put_here [] = first_is s (s, n) [] true (ap is_eq (nat_same s))
+  put_here (x ∷ xs) = by (nat_cmp s x.0) refl (put_here xs)
     where
-      by : (o : Ordering) → nat_cmp s x.0 ≡ o → lookup (is_at (nat_cmp s)) (insert_entry nat_cmp (x ∷ xs) s n) ≡ Some n
-      by Less e = rw (e, nat_same s) refl
-      by Equal e = rw e refl
-      by Greater e = rw e (put_here xs)
+      by : (o : Ordering) → nat_cmp s x.0 ≡ o → lookup (is_at (nat_cmp s)) (insert_entry nat_cmp xs s n) ≡ Some n → lookup (is_at (nat_cmp s)) (insert_entry nat_cmp (x ∷ xs) s n) ≡ Some n
+      by Less e later = found s x xs Less e ∙ first_is s (s, n) (x ∷ xs) true (ap is_eq (nat_same s))
+      by Equal e later = found s x xs Equal e ∙ first_is s (x.0, n) xs true (ap is_eq e)
+      by Greater e later = found s x xs Greater e ∙ (first_is s x (insert_entry nat_cmp xs s n) false (ap is_eq e) ∙ later)
 
   pub put_other : (xs : List (ℕ × ℕ)) (t : ℕ) → t ≢ s → lookup (is_at (nat_cmp t)) (insert_entry nat_cmp xs s n) ≡ lookup (is_at (nat_cmp t)) xs
-  put_other [] t other = rw (unlike t s other) refl
-  put_other (x ∷ xs) t other = by (nat_cmp s x.0) refl
+  put_other [] t other = first_is t (s, n) [] false (unlike t s other)
+  put_other (x ∷ xs) t other = by (nat_cmp s x.0) refl (put_other xs t other)
     where
-      by : (o : Ordering) → nat_cmp s x.0 ≡ o → lookup (is_at (nat_cmp t)) (insert_entry nat_cmp (x ∷ xs) s n) ≡ lookup (is_at (nat_cmp t)) (x ∷ xs)
-      by Less e = rw (e, unlike t s other) refl
-      by Equal e = rw (e, unlike t x.0 (λ same. other (same ∙ sym (equal_keys s x.0 e)))) refl
-      by Greater e = rw (e, put_other xs t other) refl
+      by : (o : Ordering) → nat_cmp s x.0 ≡ o → lookup (is_at (nat_cmp t)) (insert_entry nat_cmp xs s n) ≡ lookup (is_at (nat_cmp t)) xs
+          → lookup (is_at (nat_cmp t)) (insert_entry nat_cmp (x ∷ xs) s n) ≡ lookup (is_at (nat_cmp t)) (x ∷ xs)
+      by Less e later = found t x xs Less e ∙ first_is t (s, n) (x ∷ xs) false (unlike t s other)
+      by Equal e later =
+          let no : is_at (nat_cmp t) x.0 ≡ false = unlike t x.0 (λ same. other (same ∙ sym (equal_keys s x.0 e))) in
+          found t x xs Equal e ∙ (first_is t (x.0, n) xs false no ∙ sym (first_is t x xs false no))
+      by Greater e later = found t x xs Greater e ∙ ap (λ l. cond (is_at (nat_cmp t) x.0) (Some x.1) l) later
 
 -- ---- questions that are left open
 
