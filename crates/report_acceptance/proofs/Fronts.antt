@@ -9,6 +9,7 @@ use Rattle.session_text.specs.declared.question.Question.{Question}
 use Rattle.session_text.specs.Questions.{first_long_image}
 use Rattle.vector_text.proofs.Parts.{all_weaker}
 use Rattle.report_lines.specs.declared.lines.Line.{Line}
+use Rattle.report_lines.specs.declared.lines.Line.TheVariants as lines
 use Rattle.report_reading.specs.declared.replies.ReplyData.{ReplyData}
 use Rattle.report_reading.specs.Telling.{Told, Tell, IsShown, IsInOrder, last_number, proof_count, is_open, by_number}
 use Rattle.report_text.specs.Histories.{Answered, SessionAnswers, proof_lines, live_lines, live_from, live_at}
@@ -22,7 +23,7 @@ use Rattle.report_acceptance.proofs.ReplyLines.{Base, items_in, last_of, Says, l
 is_lt : (x y : ℕ) → nat_lt x y ≡ true → x < y
 is_lt x y e = grind (arith, nat_tests)
 
-is_ge : (x y : ℕ) → nat_lt x y ≡ false → y ≤ x
+pub is_ge : (x y : ℕ) → nat_lt x y ≡ false → y ≤ x
 is_ge x y e = grind (arith, nat_tests)
 
 is_same : (x y : ℕ) → (x == y) ≡ true → x ≡ y
@@ -218,7 +219,7 @@ module _ (c : Base) (none : c.end ≡ None) (f : ℕ) (is : f ≡ items_in c) wh
       let v : Verdict = a.live.verdict in
       let asked : List ((ℕ × ℕ) × Question) = before ++ (opened s n q v ++ behind) in
       then_more (λ t. Says c rs (before ++ behind) t × (last_number t s + 1 ≡ n)) (λ u. Says c (rs ++ started c rs s n a.live.front q v ∷ []) asked u × (last_number u s ≡ n))
-      (λ u. Says c (rs ++ live_reply s a ∷ []) asked u × (last_number u s ≡ n)) (_ ∷ []) (proof_lines 1 a.live.proofs)
+      (λ u. Says c (rs ++ live_reply s a ∷ []) asked u × (last_number u s ≡ n)) (lines.Live s n a.live.front q v ∷ []) (proof_lines 1 a.live.proofs)
       (live_told c rs s n a.live.front q v before behind none (at ∙ is) fits.short upto.shown
       (subst (λ x. IsInOrder s x (last_of rs)) (sym at) (in_order f s (last_of rs) upto.within)) (all_weaker before (λ y h. before_greater s n y.0 h) early) late)
       (λ t h.

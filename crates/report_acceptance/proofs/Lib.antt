@@ -17,3 +17,5 @@ pub mod Puts
 pub mod Goes
 pub mod ReplyLines
 pub mod Fronts
+pub mod Between
+pub mod Closings
