@@ -134,7 +134,7 @@ module _ (ts : List SessionAnswers) (numbers : AreNumbered 1 ts) (fits : AllByRe
   -- ---- the end
 
   sealed_so : (seal : Option Seal) → IsSome seal ↔ (has_seal seal ≡ true)
-  sealed_so None = (λ h. absurd h, λ e. absurd cc)
+  sealed_so None = (λ h. absurd (let w = h in cc), λ e. absurd cc)
   sealed_so (Some s) = (λ h. refl, λ e. tt)
 
   pub end_told : (seal : Option Seal) (end : End) (n : ℕ) (from : List ℕ) (es : List EntryData) (rs : List ReplyData) → IsSome seal ↔ (end ≡ Sealed) → IsShown (last_of rs)

@@ -20,7 +20,7 @@ use Rattle.report_acceptance.proofs.ReplyLines.{Base, items_in, last_of, Says, l
 
 -- ---- tests of numbers
 
-is_lt : (x y : ℕ) → nat_lt x y ≡ true → x < y
+pub is_lt : (x y : ℕ) → nat_lt x y ≡ true → x < y
 is_lt x y e = grind (arith, nat_tests)
 
 pub is_ge : (x y : ℕ) → nat_lt x y ≡ false → y ≤ x

@@ -19,3 +19,4 @@ pub mod ReplyLines
 pub mod Fronts
 pub mod Between
 pub mod Closings
+pub mod Whole

@@ -3,5 +3,5 @@ mod Heads
 pub mod Placing
 pub mod WordBytes
 pub mod LineBytes
-mod Excluding
-mod Agreeing
+pub mod Excluding
+pub mod Agreeing
