@@ -135,7 +135,7 @@ module _ (ts : List SessionAnswers) (numbers : AreNumbered 1 ts) (fits : AllByRe
 
   sealed_so : (seal : Option Seal) → IsSome seal ↔ (has_seal seal ≡ true)
   sealed_so None = (λ h. absurd (let w = h in cc), λ e. absurd cc)
-  sealed_so (Some s) = (λ h. refl, λ e. tt)
+  sealed_so (Some s) = (λ h. refl, λ e. refl)
 
   pub end_told : (seal : Option Seal) (end : End) (n : ℕ) (from : List ℕ) (es : List EntryData) (rs : List ReplyData) → IsSome seal ↔ (end ≡ Sealed) → IsShown (last_of rs)
       → Goes (IsBehind n (items_so from es (has_seal seal)) rs) (lines.End end ∷ []) (Says (record (items_so from es (has_seal seal)) { end = Some end }) rs (all_open_before (n + 1) ts))

@@ -4,7 +4,7 @@ use Rattle.std.proofs.lemmas.List.{length-map}
 use Rattle.std.specs.Prelude.{Result, Ok, Err}
 use Rattle.std.specs.List.{AllByRecursion, flat_map, range_with_len}
 use Rattle.word_text.specs.Place.{capped}
-use Rattle.presentation.specs.Presented.{Presented}
+use Rattle.presentation.specs.Presented.{Presented, IsPresented}
 use Rattle.outcomes.specs.declared.ends.End.{End}
 use Rattle.outcomes.specs.declared.ends.End.TheVariants.{Sealed}
 use Rattle.outcomes.specs.declared.verdicts.Verdict.{Verdict}
@@ -27,9 +27,7 @@ use Rattle.report_reading.specs.declared.fault.ReportFault.TheVariants as faults
 use Rattle.report_reading.specs.declared.entry.EntryData.{EntryData}
 use Rattle.report_reading.specs.declared.replies.ReplyData.{ReplyData}
 use Rattle.report_reading.specs.Telling.{Told, nothing, IsDataOf, IsShown, is_open, proof_count, recipe_of}
-use Rattle.report_reading.specs.Reading.{IsReport, Answers}
-use Rattle.report_reading.proofs.Excluding.{excluded}
-use Rattle.report_reading.proofs.Agreeing.{one_data}
+use Rattle.report_reading.specs.Reading.{IsReport, IsFirstFault, Answers}
 use Rattle.report_text.specs.Histories.{Reply, Answered, SessionAnswers, History, made_by, item_lines, told_from, closing_of, lines_of}
 use Rattle.report_text.specs.Answers.{to_show, seal_below, IsOpen, IsClosing, IsAnswered, IsSessionAnswered}
 use Rattle.report_text.specs.Reports.{Reported, IsReportable, IsHistoryOf, IsReplied, AreFrom, text_of}
@@ -261,13 +259,13 @@ module _ (es : List BasisEntry) (seal : Option Seal) (end : End) (ts : List Sess
   closings_so = subst (λ n. AreClosed n ts) (sym count_is_so) closings
 
   last_shown : IsShown (last_of (live ++ closing_replies ts))
-  last_shown = all_closed_shown ended tt few_items ts live closings_so live_shown
+  last_shown = all_closed_shown ended refl few_items ts live closings_so live_shown
 
   done : Goes (Says ended (live ++ closing_replies ts) []) (lines.Done ∷ []) (λ u. IsDataOf u (data_of told_so))
   done =
       one_more (Says ended (live ++ closing_replies ts) []) (λ u. IsDataOf u (data_of told_so)) lines.Done
       (λ t h. (
-        (may_close ended (live ++ closing_replies ts) [] t h tt last_shown, none_left (questions_in (live ++ closing_replies ts)) t.left_open h.left),
+        (may_close ended (live ++ closing_replies ts) [] t h refl last_shown, none_left (questions_in (live ++ closing_replies ts)) t.left_open h.left),
         record {
           finished = refl;
           version = refl;
@@ -296,7 +294,7 @@ module _ (es : List BasisEntry) (seal : Option Seal) (end : End) (ts : List Sess
       let last : Told → Type 0 = λ u. IsDataOf u (data_of told_so) in
       then_more start itemed last (told_from ts 0 (item_lines es seal)) (lines.End end ∷ (closing_of ts ++ lines.Done ∷ [])) item_part
       (then_more itemed closing last (lines.End end ∷ []) (closing_of ts ++ lines.Done ∷ []) end_part
-      (then_more closing closed last (closing_of ts) (lines.Done ∷ []) (all_closed ended tt few_items ts live closings_so live_shown) done))
+      (then_more closing closed last (closing_of ts) (lines.Done ∷ []) (all_closed ended refl few_items ts live closings_so live_shown) done))
 
   pub is_report : (p : Presented) → AllByRecursion (IsLineOf p) (lines_of told_so) → IsReport p (report_text p (lines_of told_so)) (data_of told_so)
   is_report p valid =
@@ -328,7 +326,12 @@ module _ (r : Reported) (h : History) (known : IsKnown r) (can : IsReportable r)
       (is_report r.entries r.seal r.end h.sessions numbered (all_weaker h.sessions (λ t x. x.short) fit) (all_weaker h.sessions (λ t x. x.closed) fit)
       (all_named 0 r.entries entry_named) can.few can.sealed r.pres (subst (λ x. AllByRecursion (IsLineOf r.pres) (lines_of x)) same (valid_lines r h known can is)))
 
-  pub is_read_back : (d : Result ReportData ReportFault) → Answers r.pres (text_of r h) d → IsReadBack h d
-  is_read_back (Ok d) answers = one_data r.pres (text_of r h) d (data_of h) known.presented answers says_history
-  is_read_back (Err (faults.Line n)) answers = excluded r.pres (text_of r h) (data_of h) n known.presented says_history answers
-  is_read_back (Err faults.NoMemory) answers = tt
+-- the reader answers it
+pub is_read_back : ((r : Reported) (h : History) → IsKnown r → IsReportable r → IsHistoryOf r h → AllByRecursion (AreFrom 1) r.sessions → IsReport r.pres (text_of r h) (data_of h))
+    → ((p : Presented) (text : List ℕ) (d e : ReportData) → IsPresented p → IsReport p text d → IsReport p text e → d ≡ e)
+    → ((p : Presented) (text : List ℕ) (d : ReportData) (n : ℕ) → IsPresented p → IsReport p text d → IsFirstFault p text n → ⊥)
+    → (r : Reported) (h : History) → IsKnown r → IsReportable r → IsHistoryOf r h → AllByRecursion (AreFrom 1) r.sessions
+    → (d : Result ReportData ReportFault) → Answers r.pres (text_of r h) d → IsReadBack h d
+is_read_back says same never r h known can is first (Ok d) answers = same r.pres (text_of r h) d (data_of h) known.presented answers (says r h known can is first)
+is_read_back says same never r h known can is first (Err (faults.Line n)) answers = never r.pres (text_of r h) (data_of h) n known.presented (says r h known can is first) answers
+is_read_back says same never r h known can is first (Err faults.NoMemory) answers = tt

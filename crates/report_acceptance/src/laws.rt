@@ -13,6 +13,8 @@ ghost use Rattle.report_text.specs.Reports.{Reported, IsReportable, IsHistoryOf,
 ghost use Rattle.report_acceptance.specs.Accepting.{IsKnown, IsAccepted, told_amount};
 ghost use Rattle.report_acceptance.specs.Saying.{data_of, IsReadBack};
 
+use report_reading::laws::{reports_have_no_fault, reports_say_one_thing};
+
 /// To the text that is written of a report the checker answers how many entries and proofs it holds, unless memory runs out:
 /// it never finds a line that fails.
 #[tactic(auto, using(crate::proofs::Acceptance::is_accepted))]
@@ -39,4 +41,8 @@ pub fn written_reports_say()
 pub fn written_reports_are_read_back()
     ensures { (r : Reported) (h : History) → IsKnown r → IsReportable r → IsHistoryOf r h → AllByRecursion (AreFrom 1) r.sessions
         → (d : Result ReportData ReportFault) → IsAnswer r.pres (text_of r h) d → IsReadBack h d }
-{}
+{
+    written_reports_say();
+    reports_say_one_thing();
+    reports_have_no_fault();
+}

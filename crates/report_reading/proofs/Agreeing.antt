@@ -1,13 +1,12 @@
 -- A text that is a report says one thing.
 use Rattle.std.proofs.Common.{◌≡◌, ℕ, List, [], ◌∷◌, ◌++◌, refl, sym, ap, subst, ◌∙◌}
 use Rattle.std.specs.List.{AllByRecursion}
-use Rattle.std.specs.Prelude.{Some}
 use Rattle.spelling.specs.Spelling.{cut}
 use Rattle.spelling.proofs.Cuts.{cut_here}
 use Rattle.presentation.specs.Presented.{Presented, IsPresented}
 use Rattle.report_lines.specs.declared.lines.Line.{Line}
 use Rattle.report_lines.specs.Lines.{IsLineOf}
-use Rattle.report_lines.specs.Texts.{title, pres_line, line_text, lines_text, report_text}
+use Rattle.report_lines.specs.Texts.{pres_line, lines_text, report_text}
 use Rattle.report_lines.proofs.ReadingBack.{one_line}
 use Rattle.report_reading.specs.declared.data.ReportData.{ReportData}
 use Rattle.report_reading.specs.Telling.{Told, nothing, tell, Tell, IsDataOf}

@@ -3,5 +3,5 @@ mod Heads
 pub mod Placing
 pub mod WordBytes
 pub mod LineBytes
-pub mod Excluding
-pub mod Agreeing
+mod Excluding
+mod Agreeing
