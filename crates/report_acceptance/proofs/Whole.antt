@@ -33,6 +33,7 @@ use Rattle.report_text.specs.Answers.{to_show, seal_below, IsOpen, IsClosing, Is
 use Rattle.report_text.specs.Reports.{Reported, IsReportable, IsHistoryOf, IsReplied, AreFrom, text_of}
 use Rattle.report_acceptance.specs.Accepting.{IsKnown, IsKnownSession}
 use Rattle.report_acceptance.specs.Saying.{entry_data, replies_at, closing_replies, data_of, IsReadBack}
+use Rattle.cert_checker.proofs.Images.{none_long}
 use Rattle.report_acceptance.proofs.Verdicts.{count_is}
 use Rattle.report_acceptance.proofs.Sessions.{IsTold, IsSessionTold}
 use Rattle.report_acceptance.proofs.Items.{get_first}
@@ -90,7 +91,7 @@ front_within es seal f is = by (nat_lt (length es) f) refl seal is
 
 module _ (p : Presented) (es : List BasisEntry) (seal : Option Seal) (base : ℕ) where
   one_short : (a : Answered) → IsTold p es seal base a → IsShort a
-  one_short a is = record { short = is.ask.1; shown = is.live.proofs.count ∙ count_shown a.question a.live.verdict }
+  one_short a is = record { short = none_long a.question is.ask.1; shown = is.live.proofs.count ∙ count_shown a.question a.live.verdict }
 
   closed_so : (q : Question) (v : Verdict) (cl : Option Reply) → IsClosing p es seal q v cl → IsClosedSo (item_count es seal) q (is_open v) cl
   closed_so q v None h = not_open v h
@@ -332,6 +333,6 @@ pub is_read_back : ((r : Reported) (h : History) → IsKnown r → IsReportable 
     → ((p : Presented) (text : List ℕ) (d : ReportData) (n : ℕ) → IsPresented p → IsReport p text d → IsFirstFault p text n → ⊥)
     → (r : Reported) (h : History) → IsKnown r → IsReportable r → IsHistoryOf r h → AllByRecursion (AreFrom 1) r.sessions
     → (d : Result ReportData ReportFault) → Answers r.pres (text_of r h) d → IsReadBack h d
-is_read_back says same never r h known can is first (Ok d) answers = same r.pres (text_of r h) d (data_of h) known.presented answers (says r h known can is first)
-is_read_back says same never r h known can is first (Err (faults.Line n)) answers = never r.pres (text_of r h) (data_of h) n known.presented (says r h known can is first) answers
-is_read_back says same never r h known can is first (Err faults.NoMemory) answers = tt
+is_read_back says alike never r h known can is first (Ok d) answers = alike r.pres (text_of r h) d (data_of h) known.presented answers (says r h known can is first)
+is_read_back says alike never r h known can is first (Err (faults.Line n)) answers = never r.pres (text_of r h) (data_of h) n known.presented (says r h known can is first) answers
+is_read_back says alike never r h known can is first (Err faults.NoMemory) answers = tt
