@@ -36,7 +36,8 @@ use Rattle.report_acceptance.specs.Saying.{entry_data, replies_at, closing_repli
 use Rattle.cert_checker.proofs.Images.{none_long}
 use Rattle.report_acceptance.proofs.Verdicts.{count_is}
 use Rattle.report_acceptance.proofs.Sessions.{IsTold, IsSessionTold}
-use Rattle.report_acceptance.proofs.Items.{get_first}
+use Rattle.report_acceptance.proofs.Generating.{some_generator}
+use Rattle.report_acceptance.proofs.Items.{get_first, length_take}
 use Rattle.report_acceptance.proofs.Acceptance.{all_told, valid_lines}
 use Rattle.report_acceptance.proofs.Puts.{AreLeft, none_left}
 use Rattle.report_acceptance.proofs.Goes.{Goes, one_more, then_more}
@@ -304,7 +305,18 @@ module _ (es : List BasisEntry) (seal : Option Seal) (end : End) (ts : List Sess
 
 -- ---- reports that can be written
 
-module _ (r : Reported) (h : History) (known : IsKnown r) (can : IsReportable r) (is : IsHistoryOf r h) (first : AllByRecursion (AreFrom 1) r.sessions) where
+module _ (r : Reported) (h : History) (known : IsKnown r) (can : IsReportable r) (is : IsHistoryOf r h) where
+  -- no front is before the first item
+  some_base : 1 ≤ can.base
+  some_base =
+      let some = some_generator r.pres can.entries.begins.gens known.presented can.entries.begins.generators in
+      let count = can.entries.begins.count in
+      let all = length_take r.entries can.base can.entries.within in
+      omega (arith, some, count, all)
+
+  first : AllByRecursion (AreFrom 1) r.sessions
+  first = all_weaker r.sessions (λ s h. all_weaker s.kept (λ k l. omega (arith, l, some_base)) h) can.fronts
+
   fit : AllByRecursion (IsFit r.pres r.entries r.seal can.base) h.sessions
   fit = all_fit r.pres r.entries r.seal can.base r.sessions h.sessions is.answered.count known.sessions first can.replies (all_told r h known can is) is.answered.each
 
@@ -328,11 +340,11 @@ module _ (r : Reported) (h : History) (known : IsKnown r) (can : IsReportable r)
       (all_named 0 r.entries entry_named) can.few can.sealed r.pres (subst (λ x. AllByRecursion (IsLineOf r.pres) (lines_of x)) same (valid_lines r h known can is)))
 
 -- the reader answers it
-pub is_read_back : ((r : Reported) (h : History) → IsKnown r → IsReportable r → IsHistoryOf r h → AllByRecursion (AreFrom 1) r.sessions → IsReport r.pres (text_of r h) (data_of h))
+pub is_read_back : ((r : Reported) (h : History) → IsKnown r → IsReportable r → IsHistoryOf r h → IsReport r.pres (text_of r h) (data_of h))
     → ((p : Presented) (text : List ℕ) (d e : ReportData) → IsPresented p → IsReport p text d → IsReport p text e → d ≡ e)
     → ((p : Presented) (text : List ℕ) (d : ReportData) (n : ℕ) → IsPresented p → IsReport p text d → IsFirstFault p text n → ⊥)
-    → (r : Reported) (h : History) → IsKnown r → IsReportable r → IsHistoryOf r h → AllByRecursion (AreFrom 1) r.sessions
+    → (r : Reported) (h : History) → IsKnown r → IsReportable r → IsHistoryOf r h
     → (d : Result ReportData ReportFault) → Answers r.pres (text_of r h) d → IsReadBack h d
-is_read_back says alike never r h known can is first (Ok d) answers = alike r.pres (text_of r h) d (data_of h) known.presented answers (says r h known can is first)
-is_read_back says alike never r h known can is first (Err (faults.Line n)) answers = never r.pres (text_of r h) (data_of h) n known.presented (says r h known can is first) answers
-is_read_back says alike never r h known can is first (Err faults.NoMemory) answers = tt
+is_read_back says alike never r h known can is (Ok d) answers = alike r.pres (text_of r h) d (data_of h) known.presented answers (says r h known can is)
+is_read_back says alike never r h known can is (Err (faults.Line n)) answers = never r.pres (text_of r h) (data_of h) n known.presented (says r h known can is) answers
+is_read_back says alike never r h known can is (Err faults.NoMemory) answers = tt

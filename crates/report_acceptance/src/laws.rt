@@ -1,6 +1,5 @@
 //! Laws of written reports.
 
-ghost use Rattle.std.specs.List.{AllByRecursion};
 ghost use Rattle.std.specs.Prelude.{List, Result, Ok};
 ghost use Rattle.cert_checker.specs.declared.checked.Checked.{Checked};
 ghost use Rattle.cert_checker.specs.declared.faults.CertFault.{CertFault};
@@ -9,7 +8,7 @@ ghost use Rattle.report_text.specs.Histories.{History};
 ghost use Rattle.report_reading.specs.declared.data.ReportData.{ReportData};
 ghost use Rattle.report_reading.specs.declared.fault.ReportFault.{ReportFault};
 ghost use Rattle.report_reading.specs.Reading.{IsReport, Answers as IsAnswer};
-ghost use Rattle.report_text.specs.Reports.{Reported, IsReportable, IsHistoryOf, AreFrom, text_of};
+ghost use Rattle.report_text.specs.Reports.{Reported, IsReportable, IsHistoryOf, text_of};
 ghost use Rattle.report_acceptance.specs.Accepting.{IsKnown, IsAccepted, told_amount};
 ghost use Rattle.report_acceptance.specs.Saying.{data_of, IsReadBack};
 
@@ -30,16 +29,15 @@ pub fn written_reports_hold()
         → TellsWhole r.pres (text_of r h) (Ok (told_amount r h)) }
 {}
 
-/// The text that is written of a report says the history that it was written from. No answer may stand at front 0, before
-/// the first item, since no line tells it.
+/// The text that is written of a report says the history that it was written from.
 pub fn written_reports_say()
-    ensures { (r : Reported) (h : History) → IsKnown r → IsReportable r → IsHistoryOf r h → AllByRecursion (AreFrom 1) r.sessions
+    ensures { (r : Reported) (h : History) → IsKnown r → IsReportable r → IsHistoryOf r h
         → IsReport r.pres (text_of r h) (data_of h) }
 {}
 
 /// So it is read back: to that text the reader answers what was written, unless memory runs out.
 pub fn written_reports_are_read_back()
-    ensures { (r : Reported) (h : History) → IsKnown r → IsReportable r → IsHistoryOf r h → AllByRecursion (AreFrom 1) r.sessions
+    ensures { (r : Reported) (h : History) → IsKnown r → IsReportable r → IsHistoryOf r h
         → (d : Result ReportData ReportFault) → IsAnswer r.pres (text_of r h) d → IsReadBack h d }
 {
     written_reports_say();
