@@ -1,7 +1,6 @@
 -- The lines of the items, and the answers between them, tell them.
 use Rattle.std.proofs.Common.{◌≡◌, ◌↔◌, ℕ, zero, suc, ◌+◌, Bool, true, false, List, [], ◌∷◌, ◌++◌, length, map, Option, Some, None, IsSome, refl, sym, ap, subst, ◌∙◌, append_assoc, append-nil, length-append, arith}
 use Rattle.std.specs.List.{AllByRecursion, flat_map, range_with_len}
-use Rattle.session_text.specs.declared.question.Question.{Question}
 use Rattle.outcomes.specs.declared.ends.End.{End}
 use Rattle.outcomes.specs.declared.ends.End.TheVariants.{Sealed}
 use Rattle.basis_entry.specs.Entries.{BasisEntry}
@@ -93,7 +92,7 @@ module _ (ts : List SessionAnswers) (numbers : AreNumbered 1 ts) (fits : AllByRe
   pub items_told : (seal : Option Seal) (k : ℕ) (later : List BasisEntry) (from : List ℕ) (es : List EntryData) (rs : List ReplyData) (n : ℕ) → k + count_items later seal ≡ n → k ≡ length es
       → NameThemselves k later → HasLast k rs
       → Goes (IsBehind k (items_so from es false) rs) (told_from ts k (entry_lines k later ++ seal_lines seal))
-          (IsBehind n (items_so (from ++ range_with_len k (length later)) (es ++ map entry_data later) (has_seal seal)) (rs ++ flat_map (replies_at ts) (range_with_len (k + 1) (count_items later seal))))
+      (IsBehind n (items_so (from ++ range_with_len k (length later)) (es ++ map entry_data later) (has_seal seal)) (rs ++ flat_map (replies_at ts) (range_with_len (k + 1) (count_items later seal))))
   items_told None k [] from es rs n is at named h =
       let same : k ≡ n = omega (arith, is) in
       λ t b. (

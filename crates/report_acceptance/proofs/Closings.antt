@@ -1,5 +1,5 @@
 -- What is answered behind the end, and the last line, tell it.
-use Rattle.std.proofs.Common.{◌≡◌, ℕ, ◌+◌, ◌<◌, ◌^◌, nat_lt, Bool, true, false, if◌then◌else◌, List, [], ◌∷◌, ◌++◌, length, Option, Some, None, IsSome, refl, sym, subst, ◌∙◌, append_assoc, append-nil, arith}
+use Rattle.std.proofs.Common.{◌≡◌, ℕ, ◌+◌, ◌<◌, ◌^◌, nat_lt, Bool, true, false, if◌then◌else◌, List, [], ◌∷◌, ◌++◌, length, Option, Some, None, IsSome, refl, sym, subst, append_assoc, append-nil, arith}
 use Rattle.std.specs.List.{AllByRecursion, flat_map}
 use Rattle.session_text.specs.declared.question.Question.{Question}
 use Rattle.report_lines.specs.declared.lines.Line.TheVariants as lines
@@ -49,7 +49,7 @@ module _ (c : Base) (some : IsSome c.end) (small : items_in c < 2 ^ 32) where
       by : (b o : Bool) (cl : Option Reply) → nat_lt a.live.front (items_in c + 1) ≡ b → IsClosedSo (items_in c) a.question o cl
           → ((ls : List ReplyData) → IsShown (last_of ls) → Goes (Says c ls (left ++ behind)) (closing_from s (n + 1) others) (Says c (ls ++ all) behind))
           → Goes (Says c rs (((if b then (if o then ((s, n), a.question) ∷ [] else []) else []) ++ left) ++ behind)) (closing_lines s n a.question cl ++ closing_from s (n + 1) others)
-              (Says c (rs ++ (closing_reply s a.question cl ++ all)) behind)
+          (Says c (rs ++ (closing_reply s a.question cl ++ all)) behind)
       by false o cl e is again = absurd (let l = is_ge a.live.front (items_in c + 1) e in let k = fits.0.within in omega (arith, l, k))
       by true true None e is again = absurd cc
       by true false None e is again = again rs shown

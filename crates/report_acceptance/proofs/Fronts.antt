@@ -213,7 +213,7 @@ module _ (c : Base) (none : c.end ≡ None) (f : ℕ) (is : f ≡ items_in c) wh
   answer_told : (s n : ℕ) (a : Answered) (rs : List ReplyData) (before behind : List ((ℕ × ℕ) × Question)) → IsShort a → a.live.front ≡ f → IsUpTo f s rs → AreBefore s n before
       → AllByRecursion (λ y. by_number (s, n) y.0 ≡ Less) behind
       → Goes (λ t. Says c rs (before ++ behind) t × (last_number t s + 1 ≡ n)) (live_lines s n a)
-          (λ u. Says c (rs ++ live_reply s a ∷ []) (before ++ (opened s n a.question a.live.verdict ++ behind)) u × (last_number u s ≡ n))
+      (λ u. Says c (rs ++ live_reply s a ∷ []) (before ++ (opened s n a.question a.live.verdict ++ behind)) u × (last_number u s ≡ n))
   answer_told s n a rs before behind fits at upto early late =
       let q : Question = a.question in
       let v : Verdict = a.live.verdict in
@@ -265,10 +265,10 @@ module _ (c : Base) (none : c.end ≡ None) (f : ℕ) (is : f ≡ items_in c) wh
 
         by : (b e d : Bool) → nat_lt a.live.front f ≡ b → (a.live.front == f) ≡ e → nat_lt a.live.front (f + 1) ≡ d
             → ((k : ℕ) (ls : List ReplyData) (asked : List ((ℕ × ℕ) × Question)) → (a.live.front ≤ f → k + 1 ≡ n + 1) → IsUpTo f s ls → AreBefore s (n + 1) asked
-                → Goes (Before (n + 1) others k ls asked behind) (live_from f s (n + 1) others) (After (n + 1) others k ls asked behind))
+            → Goes (Before (n + 1) others k ls asked behind) (live_from f s (n + 1) others) (After (n + 1) others k ls asked behind))
             → Goes (λ t. Says c rs (before ++ (((if b then one else []) ++ left) ++ behind)) t × (last_number t s ≡ m + ((if b then 1 else 0) + count_before f others)))
-                ((if e then live_lines s n a else []) ++ live_from f s (n + 1) others)
-                (λ u. Says c (rs ++ ((if e then live_reply s a ∷ [] else []) ++ all)) (before ++ (((if d then one else []) ++ passed) ++ behind)) u × (last_number u s ≡ m + ((if d then 1 else 0) + count_before (f + 1) others)))
+            ((if e then live_lines s n a else []) ++ live_from f s (n + 1) others)
+            (λ u. Says c (rs ++ ((if e then live_reply s a ∷ [] else []) ++ all)) (before ++ (((if d then one else []) ++ passed) ++ behind)) u × (last_number u s ≡ m + ((if d then 1 else 0) + count_before (f + 1) others)))
         by true true d x y z again = absurd (let l = is_lt a.live.front f x in let k = is_same a.live.front f y in omega (arith, l, k))
         by true false false x y z again = absurd (let l = is_lt a.live.front f x in let k = is_ge a.live.front (f + 1) z in omega (arith, l, k))
         by false false true x y z again = absurd (let l = is_ge a.live.front f x in let k = is_lt a.live.front (f + 1) z in is_other a.live.front f y (omega (arith, l, k)))

@@ -1,12 +1,11 @@
 -- Lines that tell more, one after another.
 use Rattle.std.proofs.Common.{◌≡◌, ◌≢◌, ℕ, List, [], ◌∷◌, ◌++◌, refl, sym, ap, subst, ◌∙◌}
-use Rattle.std.specs.Prelude.{Some}
 use Rattle.std.specs.Option.{unwrap_or}
 use Rattle.std.specs.List.{AllByRecursion}
 use Rattle.report_lines.specs.declared.lines.Line.{Line}
 use Rattle.report_lines.specs.declared.lines.Line.TheVariants as lines
 use Rattle.report_reading.specs.Telling.{Told, MayFollow, tell, Tell, last_number}
-use Rattle.report_acceptance.proofs.Puts.{put_here, put_other}
+use Rattle.report_acceptance.proofs.Puts.{put_other}
 
 pub tell_append : (s t u : Told) (ls ms : List Line) → Tell s ls t → Tell t ms u → Tell s (ls ++ ms) u
 tell_append s t u [] ms h k = subst (λ x. Tell x ms u) (sym h) k

@@ -24,12 +24,11 @@ use Rattle.report_lines.specs.Texts.{report_text}
 use Rattle.report_reading.specs.declared.data.ReportData.{ReportData}
 use Rattle.report_reading.specs.declared.fault.ReportFault.{ReportFault}
 use Rattle.report_reading.specs.declared.fault.ReportFault.TheVariants as faults
-use Rattle.report_reading.specs.declared.entry.EntryData.{EntryData}
 use Rattle.report_reading.specs.declared.replies.ReplyData.{ReplyData}
 use Rattle.report_reading.specs.Telling.{Told, nothing, IsDataOf, IsShown, is_open, proof_count, recipe_of}
 use Rattle.report_reading.specs.Reading.{IsReport, IsFirstFault, Answers}
 use Rattle.report_text.specs.Histories.{Reply, Answered, SessionAnswers, History, made_by, item_lines, told_from, closing_of, lines_of}
-use Rattle.report_text.specs.Answers.{to_show, seal_below, IsOpen, IsClosing, IsAnswered, IsSessionAnswered}
+use Rattle.report_text.specs.Answers.{to_show, seal_below, IsOpen, IsClosing, IsSessionAnswered}
 use Rattle.report_text.specs.Reports.{Reported, IsReportable, IsHistoryOf, IsReplied, AreFrom, text_of}
 use Rattle.report_acceptance.specs.Accepting.{IsKnown, IsKnownSession}
 use Rattle.report_acceptance.specs.Saying.{entry_data, replies_at, closing_replies, data_of, IsReadBack}
@@ -42,7 +41,7 @@ use Rattle.report_acceptance.proofs.Acceptance.{all_told, valid_lines}
 use Rattle.report_acceptance.proofs.Puts.{AreLeft, none_left}
 use Rattle.report_acceptance.proofs.Goes.{Goes, one_more, then_more}
 use Rattle.report_acceptance.proofs.ReplyLines.{Base, items_in, last_of, questions_in, Says, items_told as told_count, may_close}
-use Rattle.report_acceptance.proofs.Fronts.{count_before, open_before, all_open_before, Rise, IsShort, IsSessionShort, AreNumbered, Counted, count_none, is_lt, is_ge}
+use Rattle.report_acceptance.proofs.Fronts.{open_before, all_open_before, Rise, IsShort, IsSessionShort, AreNumbered, Counted, count_none, is_lt, is_ge}
 use Rattle.report_acceptance.proofs.Between.{has_seal, items_so, count_items, NameThemselves, HasLast, IsBehind, all_shown, items_told, end_told}
 use Rattle.report_acceptance.proofs.Closings.{IsClosedSo, IsClosed, AreClosed, all_closed, all_closed_shown}
 use Rattle.vector_text.proofs.Parts.{all_weaker}

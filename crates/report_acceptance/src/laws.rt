@@ -29,7 +29,8 @@ pub fn written_reports_hold()
         → TellsWhole r.pres (text_of r h) (Ok (told_amount r h)) }
 {}
 
-/// The text that is written of a report says the history that it was written from.
+/// The text that is written of a report says the history that it was written from: its entries in order, the answers by their
+/// fronts with their proofs, behind them the answers to what was left open, and the end.
 pub fn written_reports_say()
     ensures { (r : Reported) (h : History) → IsKnown r → IsReportable r → IsHistoryOf r h
         → IsReport r.pres (text_of r h) (data_of h) }
