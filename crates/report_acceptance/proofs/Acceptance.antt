@@ -11,7 +11,7 @@ use Rattle.basis_entry.specs.Seals.{Seal, item_count}
 use Rattle.basis_entry.proofs.Vectors.{are_entries}
 use Rattle.outcomes.specs.declared.ends.End.{End}
 use Rattle.report_lines.specs.declared.lines.Line.TheVariants as lines
-use Rattle.report_lines.specs.Lines.{IsEndOf}
+use Rattle.report_lines.specs.Lines.{IsEndOf, IsLineOf}
 use Rattle.cert_checker.specs.declared.checked.Checked.{Checked}
 use Rattle.cert_checker.specs.declared.faults.CertFault.{CertFault}
 use Rattle.cert_checker.specs.declared.faults.CertFault.TheVariants as faults
@@ -22,7 +22,7 @@ use Rattle.report_text.specs.Histories.{SessionAnswers, History, item_lines, tol
 use Rattle.report_text.specs.Reports.{Reported, IsReportable, IsHistoryOf, text_of}
 use Rattle.report_acceptance.specs.Accepting.{IsKnown, IsAccepted, told_amount, proof_count}
 use Rattle.report_acceptance.proofs.Generating.{one_generating}
-use Rattle.report_acceptance.proofs.Taking.{after, Leads, one, both, proofs_after}
+use Rattle.report_acceptance.proofs.Taking.{after, Leads, one, both, proofs_after, all_valid}
 use Rattle.report_acceptance.proofs.Told.{told_whole, alone_whole}
 use Rattle.report_acceptance.proofs.Proving.{IsAt}
 use Rattle.report_acceptance.proofs.Sessions.{IsSessionTold, sessions_told}
@@ -83,7 +83,7 @@ module _ (r : Reported) (h : History) (known : IsKnown r) (can : IsReportable r)
     later = can.entries.later;
   }
 
-  all_told : AllByRecursion (IsSessionTold r.pres r.entries r.seal can.base) h.sessions
+  pub all_told : AllByRecursion (IsSessionTold r.pres r.entries r.seal can.base) h.sessions
   all_told = sessions_told r.pres r.entries r.seal can.base r.sessions h.sessions known.sessions can.fronts can.replies is.answered
 
   history_taken : Leads r.pres can.entries.begins.gens (IsAt Entries []) (lines_of h) (IsAt Finished (vectors_of r.entries))
@@ -94,6 +94,10 @@ module _ (r : Reported) (h : History) (known : IsKnown r) (can : IsReportable r)
 
   begun : IsAt Entries [] (record start { phase = Entries })
   begun = record { phase = refl; entries = refl; settled = omega arith }
+
+  -- each of the lines is one of a report
+  pub valid_lines : AllByRecursion (IsLineOf r.pres) (lines_of h)
+  valid_lines = all_valid r.pres can.entries.begins.gens (record start { phase = Entries }) (lines_of h) (history_taken.hold (record start { phase = Entries }) begun)
 
   last : IsAt Finished (vectors_of r.entries) (after (record start { phase = Entries }) (lines_of h))
   last = history_taken.then_is (record start { phase = Entries }) begun

@@ -1,6 +1,4 @@
 pub mod Taking
-pub mod WordBytes
-pub mod LineBytes
 pub mod Exclusion
 pub mod Told
 pub mod Generating
@@ -15,3 +13,10 @@ pub mod Sessions
 pub mod Answering
 pub mod Items
 pub mod Acceptance
+pub mod Puts
+pub mod Goes
+pub mod ReplyLines
+pub mod Fronts
+pub mod Between
+pub mod Closings
+pub mod Whole

@@ -1,5 +1,6 @@
 -- Lines that are taken one after another.
 use Rattle.std.proofs.Common.{◌≡◌, ℕ, ◌+◌, List, [], ◌∷◌, ◌++◌, refl, sym, ap, subst, ◌∙◌, arith}
+use Rattle.std.specs.List.{AllByRecursion}
 use Rattle.word_text.specs.Place.{capped}
 use Rattle.presentation.specs.Presented.{Presented}
 use Rattle.module_vec.specs.declared.places.Term.{Term}
@@ -30,6 +31,10 @@ after_append s [] ms = refl
 after_append s (l ∷ ls) ms = after_append (next s l) ls ms
 
 module _ (p : Presented) (gens : List (List Term)) where
+  pub all_valid : (s : State) (ls : List Line) → AllHold p gens s ls → AllByRecursion (IsLineOf p) ls
+  all_valid s [] h = tt
+  all_valid s (l ∷ ls) h = (h.0, all_valid (next s l) ls h.1.1.1)
+
   hold_append : (s : State) (ls ms : List Line) → AllHold p gens s ls → AllHold p gens (after s ls) ms → AllHold p gens s (ls ++ ms)
   hold_append s [] ms h k = k
   hold_append s (l ∷ ls) ms h k = (h.0, (h.1.0, (h.1.1.0, hold_append (next s l) ls ms h.1.1.1 k)))

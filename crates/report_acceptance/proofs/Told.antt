@@ -22,7 +22,7 @@ use Rattle.cert_checker.specs.declared.faults.CertFault.{CertFault}
 use Rattle.cert_checker.specs.States.{State, start, MayFollow, next}
 use Rattle.cert_checker.specs.Checking.{Agrees, LineFails}
 use Rattle.cert_checker.specs.Texts.{BodyHolds, BodyFails, HoldsIn, FailsIn, BytesHold, BytesFail, IsComplete, counts, Tells}
-use Rattle.report_acceptance.proofs.LineBytes.{whole_line, head_line}
+use Rattle.report_reading.proofs.LineBytes.{whole_line, head_line}
 use Rattle.report_acceptance.proofs.Exclusion.{never_fails}
 use Rattle.report_acceptance.proofs.Taking.{after, AllHold}
 

@@ -57,7 +57,7 @@ a_hom (questions.Hom source images) h = tt
 
 -- ---- subjects
 
-count_is : (q : Question) → length (subjects q) ≡ subject_count q
+pub count_is : (q : Question) → length (subjects q) ≡ subject_count q
 count_is (questions.Trivial w) = refl
 count_is (questions.Equal u v) = refl
 count_is (questions.Normal w) = refl

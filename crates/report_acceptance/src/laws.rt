@@ -5,8 +5,14 @@ ghost use Rattle.cert_checker.specs.declared.checked.Checked.{Checked};
 ghost use Rattle.cert_checker.specs.declared.faults.CertFault.{CertFault};
 ghost use Rattle.cert_checker.specs.Texts.{Answers, TellsWhole};
 ghost use Rattle.report_text.specs.Histories.{History};
+ghost use Rattle.report_reading.specs.declared.data.ReportData.{ReportData};
+ghost use Rattle.report_reading.specs.declared.fault.ReportFault.{ReportFault};
+ghost use Rattle.report_reading.specs.Reading.{IsReport, Answers as IsAnswer};
 ghost use Rattle.report_text.specs.Reports.{Reported, IsReportable, IsHistoryOf, text_of};
 ghost use Rattle.report_acceptance.specs.Accepting.{IsKnown, IsAccepted, told_amount};
+ghost use Rattle.report_acceptance.specs.Saying.{data_of, IsReadBack};
+
+use report_reading::laws::{reports_have_no_fault, reports_say_one_thing};
 
 /// To the text that is written of a report the checker answers how many entries and proofs it holds, unless memory runs out:
 /// it never finds a line that fails.
@@ -22,3 +28,20 @@ pub fn written_reports_hold()
     ensures { (r : Reported) (h : History) → IsKnown r → IsReportable r → IsHistoryOf r h
         → TellsWhole r.pres (text_of r h) (Ok (told_amount r h)) }
 {}
+
+/// The text that is written of a report says the history that it was written from: its entries in order, the answers by their
+/// fronts with their proofs, behind them the answers to what was left open, and the end.
+pub fn written_reports_say()
+    ensures { (r : Reported) (h : History) → IsKnown r → IsReportable r → IsHistoryOf r h
+        → IsReport r.pres (text_of r h) (data_of h) }
+{}
+
+/// So it is read back: to that text the reader answers what was written, unless memory runs out.
+pub fn written_reports_are_read_back()
+    ensures { (r : Reported) (h : History) → IsKnown r → IsReportable r → IsHistoryOf r h
+        → (d : Result ReportData ReportFault) → IsAnswer r.pres (text_of r h) d → IsReadBack h d }
+{
+    written_reports_say();
+    reports_say_one_thing();
+    reports_have_no_fault();
+}

@@ -1,4 +1,7 @@
 mod Listing
 mod Heads
-mod Placing
+pub mod Placing
+pub mod WordBytes
+pub mod LineBytes
 mod Excluding
+mod Agreeing

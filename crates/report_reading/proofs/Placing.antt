@@ -13,7 +13,7 @@ use Rattle.report_reading.specs.Telling.{Told, MayFollow, IsNextOpen, with_proof
 use Rattle.report_reading.specs.Reading.{TakesLine, TakesBytes}
 
 -- the last reply gets one more proof
-proof_behind : (steps : List Step) (rs : List ReplyData) (r : ReplyData) → with_proof steps (rs ++ r ∷ []) ≡ rs ++ record r { proofs = r.proofs ++ steps ∷ [] } ∷ []
+pub proof_behind : (steps : List Step) (rs : List ReplyData) (r : ReplyData) → with_proof steps (rs ++ r ∷ []) ≡ rs ++ record r { proofs = r.proofs ++ steps ∷ [] } ∷ []
 proof_behind steps [] r = refl
 proof_behind steps (s ∷ []) r = refl
 proof_behind steps (s ∷ t ∷ rs) r = ap (λ l. s ∷ l) (proof_behind steps (t ∷ rs) r)

@@ -1,6 +1,6 @@
 -- Which text is a report, what it says, and which of its lines is the first that can't stand.
 use Rattle.std.specs.List.{AllByRecursion}
-use Rattle.std.specs.Prelude.{◌≡◌, ◌≢◌, ℕ, ◌+◌, ◌==◌, false, List, [], ◌∷◌, ◌++◌, length, Option, Some, None, Result, Ok, Err}
+use Rattle.std.specs.Prelude.{◌≡◌, ◌≢◌, ℕ, ◌+◌, List, [], ◌∷◌, ◌++◌, length, Option, Some, None, Result, Ok, Err}
 use Rattle.spelling.specs.Spelling.{cut}
 use Rattle.word_text.specs.Place.{capped}
 use Rattle.presentation.specs.Presented.{Presented}
@@ -86,11 +86,6 @@ pub data IsFirstFault (p : Presented) (text : List ℕ) : ℕ → Type 0 where
   at_title : IsOther title (cut 10 text) → IsFirstFault p text 1
   at_presentation : (others : List ℕ) → text ≡ title ++ 10 ∷ others → IsOther (pres_line p) (cut 10 others) → IsFirstFault p text 2
   behind : (n : ℕ) (body : List ℕ) → text ≡ title ++ 10 ∷ (pres_line p ++ 10 ∷ body) → StandsUpTo p body n → IsFirstFault p text n
-
--- no line end stands within a line
-pub record HasWholeLines (p : Presented) : Type 0 where
-  pub head : AllByRecursion (λ b. (b == 10) ≡ false) (pres_line p)
-  pub lines : (l : Line) → IsLineOf p l → AllByRecursion (λ b. (b == 10) ≡ false) (line_text p l)
 
 -- what is answered to a text, unless memory runs out
 abbrev pub Answers : Presented → List ℕ → Result ReportData ReportFault → Type 0

@@ -38,7 +38,7 @@ use Rattle.report_lines.specs.declared.lines.Line.TheVariants as lines
 use Rattle.report_lines.specs.Texts.{pres_line, spaced, coloned, made_text, stop_text, kind_text, task_text, measure_text, end_text, verdict_text, answer_text, line_text}
 use Rattle.report_lines.specs.Lines.{IsStopOf, IsMadeOf, IsTask, IsEndOf, IsVerdictOf, IsAnswer, IsLineOf}
 use Rattle.report_lines.proofs.Pairs.{literal}
-use Rattle.report_acceptance.proofs.WordBytes.{IsOneLine, number_line, join_line, presentation_line, question_line}
+use Rattle.report_reading.proofs.WordBytes.{IsOneLine, number_line, join_line, presentation_line, question_line}
 
 outside : IsOutside 10
 unfolding is_name_byte is_letter is_digit
