@@ -7,7 +7,6 @@ use Rattle.presentation.specs.Presented.{Presented}
 use Rattle.presentation.specs.Reading.{presentation_text}
 use Rattle.session_text.specs.declared.question.Question.{Question}
 use Rattle.session_text.specs.declared.fault.SessionFault.{SessionFault}
-use Rattle.session_text.specs.declared.fault.SessionFault.TheVariants as sessions
 use Rattle.session_text.specs.Reading.{session_text}
 use Rattle.pair_book.specs.declared.limits.Limits.{Limits}
 use Rattle.session_core.specs.Questions.{CanBeAsked}
@@ -18,7 +17,7 @@ use Rattle.metab_run.specs.declared.answer.Halt.{Halt}
 use Rattle.metab_run.specs.declared.answer.Halt.TheVariants.{Says, NoMemory}
 use Rattle.metab_run.specs.Answers.{Answer}
 use Rattle.metab_run.specs.Files.{in_lines, ReadLeads, TextGives, CommandEnd}
-use Rattle.metab_run.specs.SessionFiles.{RefusesSession, QuestionsGive, IsNewSession, AreNewSessions}
+use Rattle.metab_run.specs.SessionFiles.{QuestionsGive, IsNewSession, AreNewSessions}
 use Rattle.metab_run.specs.SoloAnswers.{limits_with, IsSolved, IsSolution, ShowsSettled}
 use Rattle.metab_run.specs.GenAnswers.{summary, ShowsGen, QuestionsLead, TextsLead}
 
@@ -41,12 +40,6 @@ few_sessions p limits questions qs r one solution =
 
 -- ---- what the texts lead to
 
--- a session that has no questions leads to its answer, whatever would come next
-refused_leads : (name : List ℕ) (f : SessionFault) (next : List Question → Answer → Type 0) (a : Answer) → RefusesSession name f (Says a) → QuestionsLead name (Err f) next a
-refused_leads name (sessions.Text f) next a h = h
-refused_leads name (sessions.ImageTooLong line relator) next a h = h
-refused_leads name sessions.NoMemory next a h = absurd h
-
 module _ (seed : ℕ) (pres session : List ℕ) where
   abbrev next : Presented → Answer → Type 0
   next p a = QuestionsLead (codes "session") (session_text p session) (ShowsGen seed p) a
@@ -61,7 +54,7 @@ module _ (seed : ℕ) (pres session : List ℕ) where
   pub no_questions : (p : Presented) (halt : Halt) → in_lines presentation_text pres ≡ Ok p → QuestionsGive (codes "session") (session_text p session) (Err halt)
       → CommandEnd (TextsLead seed pres session) (Err halt)
   no_questions p (Says a) is (f, read, refuses) =
-      goes_on p a is (subst (λ (r : Result (List Question) SessionFault). QuestionsLead (codes "session") r (ShowsGen seed p) a) (sym read) (refused_leads (codes "session") f (ShowsGen seed p) a refuses))
+      goes_on p a is (subst (λ (r : Result (List Question) SessionFault). QuestionsLead (codes "session") r (ShowsGen seed p) a) (sym read) refuses)
   no_questions p NoMemory is gives = tt
 
   pub summed : (p : Presented) (questions : List (List Question)) (qs : List Question) (r : Reported) (a : Answer) → in_lines presentation_text pres ≡ Ok p → session_text p session ≡ Ok qs

@@ -1,6 +1,6 @@
 //! The command `solo`: a completion, and then the answers to all questions.
 
-ghost use Rattle.std.specs.Prelude.{◌≡◌, ◌≤◌, length, IfErr};
+ghost use Rattle.std.specs.Prelude.{◌≤◌, length, IfErr};
 ghost use Rattle.mb_io.specs.Shelf.{CountRose};
 ghost use Rattle.metab_run.specs.Files.{HasCause};
 ghost use Rattle.metab_run.specs.Words.{solo_asked};
