@@ -205,6 +205,20 @@ fn moves_are_refused(rt: HostRuntime) {
     }
 }
 
+// What the derivation makes of the word.
+fn carried_out(
+    rt: &impl Abort,
+    alloc: Global,
+    presentation: &str,
+    word: &str,
+    derivation: &str,
+) -> Result<(), StepsFault> {
+    let p = presentation_of(rt, alloc, presentation);
+    let w = word_of(rt, alloc, &p, word);
+    let moves = read_derivation(alloc, &p, derivation.as_bytes()).expect(rt, "moves");
+    check_steps(alloc, &p, &w, &moves)
+}
+
 #[test]
 fn lists_of_moves(rt: HostRuntime) {
     let alloc = rt.alloc();
@@ -258,24 +272,32 @@ fn lists_of_moves(rt: HostRuntime) {
             "del 0 pow a, b",
             bad(1, MoveReason::NoModulus),
         ),
-        (LONG_RELATOR, "a^16384", "ins 16384 rel 1", left(32768)),
+    ] {
+        let got = carried_out(&rt, alloc, presentation, word, derivation);
+        assert!(rt; got == want, "at {derivation}");
+    }
+}
+
+#[test]
+fn lists_of_long_moves(rt: HostRuntime) {
+    let alloc = rt.alloc();
+    for (word, derivation, want) in [
         (
-            LONG_RELATOR,
+            "a^16384",
+            "ins 16384 rel 1",
+            Err(StepsFault::NotEmpty { left: 32_768 }),
+        ),
+        (
             "a^16384",
             "ins 1 rel 1\nins 0 pair a",
-            bad(2, MoveReason::TooLong),
+            Err(StepsFault::BadMove {
+                number: 2,
+                reason: MoveReason::TooLong,
+            }),
         ),
-        (
-            LONG_RELATOR,
-            "a^16384",
-            "ins 1 rel 1\ndel 7 rel 1\ndel 0 rel 1",
-            Ok(()),
-        ),
+        ("a^16384", "ins 1 rel 1\ndel 7 rel 1\ndel 0 rel 1", Ok(())),
     ] {
-        let p = presentation_of(&rt, alloc, presentation);
-        let w = word_of(&rt, alloc, &p, word);
-        let moves = read_derivation(alloc, &p, derivation.as_bytes()).expect(&rt, "moves");
-        let got = check_steps(alloc, &p, &w, &moves);
+        let got = carried_out(&rt, alloc, LONG_RELATOR, word, derivation);
         assert!(rt; got == want, "at {derivation}");
     }
 }
