@@ -392,18 +392,7 @@ end sealed
 done
 ";
 
-// Two questions about an infinite cyclic group, line by line.
-const CYCLIC: [&str; 9] = [
-    "metab report 1\n",
-    "pres <a | >\n",
-    "entry 0 gen + : +1*a.a'@a -1*1@a\n",
-    "seal\n",
-    "live 1 1 2 trivial a a^-1 : trivial\n",
-    "proof 1 0\n",
-    "live 1 2 2 trivial a : not-trivial\n",
-    "end sealed\n",
-    "done\n",
-];
+const DOUBLING: &str = "equal a^2 = t a t^-1\nnormal a\ntrivial [a, t a t^-1]\n";
 
 // Completion isn't begun, and so the question is left open.
 const SPENT: &str = "metab report 1
@@ -448,18 +437,19 @@ fn questions_are_answered(rt: HostRuntime) -> Result<(), Fail> {
 fn reports_are_written_line_by_line(rt: HostRuntime) -> Result<(), Fail> {
     let alloc = rt.alloc();
     let line = ["solo", "p", "s"];
-    let mut text = Vec::new(alloc);
-    for (at, written) in CYCLIC.iter().enumerate() {
-        let files = two(alloc, "<a|>", "s", "trivial a a^-1\ntrivial a")?;
-        let (status, out) = run(alloc, &line, files, sink(alloc, &[at as u32 + 1])?)?;
-        assert!(rt; out.taken() == text.as_slice(), "without line {at}");
-        assert!(rt; status == Status::WriteFault, "without line {at}");
-        text.extend_from_slice(written.as_bytes())?;
+    let mut before = Vec::new(alloc);
+    let mut number = 1u32;
+    for byte in SOLVED.as_bytes() {
+        if before.is_empty() || before.last() == Some(&b'\n') {
+            let files = two(alloc, "<a,t | t a t^-1 a^-2>", "s", DOUBLING)?;
+            let (status, out) = run(alloc, &line, files, sink(alloc, &[number])?)?;
+            assert!(rt; out.taken() == before.as_slice(), "without line {number}");
+            assert!(rt; status == Status::WriteFault, "without line {number}");
+            number = number.saturating_add(1);
+        }
+        before.push(*byte)?;
     }
-    let files = two(alloc, "<a|>", "s", "trivial a a^-1\ntrivial a")?;
-    let (status, out) = run(alloc, &line, files, sink(alloc, &[10])?)?;
-    assert!(rt; out.taken() == text.as_slice());
-    assert!(rt; status == Status::Done);
+    assert_eq!(rt; number, 21);
     Ok(())
 }
 
@@ -468,7 +458,11 @@ fn sessions_are_read_after_the_presentation(rt: HostRuntime) -> Result<(), Fail>
     let alloc = rt.alloc();
     let line = ["solo", "p", "s"];
     for number in 1..=6u32 {
-        let files = shelf(alloc, &[("p", b"<a|>"), ("s", b"trivial a")], &[number])?;
+        let texts: [(&str, &[u8]); 2] = [
+            ("p", b"<a,t | t a t^-1 a^-2>"),
+            ("s", DOUBLING.as_bytes()),
+        ];
+        let files = shelf(alloc, &texts, &[number])?;
         let text = if number <= 3 {
             "read fault p\n"
         } else {
