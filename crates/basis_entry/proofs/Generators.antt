@@ -1,5 +1,6 @@
 -- The generators of a module: they aren't zero, they lie in it, and there are few of them.
-use Rattle.std.proofs.Common.{◌≡◌, ◌≢◌, ℕ, zero, suc, ◌*◌, ◌<◌, ◌≤◌, ◌==◌, Bool, true, false, if◌then◌else◌, ℤ, pos, ◌+ℤ◌, ◌*ℤ◌, List, [], ◌∷◌, ◌++◌, length, map, length-append, refl, sym, ap, ◌∙◌, arith}
+use Rattle.std.proofs.Common.{◌≡◌, ◌≢◌, ℕ, zero, suc, ◌*◌, ◌<◌, ◌≤◌, ◌==◌, Bool, true, false, if◌then◌else◌, ℤ, pos, ◌+ℤ◌, ◌*ℤ◌, List, [], ◌∷◌, ◌++◌, length}
+use Rattle.std.proofs.Common.{map, length-append, refl, sym, ap, ◌∙◌, arith}
 use borrow.Author.Differences.{ints}
 use Rattle.std.proofs.lemmas.List.{length-map}
 use Rattle.std.proofs.lemmas.List.FromFn.{length-range_with_len}
@@ -16,7 +17,8 @@ use Rattle.module_vec.specs.Modules.{vector_at, InModule}
 use Rattle.module_vec.specs.Places.{same_place, moved}
 use Rattle.module_vec.specs.Vectors.{sum_of, coefficient_at, multiple, IsTerm}
 use Rattle.fox_calculus.specs.Fox.{fox, image}
-use Rattle.fox_calculus.specs.Generators.{binomial, unit_monomial, constant, components, relator_vectors, relator_binomials, unit_binomials, modulus_vectors, candidates, AreWritten, AreGenerators}
+use Rattle.fox_calculus.specs.Generators.{binomial, unit_monomial, constant, components, relator_vectors, relator_binomials, unit_binomials, modulus_vectors}
+use Rattle.fox_calculus.specs.Generators.{candidates, AreWritten, AreGenerators}
 use Rattle.fox_calculus.specs.Module.{IsGenerator, IsMember}
 use Rattle.fox_calculus.proofs.Listed.{candidates_are, Origin, origin}
 use Rattle.fox_calculus.proofs.Members.{listed_member}
@@ -42,7 +44,8 @@ once v h x =
     let first = coefficient-append same_place (multiple (pos 1) one v) [] x in
     let scaled = coefficient-scale same_place (pos 1) (rename (moved one) (sum_of v)) x in
     let still : coefficient same_place (rename (moved one) (sum_of v)) x ≡ coefficient_at v x = ap (λ w. coefficient same_place w x) (rename_one v h) in
-    sym still ∙ just (coefficient same_place (rename (moved one) (sum_of v)) x) ∙ sym scaled ∙ alone (coefficient same_place (multiple (pos 1) one v) x) ∙ sym first
+    sym still ∙ just (coefficient same_place (rename (moved one) (sum_of v)) x) ∙ sym scaled
+    ∙ alone (coefficient same_place (multiple (pos 1) one v) x) ∙ sym first
   where
     just : (z : ℤ) → z ≡ pos 1 *ℤ z
     just z = omega (arith, ints)

@@ -1,5 +1,6 @@
 -- Lists that grow by an element.
-use Rattle.std.proofs.Common.{◌≡◌, ◌≢◌, append-nil, ℕ, zero, suc, ◌+◌, ◌<◌, List, [], ◌∷◌, ◌++◌, length, map, take, get_or, length-append, ◌⊎◌, inl, inr, refl, sym, ap, subst, ◌∙◌, arith}
+use Rattle.std.proofs.Common.{◌≡◌, ◌≢◌, append-nil, ℕ, zero, suc, ◌+◌, ◌<◌, List, [], ◌∷◌, ◌++◌, length, map, take, get_or, length-append, ◌⊎◌, inl, inr, refl}
+use Rattle.std.proofs.Common.{sym, ap, subst, ◌∙◌, arith}
 use Rattle.std.proofs.lemmas.List.{take_more, map-append}
 use Rattle.std.specs.List.{AllByRecursion}
 use Rattle.std.specs.Prelude.{Some, slice_get}
@@ -22,7 +23,8 @@ all_more P [] x h own = (own, tt)
 all_more P (y ∷ xs) x h own = (h.0, all_more P xs x h.1 own)
 
 -- one more element of the same meaning
-pub map_more : {A B : Type 0} (f : A → B) (xs made : List A) (i : ℕ) (x y : A) → i < length xs → x ≡ get_or xs i x → map f made ≡ map f (take i xs) → f y ≡ f x → map f (made ++ y ∷ []) ≡ map f (take (i + 1) xs)
+pub map_more : {A B : Type 0} (f : A → B) (xs made : List A) (i : ℕ) (x y : A) → i < length xs → x ≡ get_or xs i x → map f made ≡ map f (take i xs) → f y ≡ f x
+    → map f (made ++ y ∷ []) ≡ map f (take (i + 1) xs)
 map_more f xs made i x y lt read so same =
     map-append f made (y ∷ []) ∙ (λ j. so j ++ same j ∷ [])
     ∙ ap (λ z. map f (take i xs) ++ f z ∷ []) read
@@ -46,14 +48,16 @@ pub of_none : (p : Presented) → AreOfGenerators p [] []
 of_none p = record { count = refl; each = λ i e read. absurd cc }
 
 -- one more of them
-pub of_more : (p : Presented) (gs : List (List Term)) (es : List BasisEntry) (g : List Term) (e : BasisEntry) → AreOfGenerators p gs es → IsOfGenerator p (length gs) g e
+pub of_more : (p : Presented) (gs : List (List Term)) (es : List BasisEntry) (g : List Term) (e : BasisEntry) → AreOfGenerators p gs es
+    → IsOfGenerator p (length gs) g e
     → AreOfGenerators p (gs ++ g ∷ []) (es ++ e ∷ [])
 of_more p gs es g e h own = record {
   count = omega (arith, h.count, length-append es (e ∷ []), length-append gs (g ∷ []));
   each = λ i f read. by i f (read_push e es i f read);
 }
   where
-    by : (i : ℕ) (f : BasisEntry) → ((slice_get es i ≡ Some f) × (i < length es)) ⊎ ((i ≡ length es) × (e ≡ f)) → IsOfGenerator p i (vector_at (gs ++ g ∷ []) i) f
+    by : (i : ℕ) (f : BasisEntry) → ((slice_get es i ≡ Some f) × (i < length es)) ⊎ ((i ≡ length es) × (e ≡ f))
+        → IsOfGenerator p i (vector_at (gs ++ g ∷ []) i) f
     by i f (inl old) =
         let lt : i < length gs = omega (arith, old.1, h.count) in
         subst (λ (v : List Term). IsOfGenerator p i v f) (sym (vector_before gs g i lt)) (h.each i f old.0)
@@ -74,16 +78,19 @@ module _ (p : Presented) (gens done rest : List (List Term)) (g : List Term) (is
   next_some e = generator_some p gens are (length done) (next_within gens done rest g is) (next_is gens done rest g is ∙ e)
 
   pub next_member : IsMember p (sum_of g)
-  next_member = subst (λ (v : List Term). IsMember p (sum_of v)) (next_is gens done rest g is) (generator_member p gens are (length done) (next_within gens done rest g is))
+  next_member = subst (λ (v : List Term). IsMember p (sum_of v)) (next_is gens done rest g is)
+      (generator_member p gens are (length done) (next_within gens done rest g is))
 
   pub next_over : IsPresented p → VectorIsOver (length p.names) g
-  next_over known = subst (VectorIsOver (length p.names)) (next_is gens done rest g is) (generator_over p gens known are (length done) (next_within gens done rest g is))
+  next_over known = subst (VectorIsOver (length p.names)) (next_is gens done rest g is)
+      (generator_over p gens known are (length done) (next_within gens done rest g is))
 
   pub next_few : IsPresented p → length done < BASE
   next_few h = omega (arith, next_within gens done rest g is, few_generators p gens h are)
 
 -- when all were taken
-pub all_taken : (p : Presented) (gens done rest : List (List Term)) (es : List BasisEntry) → IsPresented p → AreGenerators p gens → done ++ rest ≡ gens → length rest ≡ 0 → AreOfGenerators p done es → AreBase p es
+pub all_taken : (p : Presented) (gens done rest : List (List Term)) (es : List BasisEntry) → IsPresented p → AreGenerators p gens → done ++ rest ≡ gens
+    → length rest ≡ 0 → AreOfGenerators p done es → AreBase p es
 all_taken p gens done [] es h are split none of =
     let is : done ≡ gens = sym (append-nil done) ∙ split in
     let all : AreOfGenerators p gens es = subst (λ (gs : List (List Term)). AreOfGenerators p gs es) is of in

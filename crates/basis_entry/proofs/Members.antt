@@ -35,22 +35,26 @@ module _ (p : Presented) where
       spanned-multiple same_place moved HasVariables (IsGenerator p) test product (λ s r e f. length-product s r e f)
       (λ s r k i. record { m = sym (product_assoc s r k.m) i; c = k.c }) q t v long h
 
-  entry_member : (es : List BasisEntry) → AllByRecursion IsBasisEntry es → AreOf p es → (i : ℕ) → i < length (vectors_of es) → IsMember p (sum_of (vector_at (vectors_of es) i))
+  entry_member : (es : List BasisEntry) → AllByRecursion IsBasisEntry es → AreOf p es → (i : ℕ) → i < length (vectors_of es)
+      → IsMember p (sum_of (vector_at (vectors_of es) i))
   entry_member [] all of i lt = absurd (omega (arith, lt))
   entry_member (e ∷ es) all of zero lt = subst (λ (q : Presented). IsMember q (sum_of e.vector)) of.0 all.0.member
   entry_member (e ∷ es) all of (suc i) lt = entry_member es all.1 of.1 i (omega (arith, lt))
 
-  sum_member : (b : List (List Term)) → ((i : ℕ) → i < length b → IsMember p (sum_of (vector_at b i))) → (ss : List Step) → AreSteps b ss → IsMember p (sum_of_steps b ss)
+  sum_member : (b : List (List Term)) → ((i : ℕ) → i < length b → IsMember p (sum_of (vector_at b i))) → (ss : List Step) → AreSteps b ss
+      → IsMember p (sum_of_steps b ss)
   sum_member b h [] are = spanned_nothing same_place moved HasVariables (IsGenerator p)
   sum_member b h (s ∷ ss) are =
       spanned-append same_place moved HasVariables (IsGenerator p) (multiple s.q s.t (vector_at b s.by)) (sum_of_steps b ss)
       (member_multiple s.q s.t (sum_of (vector_at b s.by)) are.0.0 (h s.by are.0.1)) (sum_member b h ss are.1)
 
   -- a vector that is a sum of steps over entries
-  pub value_member : (es : List BasisEntry) (b : List (List Term)) (ss : List Step) (v : List Term) → b ≡ vectors_of es → AllByRecursion IsBasisEntry es → AreOf p es
+  pub value_member : (es : List BasisEntry) (b : List (List Term)) (ss : List Step) (v : List Term) → b ≡ vectors_of es
+      → AllByRecursion IsBasisEntry es → AreOf p es
       → AreSteps b ss → Has v (steps_at b ss) → IsMember p (sum_of v)
   value_member es b ss v are all of steps is =
-      let each : (i : ℕ) → i < length b → IsMember p (sum_of (vector_at b i)) = subst (λ (w : List (List Term)). (i : ℕ) → i < length w → IsMember p (sum_of (vector_at w i))) (sym are) (entry_member es all of) in
+      let each : (i : ℕ) → i < length b → IsMember p (sum_of (vector_at b i)) = subst (λ (w : List (List Term)). (i : ℕ) → i < length w
+      → IsMember p (sum_of (vector_at w i))) (sym are) (entry_member es all of) in
       spanned_same same_place moved HasVariables (IsGenerator p) (sum_of v) (sum_of_steps b ss) is (sum_member b each ss steps)
 
 -- the vectors of entries over the list of generators

@@ -1,5 +1,6 @@
 -- Entries are over the generators of their presentation.
-use Rattle.std.proofs.Common.{◌≡◌, ℕ, zero, suc, ◌+◌, ◌*◌, ◌<◌, true, false, Bool, MatchBool, ℤ, negsuc, ◌*ℤ◌, List, [], ◌∷◌, ◌++◌, length, Contains, sym, subst, arith}
+use Rattle.std.proofs.Common.{◌≡◌, ℕ, zero, suc, ◌+◌, ◌*◌, ◌<◌, true, false, Bool, MatchBool, ℤ, negsuc, ◌*ℤ◌, List, [], ◌∷◌, ◌++◌, length, Contains, sym}
+use Rattle.std.proofs.Common.{subst, arith}
 use Rattle.std.proofs.lemmas.List.Elements.{All-from_recursion, All-contains}
 use Rattle.std.specs.List.{AllByRecursion}
 use Rattle.free_words.specs.declared.letter.Letter.{Letter}
@@ -32,21 +33,25 @@ all_append P (x ∷ xs) ys a b = (a.0, all_append P xs ys a.1 b)
 
 -- ---- generators
 relator_over : (p : Presented) (r : List Letter) → IsPresented p → Contains p.relators r → IsOver (length p.names) r
-relator_over p r known listed = (All-contains (IsWritten (length p.names)) p.relators r (All-from_recursion (IsWritten (length p.names)) p.relators known.relators) listed).0
+relator_over p r known listed = (All-contains (IsWritten (length p.names)) p.relators r
+    (All-from_recursion (IsWritten (length p.names)) p.relators known.relators) listed).0
 
 binomial_over : (n : ℕ) (m : List ℕ) (c : ℕ) → MonoIsOver n m → c < n → SumIsOver n (binomial m c)
 binomial_over n m c over lt = (record { mono = over; component = lt }, (record { mono = one_over n; component = lt }, tt))
 
 unit_over : (n g : ℕ) → g < n → MonoIsOver n (unit_monomial g)
-unit_over n g lt = product_over n (variable (2 * g)) (variable (2 * g + 1)) (variable_over n (2 * g) (omega (arith, lt))) (variable_over n (2 * g + 1) (omega (arith, lt)))
+unit_over n g lt = product_over n (variable (2 * g)) (variable (2 * g + 1)) (variable_over n (2 * g) (omega (arith, lt)))
+    (variable_over n (2 * g + 1) (omega (arith, lt)))
 
 made_over : (p : Presented) (f : FormalSum Place) → IsPresented p → IsGenerator p f → SumIsOver (length p.names) f
 made_over p _ known (IsGenerator.relator_vector r listed) = fox_over (length p.names) [] r tt (relator_over p r known listed)
-made_over p _ known (IsGenerator.relator_binomial r c listed lt) = binomial_over (length p.names) (image r) c (image_over (length p.names) r (relator_over p r known listed)) lt
+made_over p _ known (IsGenerator.relator_binomial r c listed lt) =
+    binomial_over (length p.names) (image r) c (image_over (length p.names) r (relator_over p r known listed)) lt
 made_over p _ known (IsGenerator.unit_binomial g c lg lc) = binomial_over (length p.names) (unit_monomial g) c (unit_over (length p.names) g lg) lc
 made_over p _ known (IsGenerator.modulus_vector c some lt) = (record { mono = one_over (length p.names); component = lt }, tt)
 
-pub generator_over : (p : Presented) (gens : List (List Term)) → IsPresented p → AreGenerators p gens → (i : ℕ) → i < length gens → VectorIsOver (length p.names) (vector_at gens i)
+pub generator_over : (p : Presented) (gens : List (List Term)) → IsPresented p → AreGenerators p gens → (i : ℕ) → i < length gens
+    → VectorIsOver (length p.names) (vector_at gens i)
 generator_over p gens known are i lt =
     let o : Origin (IsGenerator p) (vector_at gens i) = origin (IsGenerator p) (candidates p) gens are (candidates_are p) i lt in
     sum_over (length p.names) o.from (vector_at gens i) o.is.sparse o.is.same (made_over p o.from known o.has)
@@ -86,12 +91,14 @@ steps_sum_over n b (s ∷ ss) over monos =
     all_append (λ t. PlaceIsOver n t.1) (multiple s.q s.t (vector_at b s.by)) (sum_of_steps b ss)
     (multiple_over n s.q s.t (vector_at b s.by) monos.0 (vector_over n b s.by over)) (steps_sum_over n b ss over monos.1)
 
-pub entries_over : (p : Presented) (es : List BasisEntry) → AllByRecursion IsBasisEntry es → AreOf p es → AllByRecursion (VectorIsOver (length p.names)) (vectors_of es)
+pub entries_over : (p : Presented) (es : List BasisEntry) → AllByRecursion IsBasisEntry es → AreOf p es
+    → AllByRecursion (VectorIsOver (length p.names)) (vectors_of es)
 entries_over p [] all of = tt
 entries_over p (e ∷ es) all of = (subst (λ (q : Presented). VectorIsOver (length q.names) e.vector) of.0 all.0.over, entries_over p es all.1 of.1)
 
 -- a vector that is a sum of steps over entries
-pub value_over : (p : Presented) (es : List BasisEntry) (b : List (List Term)) (ss : List Step) (v : List Term) → b ≡ vectors_of es → AllByRecursion IsBasisEntry es → AreOf p es
+pub value_over : (p : Presented) (es : List BasisEntry) (b : List (List Term)) (ss : List Step) (v : List Term) → b ≡ vectors_of es
+    → AllByRecursion IsBasisEntry es → AreOf p es
     → MonosAreOver (length p.names) ss → IsEntry v → Has v (steps_at b ss) → VectorIsOver (length p.names) v
 value_over p es b ss v are all of monos entry is =
     let over : AllByRecursion (VectorIsOver (length p.names)) b = subst (AllByRecursion (VectorIsOver (length p.names))) (sym are) (entries_over p es all of) in

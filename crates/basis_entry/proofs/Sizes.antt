@@ -1,5 +1,6 @@
 -- How many terms the entries of the generators have.
-use Rattle.std.proofs.Common.{◌≡◌, ℕ, suc, ◌*◌, ◌≤◌, ◌==◌, Bool, true, false, if◌then◌else◌, MatchBool, negsuc, ℤ, ◌*ℤ◌, ◌≢◌, refl, List, [], ◌∷◌, ◌++◌, length, map, sum_by, sym, ap, ◌∙◌, arith}
+use Rattle.std.proofs.Common.{◌≡◌, ℕ, suc, ◌*◌, ◌≤◌, ◌==◌, Bool, true, false, if◌then◌else◌, MatchBool, negsuc, ℤ, ◌*ℤ◌, ◌≢◌, refl, List, [], ◌∷◌, ◌++◌, length}
+use Rattle.std.proofs.Common.{map, sum_by, sym, ap, ◌∙◌, arith}
 use Rattle.std.proofs.lemmas.List.{length-map}
 use Rattle.std.proofs.lemmas.List.FromFn.{length-range_with_len}
 use Rattle.std.proofs.lemmas.List.Sums.{sum_by-cons, sum_by-append}
@@ -17,7 +18,8 @@ use Rattle.module_vec.specs.Modules.{vector_at}
 use Rattle.module_vec.specs.Vectors.{sum_of}
 use Rattle.module_vec.proofs.Order.{test, order}
 use Rattle.fox_calculus.specs.Fox.{fox, image}
-use Rattle.fox_calculus.specs.Generators.{binomial, unit_monomial, constant, components, relator_vectors, relator_binomials, unit_binomials, modulus_vectors, candidates, IsZero, IsWritten, AreWritten}
+use Rattle.fox_calculus.specs.Generators.{binomial, unit_monomial, constant, components, relator_vectors, relator_binomials, unit_binomials, modulus_vectors}
+use Rattle.fox_calculus.specs.Generators.{candidates, IsZero, IsWritten, AreWritten}
 use Rattle.fox_calculus.proofs.Short.{fox_length, nonzero}
 use Rattle.basis_entry.specs.declared.TheConstants.{BASE_TERMS}
 use Rattle.basis_entry.specs.Base.{has_negative_lead, IsOfGenerator, AreBase}
@@ -148,7 +150,8 @@ same_size (e ∷ es) (g ∷ gens) long each =
     omega (arith, c, d, r, each 0 e refl)
 
 base_size : (p : Presented) (es : List BasisEntry) (base : AreBase p es) → terms_in es ≡ size base.gens
-base_size p es base = same_size es base.gens base.count (λ i e read. let is : IsOfGenerator p i (vector_at base.gens i) e = base.each i e read in entry_size (has_negative_lead (vector_at base.gens i)) e.vector (vector_at base.gens i) is.vector)
+base_size p es base = same_size es base.gens base.count (λ i e read. let is : IsOfGenerator p i (vector_at base.gens i) e = base.each i e read
+    in entry_size (has_negative_lead (vector_at base.gens i)) e.vector (vector_at base.gens i) is.vector)
 
 pub few_terms : (p : Presented) (es : List BasisEntry) → IsPresented p → AreBase p es → sum_by (λ (e : BasisEntry). length e.vector) es ≤ BASE_TERMS
 few_terms p es h base = omega (arith, base_size p es base, written_size (candidates p) base.gens base.generators, size-candidates p h)
@@ -181,7 +184,8 @@ alike _ _ _ (AreWritten.written f g fs gs n w r) (AreWritten.written _ h _ hs m 
     let ge = shorter f h g v w in
     (omega (arith, rest.0), omega (arith, rest.1, c, d, le, ge))
 
-pub bases_alike : (p : Presented) (es fs : List BasisEntry) → AreBase p es → AreBase p fs → (length es ≡ length fs) × (sum_by (λ (e : BasisEntry). length e.vector) es ≡ sum_by (λ (e : BasisEntry). length e.vector) fs)
+pub bases_alike : (p : Presented) (es fs : List BasisEntry) → AreBase p es → AreBase p fs
+    → (length es ≡ length fs) × (sum_by (λ (e : BasisEntry). length e.vector) es ≡ sum_by (λ (e : BasisEntry). length e.vector) fs)
 bases_alike p es fs one two =
     let like = alike (candidates p) one.gens two.gens one.generators two.generators in
     (omega (arith, like.0, one.count, two.count), omega (arith, like.1, base_size p es one, base_size p fs two))

@@ -45,7 +45,8 @@ turned_entry (e ∷ g) (f ∷ h) is some sign turned =
     record { vector = turned_vector (e ∷ g) (f ∷ h) turned is; lead = f; others = h; is = refl; positive = omega (arith, ints, own, low) }
 
 -- either way the vector lies in the module still
-pub either_member : (p : Presented) (b : Bool) (v w : List Term) → MatchBool b (sum_of w ≡ scale (negsuc 0) (sum_of v)) (w ≡ v) → IsMember p (sum_of v) → IsMember p (sum_of w)
+pub either_member : (p : Presented) (b : Bool) (v w : List Term) → MatchBool b (sum_of w ≡ scale (negsuc 0) (sum_of v)) (w ≡ v) → IsMember p (sum_of v)
+    → IsMember p (sum_of w)
 either_member p true v w e h = subst (IsMember p) (sym e) (member_scale p (negsuc 0) (sum_of v) h)
 either_member p false v w e h = subst (λ (u : List Term). IsMember p (sum_of u)) (sym e) h
 
@@ -54,5 +55,6 @@ pub are_entries : (es : List BasisEntry) → AllByRecursion IsBasisEntry es → 
 are_entries [] h = tt
 are_entries (e ∷ es) h = (h.0.entry, are_entries es h.1)
 
-pub read_vector : (es : List BasisEntry) (at : ℕ) (e : BasisEntry) (v : List Term) → slice_get es at ≡ Some e → v ≡ e.vector → slice_get (vectors_of es) at ≡ Some v
+pub read_vector : (es : List BasisEntry) (at : ℕ) (e : BasisEntry) (v : List Term) → slice_get es at ≡ Some e → v ≡ e.vector
+    → slice_get (vectors_of es) at ≡ Some v
 read_vector es at e v read is = slice_get-map (λ (x : BasisEntry). x.vector) es at ∙ ap (option_map (λ (x : BasisEntry). x.vector)) read ∙ ap Some (sym is)

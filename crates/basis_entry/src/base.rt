@@ -55,7 +55,8 @@ fn with_positive_lead(mut vector: ModVec) -> (ModVec, bool)
     requires some { vector ≢ [] }
     ensures entry { IsEntry result.0 }
     ensures sign { result.1 ≡ has_negative_lead vector }
-    ensures vector { MatchBool (has_negative_lead vector) (sum_of result.0 ≡ scale (negsuc 0) (sum_of vector)) (result.0 ≡ vector) }
+    ensures vector { MatchBool (has_negative_lead vector) (sum_of result.0
+        ≡ scale (negsuc 0) (sum_of vector)) (result.0 ≡ vector) }
 {
     if !has_negative_lead(&vector) {
         return (vector, false);

@@ -49,8 +49,8 @@ impl Entry {
         generator_entries(alloc, p)
     }
 
-    /// The entry that is the sum of these steps over the list. `vector` is that sum. The variables of the steps are those
-    /// of the presentation's generators.
+    /// The entry that is the sum of these steps over the list. `vector` is that sum. The variables of the steps are
+    /// those of the presentation's generators.
     pub fn sum<F: Front>(
         alloc: Global,
         p: &Arc<Presentation>,
@@ -63,7 +63,11 @@ impl Entry {
         requires value { Has vector (steps_at (F.vectors list.now) steps) }
         requires entry { IsEntry vector }
         requires over { MonosAreOver (length (arc_value p.now).names) steps }
-        ensures { IfOk result (λ e. arc_value e ≡ record { source = arc_value p.now; vector = vector; recipe = Sum steps }) }
+        ensures { IfOk result (λ e. arc_value e ≡ record {
+          source = arc_value p.now;
+          vector = vector;
+          recipe = Sum steps;
+        }) }
     {
         // The proof needs that the list's entries lie in the module, and the call says so.
         let _ = list.front();
@@ -81,7 +85,11 @@ impl Entry {
         requires member { IsMember (arc_value p.now) (sum_of vector) }
         requires over { VectorIsOver (length (arc_value p.now).names) vector }
         requires recipe { RecipeIsOver (length (arc_value p.now).names) recipe }
-        ensures { IfOk result (λ e. arc_value e ≡ record { source = arc_value p.now; vector = vector; recipe = recipe }) }
+        ensures { IfOk result (λ e. arc_value e ≡ record {
+          source = arc_value p.now;
+          vector = vector;
+          recipe = recipe;
+        }) }
     {
         let entry = Entry {
             source: Arc::try_clone(p)?,

@@ -10,8 +10,8 @@ use crate::{Entry, Sealed};
 use module_vec::VecList;
 use std::sync::Arc;
 
-/// The items of a log: its entries in order, and the seal as one further item, if there is one. As a list of vectors it is
-/// that of the entries' vectors.
+/// The items of a log: its entries in order, and the seal as one further item, if there is one. As a list of vectors it
+/// is that of the entries' vectors.
 pub trait Front: VecList {
     /// The entries among the items.
     ghost entries: { Self → List BasisEntry };

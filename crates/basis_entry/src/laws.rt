@@ -23,8 +23,8 @@ pub fn entries_are_shared_by_threads() {
     is_shared::<Sealed>();
 }
 
-/// The vectors of entries have positive lead coefficients, and those of entries of one presentation are sums of multiples
-/// of its listed generators.
+/// The vectors of entries have positive lead coefficients, and those of entries of one presentation are sums of
+/// multiples of its listed generators.
 #[tactic(auto, using(crate::proofs::Vectors::are_entries, crate::proofs::Members::entries_listed))]
 pub fn entries_lie_in_their_module()
     ensures positive { (es : List BasisEntry) → AllByRecursion IsBasisEntry es → AreEntries (vectors_of es) }
@@ -33,13 +33,14 @@ pub fn entries_lie_in_their_module()
         InModule gens (coefficient_at (vector_at (vectors_of es) j)) }
 {}
 
-/// The generator entries of a presentation have few terms together. Any two lists of them have as many entries, and as many
-/// terms.
+/// The generator entries of a presentation have few terms together. Any two lists of them have as many entries, and as
+/// many terms.
 pub fn generator_entries_are_short()
     ensures few { (p : Presented) (es : List BasisEntry) → IsPresented p → AreBase p es →
         sum_by (λ (e : BasisEntry). length e.vector) es ≤ BASE_TERMS }
     ensures alike { (p : Presented) (es fs : List BasisEntry) → AreBase p es → AreBase p fs →
-        (length es ≡ length fs) × (sum_by (λ (e : BasisEntry). length e.vector) es ≡ sum_by (λ (e : BasisEntry). length e.vector) fs) }
+        (length es ≡ length fs) × (sum_by (λ (e : BasisEntry). length e.vector) es
+        ≡ sum_by (λ (e : BasisEntry). length e.vector) fs) }
 {}
 
 fn is_shared<T: Send + Sync>() {}

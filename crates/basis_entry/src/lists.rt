@@ -1,6 +1,7 @@
 //! `EntryList`: a list of entries in memory.
 
-ghost use Rattle.std.specs.Prelude.{◌≡◌, ◌+◌, ◌<◌, ◌^◌, ◌++◌, ◌∷◌, [], List, Some, None, length, map, slice_get, IfOk, OnErr};
+ghost use Rattle.std.specs.Prelude.{◌≡◌, ◌+◌, ◌<◌, ◌^◌, ◌++◌, ◌∷◌, [], List, Some, None, length, map, slice_get, IfOk};
+ghost use Rattle.std.specs.Prelude.{OnErr};
 ghost use Rattle.std.proofs.Common.{refl};
 ghost use Rattle.std.specs.Arc.{arc_value};
 ghost use Rattle.basis_entry.specs.Entries.{BasisEntry, vectors_of};
@@ -27,7 +28,8 @@ impl Model for EntryList {
 
     ghost view = { λ l. map arc_value l.entries.items };
 
-    ghost invariant = { λ l. AllByRecursion IsBasisEntry (map arc_value l.entries.items) × (length (map arc_value l.entries.items) < 2 ^ 32) };
+    ghost invariant = { λ l. AllByRecursion IsBasisEntry (map arc_value l.entries.items)
+        × (length (map arc_value l.entries.items) < 2 ^ 32) };
 }
 
 impl EntryList {

@@ -25,11 +25,13 @@ from_zero : (v : List Term) → v ≡ [] → coefficient_at v ≡ zero_vector
 from_zero v e i x = coefficient_at (e i) x
 
 -- a recipe whose steps fail
-pub recipe_fails : (gens entries : List (List Term)) (steps : List Step) (v none : List Term) (e : LineFault) → none ≡ [] → Passes Add entries (coefficient_at none) steps (Err e)
+pub recipe_fails : (gens entries : List (List Term)) (steps : List Step) (v none : List Term) (e : LineFault) → none ≡ []
+    → Passes Add entries (coefficient_at none) steps (Err e)
     → Outcome {X = Unit {0}} (λ _. IsMadeOf gens entries (made.Sum steps) (coefficient_at v)) (EntryFails gens entries (made.Sum steps) v) (Err e)
 recipe_fails gens entries steps v none e is h = by e (subst (λ f. Passes Add entries f steps (Err e)) (from_zero none is) h)
   where
-    by : (e : LineFault) → Passes Add entries zero_vector steps (Err e) → Outcome {X = Unit {0}} (λ _. IsMadeOf gens entries (made.Sum steps) (coefficient_at v)) (EntryFails gens entries (made.Sum steps) v) (Err e)
+    by : (e : LineFault) → Passes Add entries zero_vector steps (Err e)
+        → Outcome {X = Unit {0}} (λ _. IsMadeOf gens entries (made.Sum steps) (coefficient_at v)) (EntryFails gens entries (made.Sum steps) v) (Err e)
     by (faults.Fails Text) h = never_text Add entries zero_vector steps h
     by (faults.Fails NoEntry) h = h
     by (faults.Fails (NotEqual at)) h = absurd (never_unequal Add entries zero_vector steps at h)
@@ -38,18 +40,21 @@ recipe_fails gens entries steps v none e is h = by e (subst (λ f. Passes Add en
     by (faults.Fails Long) h = h
     by faults.NoMemory h = tt
 
-pub leads_from_zero : (entries : List (List Term)) (steps : List Step) (none : List Term) (f : Coefficients) → none ≡ [] → StepsLead Add entries (coefficient_at none) steps f → StepsLead Add entries zero_vector steps f
+pub leads_from_zero : (entries : List (List Term)) (steps : List Step) (none : List Term) (f : Coefficients) → none ≡ []
+    → StepsLead Add entries (coefficient_at none) steps f → StepsLead Add entries zero_vector steps f
 leads_from_zero entries steps none f is h = subst (λ g. StepsLead Add entries g steps f) (from_zero none is) h
 
 -- a proof whose steps fail
 is_fox : (w : List Letter) (v : List Term) → IsWritten (fox w) v → coefficient_at v ≡ fox_at w
 is_fox w v h i x = h.same x i
 
-pub proof_fails : (entries : List (List Term)) (w : List Letter) (v : List Term) (steps : List Step) (e : LineFault) → IsWritten (fox w) v → Passes Take entries (coefficient_at v) steps (Err e)
+pub proof_fails : (entries : List (List Term)) (w : List Letter) (v : List Term) (steps : List Step) (e : LineFault) → IsWritten (fox w) v
+    → Passes Take entries (coefficient_at v) steps (Err e)
     → Outcome {X = Unit {0}} (λ _. StepsLead Take entries (fox_at w) steps zero_vector) (ProofFails entries w steps) (Err e)
 proof_fails entries w v steps e written h = by e (subst (λ f. Passes Take entries f steps (Err e)) (is_fox w v written) h)
   where
-    by : (e : LineFault) → Passes Take entries (fox_at w) steps (Err e) → Outcome {X = Unit {0}} (λ _. StepsLead Take entries (fox_at w) steps zero_vector) (ProofFails entries w steps) (Err e)
+    by : (e : LineFault) → Passes Take entries (fox_at w) steps (Err e)
+        → Outcome {X = Unit {0}} (λ _. StepsLead Take entries (fox_at w) steps zero_vector) (ProofFails entries w steps) (Err e)
     by (faults.Fails Text) h = never_text Take entries (fox_at w) steps h
     by (faults.Fails NoEntry) h = h
     by (faults.Fails (NotEqual at)) h = never_unequal Take entries (fox_at w) steps at h
@@ -58,11 +63,13 @@ proof_fails entries w v steps e written h = by e (subst (λ f. Passes Take entri
     by (faults.Fails Long) h = h
     by faults.NoMemory h = tt
 
-pub leads_from_fox : (entries : List (List Term)) (w : List Letter) (v : List Term) (steps : List Step) (f : Coefficients) → IsWritten (fox w) v → StepsLead Take entries (coefficient_at v) steps f → StepsLead Take entries (fox_at w) steps f
+pub leads_from_fox : (entries : List (List Term)) (w : List Letter) (v : List Term) (steps : List Step) (f : Coefficients) → IsWritten (fox w) v
+    → StepsLead Take entries (coefficient_at v) steps f → StepsLead Take entries (fox_at w) steps f
 leads_from_fox entries w v steps f written h = subst (λ g. StepsLead Take entries g steps f) (is_fox w v written) h
 
 -- nothing is left
-pub leads_to_zero : (way : Way) (entries : List (List Term)) (f : Coefficients) (steps : List Step) (v : List Term) → v ≡ [] → StepsLead way entries f steps (coefficient_at v) → StepsLead way entries f steps zero_vector
+pub leads_to_zero : (way : Way) (entries : List (List Term)) (f : Coefficients) (steps : List Step) (v : List Term) → v ≡ []
+    → StepsLead way entries f steps (coefficient_at v) → StepsLead way entries f steps zero_vector
 leads_to_zero way entries f steps v is h = subst (StepsLead way entries f steps) (from_zero v is) h
 
 -- ---- lines
@@ -85,6 +92,7 @@ line_fails gens s l (NotZero at) follows h = (follows, h)
 line_fails gens s l Wide follows h = (follows, h)
 line_fails gens s l Long follows h = (follows, h)
 
-pub line_ends : (gens : List (List Term)) (s : State) (l : Line) (A : Unit {0} → Type 0) (e : LineFault) → MayFollow gens s l → Outcome {X = Unit {0}} A (Disagrees gens s l) (Err e) → TakesLine gens s l (Err e)
+pub line_ends : (gens : List (List Term)) (s : State) (l : Line) (A : Unit {0} → Type 0) (e : LineFault) → MayFollow gens s l
+    → Outcome {X = Unit {0}} A (Disagrees gens s l) (Err e) → TakesLine gens s l (Err e)
 line_ends gens s l A (faults.Fails k) follows h = line_fails gens s l k follows h
 line_ends gens s l A faults.NoMemory follows h = tt

@@ -13,14 +13,16 @@ use Rattle.session_text.specs.declared.question.Question.TheVariants.{Trivial, E
 use Rattle.session_text.specs.Questions.{HasImages, first_long, first_long_image}
 use Rattle.cert_checker.proofs.Lists.{all_at}
 
-none_passes : (images rs : List (List Letter)) → AllByRecursion (λ (r : List Letter). length (word_image images r) ≤ COMPOSED) rs → position (λ r. nat_lt COMPOSED (length (word_image images r))) rs ≡ None
+none_passes : (images rs : List (List Letter)) → AllByRecursion (λ (r : List Letter). length (word_image images r) ≤ COMPOSED) rs
+    → position (λ r. nat_lt COMPOSED (length (word_image images r))) rs ≡ None
 none_passes images rs h = by (position (λ r. nat_lt COMPOSED (length (word_image images r))) rs) refl
   where
     by : (o : Option ℕ) → position (λ r. nat_lt COMPOSED (length (word_image images r))) rs ≡ o → o ≡ None
     by None e = refl
     by (Some j) e =
         let found = position-Some (λ r. nat_lt COMPOSED (length (word_image images r))) rs j [] e in
-        let fits : length (word_image images (get_or rs j [])) ≤ COMPOSED = all_at (λ (r : List Letter). length (word_image images r) ≤ COMPOSED) rs j [] h found.0 in
+        let fits : length (word_image images (get_or rs j [])) ≤ COMPOSED =
+        all_at (λ (r : List Letter). length (word_image images r) ≤ COMPOSED) rs j [] h found.0 in
         absurd (too_long (length (word_image images (get_or rs j []))) fits found.1)
       where
         too_long : (n : ℕ) → n ≤ COMPOSED → nat_lt COMPOSED n ≡ true → ⊥

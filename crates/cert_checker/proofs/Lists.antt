@@ -15,7 +15,8 @@ module _ {A : Type 0} (P : A → Type 0) where
   all_read xs i x h lt e = subst P (sym e) (all_at xs i x h lt)
 
   pub all_more : (xs : List A) (i : ℕ) (x : A) → i < length xs → x ≡ get_or xs i x → AllByRecursion P (take i xs) → P x → AllByRecursion P (take (i + 1) xs)
-  all_more xs i x lt e h own = subst (AllByRecursion P) (sym (take_more xs i x lt ∙ ap (λ y. take i xs ++ y ∷ []) (sym e))) (all_join P (take i xs) (x ∷ []) h (own, tt))
+  all_more xs i x lt e h own = subst (AllByRecursion P) (sym (take_more xs i x lt ∙ ap (λ y. take i xs ++ y ∷ []) (sym e)))
+      (all_join P (take i xs) (x ∷ []) h (own, tt))
 
 -- an element by any default
 pub same_element : {A : Type 0} (xs : List A) (i : ℕ) (d e : A) → i < length xs → get_or xs i d ≡ get_or xs i e

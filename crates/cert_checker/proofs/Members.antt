@@ -57,7 +57,8 @@ module _ (p : Presented) where
       })
 
   -- sums of multiples of members do
-  pub steps_lie : (entries : List (List Term)) (n : ℕ) (steps : List Step) → AllByRecursion (Lies p) entries → AreThere entries steps → AreStepsOf n steps → IsMember p (sum_of_steps entries steps)
+  pub steps_lie : (entries : List (List Term)) (n : ℕ) (steps : List Step) → AllByRecursion (Lies p) entries → AreThere entries steps → AreStepsOf n steps
+      → IsMember p (sum_of_steps entries steps)
   steps_lie entries n [] all there are = member_nothing p
   steps_lie entries n (s ∷ ss) all there are =
       member_sum p (multiple s.q s.t (vector_at entries s.by)) (sum_of_steps entries ss)
@@ -66,23 +67,29 @@ module _ (p : Presented) where
 
   signed_lies : (negated : Bool) (g v : List Term) → Lies p g → ((x : Place) → coefficient_at v x ≡ signed negated g x) → Lies p v
   signed_lies false g v h e = member_same p (sum_of v) (sum_of g) e h
-  signed_lies true g v h e = member_same p (sum_of v) (scale (negsuc 0) (sum_of g)) (λ x. e x ∙ sym (coefficient-scale same_place (negsuc 0) (sum_of g) x ∙ minus (coefficient_at g x))) (member_scale p (negsuc 0) (sum_of g) h)
+  signed_lies true g v h e = member_same p (sum_of v) (scale (negsuc 0) (sum_of g)) (λ x. e x
+      ∙ sym (coefficient-scale same_place (negsuc 0) (sum_of g) x ∙ minus (coefficient_at g x))) (member_scale p (negsuc 0) (sum_of g) h)
     where
       minus : (z : _) → negsuc 0 *ℤ z ≡ neg_ℤ z
       minus z = omega (arith, ints)
 
   -- an entry that is what it is made to be
-  pub entry_lies : (gens entries : List (List Term)) (made : Made) (n : ℕ) (v : List Term) → AreGenerators p gens → AllByRecursion (Lies p) entries → IsMadeOver n made → IsInTurn gens entries made
+  pub entry_lies : (gens entries : List (List Term)) (made : Made) (n : ℕ) (v : List Term) → AreGenerators p gens → AllByRecursion (Lies p) entries
+      → IsMadeOver n made → IsInTurn gens entries made
       → IsMadeOf gens entries made (coefficient_at v) → Lies p v
-  entry_lies gens entries (Gen negated) n v are all over turn is = signed_lies negated (vector_at gens (length entries)) v (generator_lies gens (length entries) are turn) is
+  entry_lies gens entries (Gen negated) n v are all over turn is =
+      signed_lies negated (vector_at gens (length entries)) v (generator_lies gens (length entries) are turn) is
   entry_lies gens entries (Sum steps) n v are all over turn is =
-      member_same p (sum_of v) (sum_of_steps entries steps) (λ x. sums x (adding_adds_up entries zero_vector (coefficient_at v) steps is.1 x)) (steps_lie entries n steps all is.0 over)
+      member_same p (sum_of v) (sum_of_steps entries steps) (λ x. sums x (adding_adds_up entries zero_vector (coefficient_at v) steps is.1 x))
+      (steps_lie entries n steps all is.0 over)
     where
       sums : (x : Place) → coefficient_at v x ≡ zero_vector x +ℤ steps_at entries steps x → coefficient_at v x ≡ steps_at entries steps x
       sums x e = omega (arith, ints, e)
 
   -- a word with a proof
-  pub proven_trivial : (entries : List (List Term)) (n : ℕ) (w : List Letter) (steps : List Step) → IsPresented p → IsWordOver p w → AllByRecursion (Lies p) entries → AreStepsOf n steps
+  pub proven_trivial : (entries : List (List Term)) (n : ℕ) (w : List Letter) (steps : List Step) → IsPresented p → IsWordOver p w
+      → AllByRecursion (Lies p) entries → AreStepsOf n steps
       → StepsLead Take entries (fox_at w) steps zero_vector → Trivial p w
   proven_trivial entries n w steps ok over all are leads =
-      member_is_trivial p w ok over (member_same p (fox w) (sum_of_steps entries steps) (proven_vectors_are_sums entries (fox_at w) steps leads.1) (steps_lie entries n steps all leads.0 are))
+      member_is_trivial p w ok over (member_same p (fox w) (sum_of_steps entries steps) (proven_vectors_are_sums entries (fox_at w) steps leads.1)
+      (steps_lie entries n steps all leads.0 are))

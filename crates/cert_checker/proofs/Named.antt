@@ -1,5 +1,6 @@
 -- The places that faults name are over the presentation's generators.
-use Rattle.std.proofs.Common.{◌≡◌, ◌≢◌, ℕ, zero, suc, ◌+◌, ◌*◌, ◌<◌, ◌≤◌, ℤ, pos, negsuc, neg_ℤ, ◌+ℤ◌, Bool, true, false, List, [], ◌∷◌, length, Contains, refl, sym, ap, ◌∙◌, subst, arith, ◌⊎◌, inl, inr}
+use Rattle.std.proofs.Common.{◌≡◌, ◌≢◌, ℕ, zero, suc, ◌+◌, ◌*◌, ◌<◌, ◌≤◌, ℤ, pos, negsuc, neg_ℤ, ◌+ℤ◌, Bool, true, false, List, [], ◌∷◌, length, Contains, refl}
+use Rattle.std.proofs.Common.{sym, ap, ◌∙◌, subst, arith, ◌⊎◌, inl, inr}
 use Rattle.std.specs.Prelude.{Result, Ok, Err, IfErr}
 use Rattle.std.specs.List.{AllByRecursion}
 use Rattle.std.proofs.lemmas.List.Elements.{All-from_recursion, All-contains}
@@ -71,7 +72,8 @@ multiple_over : (n : ℕ) (q : ℤ) (t : List ℕ) (v : List Term) → MonoIsOve
 multiple_over n q t [] mono h = tt
 multiple_over n q t (u ∷ v) mono h = (record { mono = product_over n t u.at.m mono h.0.mono; component = h.0.component }, multiple_over n q t v mono h.1)
 
-steps_over : (n : ℕ) (entries : List (List Term)) (steps : List Step) → AllByRecursion (VectorIsOver n) entries → AreThere entries steps → AreStepsOf n steps → AllByRecursion (λ s. PlaceIsOver n s.1) (sum_of_steps entries steps)
+steps_over : (n : ℕ) (entries : List (List Term)) (steps : List Step) → AllByRecursion (VectorIsOver n) entries → AreThere entries steps → AreStepsOf n steps
+    → AllByRecursion (λ s. PlaceIsOver n s.1) (sum_of_steps entries steps)
 steps_over n entries [] all there are = tt
 steps_over n entries (s ∷ ss) all there are =
     all_join (λ (t : ℤ × Place). PlaceIsOver n t.1) (multiple s.q s.t (vector_at entries s.by)) (sum_of_steps entries ss)
@@ -85,18 +87,26 @@ generator_over p _ ok (IsGenerator.relator_vector r has) = fox_over (length p.na
   where
     relator_over : (p : Presented) (r : List Letter) → IsPresented p → Contains p.relators r → IsOver (length p.names) r
     relator_over p r ok has = (All-contains (IsWrittenWord (length p.names)) p.relators r (All-from_recursion _ p.relators ok.relators) has).0
-generator_over p _ ok (IsGenerator.relator_binomial r c has lt) =
-    (record { mono = image_over (length p.names) r (All-contains (IsWrittenWord (length p.names)) p.relators r (All-from_recursion _ p.relators ok.relators) has).0; component = lt }, (record { mono = one_over (length p.names); component = lt }, tt))
+generator_over p _ ok (IsGenerator.relator_binomial r c has lt) = (
+  record {
+    mono = image_over (length p.names) r (All-contains (IsWrittenWord (length p.names)) p.relators r (All-from_recursion _ p.relators ok.relators)
+        has).0;
+    component = lt;
+  },
+  (record { mono = one_over (length p.names); component = lt }, tt),
+)
 generator_over p _ ok (IsGenerator.unit_binomial g c here lt) = (
   record {
-    mono = product_over (length p.names) _ _ (variable_over (length p.names) (2 * g) (omega (arith, here))) (variable_over (length p.names) (2 * g + 1) (omega (arith, here)));
+    mono = product_over (length p.names) _ _ (variable_over (length p.names) (2 * g) (omega (arith, here)))
+        (variable_over (length p.names) (2 * g + 1) (omega (arith, here)));
     component = lt;
   },
   (record { mono = one_over (length p.names); component = lt }, tt),
 )
 generator_over p _ ok (IsGenerator.modulus_vector c some lt) = (record { mono = one_over (length p.names); component = lt }, tt)
 
-listed_over : (p : Presented) (gens : List (List Term)) (i : ℕ) (x : Place) → IsPresented p → AreGenerators p gens → i < length gens → coefficient_at (vector_at gens i) x ≢ pos 0 → PlaceIsOver (length p.names) x
+listed_over : (p : Presented) (gens : List (List Term)) (i : ℕ) (x : Place) → IsPresented p → AreGenerators p gens → i < length gens
+    → coefficient_at (vector_at gens i) x ≢ pos 0 → PlaceIsOver (length p.names) x
 listed_over p gens i x ok are lt some =
     let from : Origin (IsGenerator p) (vector_at gens i) = origin (IsGenerator p) (candidates p) gens are (candidates_are p) i lt in
     stands (PlaceIsOver (length p.names)) from.from x (generator_over p from.from ok from.has) (λ z. some (from.is.same x ∙ z))
@@ -116,16 +126,20 @@ module _ (p : Presented) (ok : IsPresented p) (gens : List (List Term)) (are : A
   abbrev n : ℕ
   n = length p.names
 
-  made_over : (s : State) (made : Made) (f : Place → ℤ) (x : Place) → AllByRecursion (VectorIsOver n) s.entries → IsInTurn gens s.entries made → IsMadeOver n made
+  made_over : (s : State) (made : Made) (f : Place → ℤ) (x : Place) → AllByRecursion (VectorIsOver n) s.entries → IsInTurn gens s.entries made
+      → IsMadeOver n made
       → IsMadeOf gens s.entries made f → f x ≢ pos 0 → PlaceIsOver n x
-  made_over s (Gen negated) f x all turn valid is some = listed_over p gens (length s.entries) x ok are turn (unsigned negated (vector_at gens (length s.entries)) x (λ e. some (is x ∙ e)))
+  made_over s (Gen negated) f x all turn valid is some = listed_over p gens (length s.entries) x ok are turn
+      (unsigned negated (vector_at gens (length s.entries)) x (λ e. some (is x ∙ e)))
   made_over s (Sum steps) f x all turn valid is some =
-      stands (PlaceIsOver n) (sum_of_steps s.entries steps) x (steps_over n s.entries steps all is.0 valid) (λ z. some (sums (adding_adds_up s.entries zero_vector f steps is.1 x) z))
+      stands (PlaceIsOver n) (sum_of_steps s.entries steps) x (steps_over n s.entries steps all is.0 valid)
+      (λ z. some (sums (adding_adds_up s.entries zero_vector f steps is.1 x) z))
     where
       sums : f x ≡ zero_vector x +ℤ steps_at s.entries steps x → steps_at s.entries steps x ≡ pos 0 → f x ≡ pos 0
       sums e z = omega (arith, ints, e, z)
 
-  entry_over : (s : State) (made : Made) (v : List Term) (k : CertKind) → AllByRecursion (VectorIsOver n) s.entries → IsInTurn gens s.entries made → IsMadeOver n made → VectorIsOver n v
+  entry_over : (s : State) (made : Made) (v : List Term) (k : CertKind) → AllByRecursion (VectorIsOver n) s.entries → IsInTurn gens s.entries made
+      → IsMadeOver n made → VectorIsOver n v
       → EntryFails gens s.entries made v k → KindIsOver n k
   entry_over s made v Text all turn valid over h = tt
   entry_over s made v NoEntry all turn valid over h = tt
@@ -138,11 +152,13 @@ module _ (p : Presented) (ok : IsPresented p) (gens : List (List Term)) (are : A
   entry_over s made v Wide all turn valid over h = tt
   entry_over s made v Long all turn valid over h = tt
 
-  proof_over : (entries : List (List Term)) (w : List Letter) (steps : List Step) (k : CertKind) → AllByRecursion (VectorIsOver n) entries → IsOver n w → AreStepsOf n steps → ProofFails entries w steps k → KindIsOver n k
+  proof_over : (entries : List (List Term)) (w : List Letter) (steps : List Step) (k : CertKind) → AllByRecursion (VectorIsOver n) entries → IsOver n w
+      → AreStepsOf n steps → ProofFails entries w steps k → KindIsOver n k
   proof_over entries w steps Text all over valid h = tt
   proof_over entries w steps NoEntry all over valid h = tt
   proof_over entries w steps (NotEqual at) all over valid h = absurd h
-  proof_over entries w steps (NotZero at) all over valid h = by (apart (fox_at w at) (steps_at entries steps at) (λ e. h.2.here (left (taking_takes_away entries (fox_at w) h.0 steps h.1.1 at) e)))
+  proof_over entries w steps (NotZero at) all over valid h =
+      by (apart (fox_at w at) (steps_at entries steps at) (λ e. h.2.here (left (taking_takes_away entries (fox_at w) h.0 steps h.1.1 at) e)))
     where
       left : fox_at w at ≡ steps_at entries steps at +ℤ h.0 at → fox_at w at ≡ steps_at entries steps at → h.0 at ≡ pos 0
       left e f = omega (arith, ints, e, f)
@@ -155,7 +171,8 @@ module _ (p : Presented) (ok : IsPresented p) (gens : List (List Term)) (are : A
 
   -- ---- lines
 
-  disagrees_over : (s : State) (l : Line) (k : CertKind) → AllByRecursion (VectorIsOver n) s.entries → AreWords p s.subjects → IsLineOf p l → MayFollow gens s l → Disagrees gens s l k → KindIsOver n k
+  disagrees_over : (s : State) (l : Line) (k : CertKind) → AllByRecursion (VectorIsOver n) s.entries → AreWords p s.subjects → IsLineOf p l → MayFollow gens s l
+      → Disagrees gens s l k → KindIsOver n k
   disagrees_over s (lines.Entry number made v) k all words valid follows h = entry_over s made v k all follows.3 valid.1.0 valid.1.1.over h
   disagrees_over s lines.Seal k all words valid follows h = absurd h
   disagrees_over s (lines.Live session number front question verdict) k all words valid follows h = absurd h
@@ -165,7 +182,8 @@ module _ (p : Presented) (ok : IsPresented p) (gens : List (List Term)) (are : A
   disagrees_over s (lines.Close session number question verdict) k all words valid follows h = absurd h
   disagrees_over s lines.Done k all words valid follows h = absurd h
 
-  line_over : (s : State) (l : Line) (k : CertKind) → AllByRecursion (VectorIsOver n) s.entries → AreWords p s.subjects → IsLineOf p l → LineFails gens s l k → KindIsOver n k
+  line_over : (s : State) (l : Line) (k : CertKind) → AllByRecursion (VectorIsOver n) s.entries → AreWords p s.subjects → IsLineOf p l → LineFails gens s l k
+      → KindIsOver n k
   line_over s l Text all words valid h = tt
   line_over s l NoEntry all words valid h = tt
   line_over s l (NotEqual at) all words valid h = disagrees_over s l (NotEqual at) all words valid h.0 h.1
@@ -176,11 +194,13 @@ module _ (p : Presented) (ok : IsPresented p) (gens : List (List Term)) (are : A
   text_over : (k : CertKind) → k ≡ Text → KindIsOver n k
   text_over k e = subst (KindIsOver n) (sym e) tt
 
-  body_over : (s : State) (bytes : List ℕ) (k : CertKind) → AllByRecursion (VectorIsOver n) s.entries → AreWords p s.subjects → BodyFails p gens s bytes k → KindIsOver n k
+  body_over : (s : State) (bytes : List ℕ) (k : CertKind) → AllByRecursion (VectorIsOver n) s.entries → AreWords p s.subjects → BodyFails p gens s bytes k
+      → KindIsOver n k
   body_over s bytes k all words (inl h) = line_over s h.line k all words h.valid h.fails
   body_over s bytes k all words (inr h) = text_over k h.1
 
-  bytes_over : (f : Phase) (s : State) (bytes : List ℕ) (k : CertKind) → AllByRecursion (VectorIsOver n) s.entries → AreWords p s.subjects → FailsIn f p gens s bytes k → KindIsOver n k
+  bytes_over : (f : Phase) (s : State) (bytes : List ℕ) (k : CertKind) → AllByRecursion (VectorIsOver n) s.entries → AreWords p s.subjects
+      → FailsIn f p gens s bytes k → KindIsOver n k
   bytes_over Title s bytes k all words h = text_over k h.1
   bytes_over Presentation s bytes k all words h = text_over k h.1
   bytes_over Entries s bytes k all words h = body_over s bytes k all words h
@@ -199,10 +219,12 @@ module _ (p : Presented) (ok : IsPresented p) (gens : List (List Term)) (are : A
   next_over s (lines.Close session number question verdict) valid all = all
   next_over s lines.Done valid all = all
 
-  kept : (s taken : State) (bytes : List ℕ) → AllByRecursion (VectorIsOver n) s.entries → BodyHolds p gens s bytes taken → AllByRecursion (VectorIsOver n) taken.entries
+  kept : (s taken : State) (bytes : List ℕ) → AllByRecursion (VectorIsOver n) s.entries → BodyHolds p gens s bytes taken
+      → AllByRecursion (VectorIsOver n) taken.entries
   kept s taken bytes all b = subst (λ (t : State). AllByRecursion (VectorIsOver n) t.entries) (sym b.holds.is) (next_over s b.line b.valid all)
 
-  kept_in : (f : Phase) (s taken : State) (bytes : List ℕ) → AllByRecursion (VectorIsOver n) s.entries → HoldsIn f p gens s bytes taken → AllByRecursion (VectorIsOver n) taken.entries
+  kept_in : (f : Phase) (s taken : State) (bytes : List ℕ) → AllByRecursion (VectorIsOver n) s.entries → HoldsIn f p gens s bytes taken
+      → AllByRecursion (VectorIsOver n) taken.entries
   kept_in Title s taken bytes all h = subst (λ (t : State). AllByRecursion (VectorIsOver n) t.entries) (sym h.1) all
   kept_in Presentation s taken bytes all h = subst (λ (t : State). AllByRecursion (VectorIsOver n) t.entries) (sym h.1) all
   kept_in Entries s taken bytes all h = kept s taken bytes all h
@@ -210,7 +232,8 @@ module _ (p : Presented) (ok : IsPresented p) (gens : List (List Term)) (are : A
   kept_in Closing s taken bytes all h = kept s taken bytes all h
   kept_in Finished s taken bytes all h = kept s taken bytes all h
 
-  told_over : (m : ℕ) (s : State) (text : List ℕ) (r : Result Checked CertFault) → Tells p gens m s text r → AllByRecursion (VectorIsOver n) s.entries → AreWords p s.subjects → IfErr r (FaultIsOver n)
+  told_over : (m : ℕ) (s : State) (text : List ℕ) (r : Result Checked CertFault) → Tells p gens m s text r → AllByRecursion (VectorIsOver n) s.entries
+      → AreWords p s.subjects → IfErr r (FaultIsOver n)
   told_over m s text _ (Tells.complete _ _ _ none whole) all words = tt
   told_over m s text _ (Tells.missing _ _ _ none not) all words = tt
   told_over m s text _ (Tells.fails _ _ _ line others k cuts f) all words = bytes_over s.phase s line k all words f

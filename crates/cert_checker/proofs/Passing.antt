@@ -54,7 +54,8 @@ module _ (way : Way) (b : List (List Term)) (f : Coefficients) (s : Step) (ss : 
 
     -- the step that fails
     pub step_fails : (e : SumFault) (l : LineFault) → Combines way f (multiple_at s.q s.t g) (Err e) → OfSum e l → Passes way b f (s ∷ ss) (Err l)
-    step_fails sums.Wide l h is = subst (λ (x : LineFault). Passes way b f (s ∷ ss) (Err x)) (sym is) (inl (there, (h.0, subst (λ m. IsWideAt way f m h.0) same h.1)))
+    step_fails sums.Wide l h is = subst (λ (x : LineFault). Passes way b f (s ∷ ss) (Err x)) (sym is)
+        (inl (there, (h.0, subst (λ m. IsWideAt way f m h.0) same h.1)))
     step_fails sums.Long l h is = subst (λ (x : LineFault). Passes way b f (s ∷ ss) (Err x)) (sym is) (inl (
       there,
       subst (λ m. Nowhere (IsWideAt way f m)) same h.0,

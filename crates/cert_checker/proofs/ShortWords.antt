@@ -21,14 +21,20 @@ pub all_over : (n : ℕ) (ws : List (List Letter)) → AllByRecursion (IsWritten
 all_over n [] h = tt
 all_over n (w ∷ ws) h = (h.0.0, all_over n ws h.1)
 
-image_words : (p : Presented) (images rs : List (List Letter)) → AllByRecursion (IsOver (length p.names)) images → AllByRecursion (λ (r : List Letter). length (word_image images r) ≤ COMPOSED) rs → AreWords p (map (word_image images) rs)
+image_words : (p : Presented) (images rs : List (List Letter)) → AllByRecursion (IsOver (length p.names)) images
+    → AllByRecursion (λ (r : List Letter). length (word_image images r) ≤ COMPOSED) rs → AreWords p (map (word_image images) rs)
 image_words p images [] over h = tt
 image_words p images (r ∷ rs) over h = ((IsOver-word_image (length p.names) images r over, h.0), image_words p images rs over h.1)
 
 subject_words : (p : Presented) (q : Question) → IsWritable p q → HasImages q → AreWords p (subjects q)
 subject_words p (Trivial w) h images = ((h.0.1.0, omega (arith, h.0.1.1)), tt)
-subject_words p (Equal u v) h images =
-    ((IsOver-append (length p.names) u (inverse v) h.0.1.0.0 (IsOver-inverse (length p.names) v h.0.1.1.0), omega (arith, length-append u (inverse v), length_inverse v, h.0.1.0.1, h.0.1.1.1)), tt)
+subject_words p (Equal u v) h images = (
+  (
+    IsOver-append (length p.names) u (inverse v) h.0.1.0.0 (IsOver-inverse (length p.names) v h.0.1.1.0),
+    omega (arith, length-append u (inverse v), length_inverse v, h.0.1.0.1, h.0.1.1.1),
+  ),
+  tt,
+)
 subject_words p (Normal w) h images = ((h.0.1.0, omega (arith, h.0.1.1)), tt)
 subject_words p (Hom source images) h short = image_words p images source.relators (all_over (length p.names) images h.0.1) short
 

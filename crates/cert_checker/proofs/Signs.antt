@@ -15,6 +15,7 @@ minus_one z = omega (arith, ints)
 pub negative : (old new : List Term) → sum_of new ≡ scale (negsuc 0) (sum_of old) → (x : Place) → coefficient_at new x ≡ neg_ℤ (coefficient_at old x)
 negative old new e x = ap (λ v. coefficient same_place v x) e ∙ coefficient-scale same_place (negsuc 0) (sum_of old) x ∙ minus_one (coefficient_at old x)
 
-pub turned_sign : (negated : Bool) (v old new : List Term) → negated ≡ true → old ≡ v → sum_of new ≡ scale (negsuc 0) (sum_of old) → (x : Place) → coefficient_at new x ≡ signed negated v x
+pub turned_sign : (negated : Bool) (v old new : List Term) → negated ≡ true → old ≡ v → sum_of new ≡ scale (negsuc 0) (sum_of old) → (x : Place)
+    → coefficient_at new x ≡ signed negated v x
 turned_sign true v old new t is e x = negative old new e x ∙ ap (λ w. neg_ℤ (coefficient_at w x)) is
 turned_sign false v old new t is e x = absurd cc

@@ -46,7 +46,8 @@ settled_holds p s h = subst (AllByRecursion (Trivial p)) (sym (drop_all s.shown 
 
 -- ---- answers
 
-image_trivial : (p : Presented) (images rs : List (List Letter)) → AllByRecursion (Trivial p) (map (word_image images) rs) → AllByRecursion (λ r. Trivial p (word_image images r)) rs
+image_trivial : (p : Presented) (images rs : List (List Letter)) → AllByRecursion (Trivial p) (map (word_image images) rs)
+    → AllByRecursion (λ r. Trivial p (word_image images r)) rs
 image_trivial p images [] h = tt
 image_trivial p images (r ∷ rs) h = (h.0, image_trivial p images rs h.1)
 
@@ -56,7 +57,8 @@ subjects_suffice p (questions.Equal u v) valid h = h.0
 subjects_suffice p (questions.Normal w) valid h = h.0
 subjects_suffice p (questions.Hom source images) valid h =
     kept_relators_suffice source p images valid.0.0.1 (record { one_each = valid.0.0.0; over = all_over (length p.names) images valid.0.1 })
-    (λ r has. All-contains (λ (r : List Letter). Trivial p (word_image images r)) source.relators r (All-from_recursion _ source.relators (image_trivial p images source.relators h)) has)
+    (λ r has. All-contains (λ (r : List Letter). Trivial p (word_image images r)) source.relators r
+    (All-from_recursion _ source.relators (image_trivial p images source.relators h)) has)
 
 verdict_holds : (p : Presented) (q : Question) (v : Verdict) → IsWritable p q → AllByRecursion (Trivial p) (asked q v) → IsTrueVerdict p q v
 verdict_holds p q verdicts.Trivial valid h = subjects_suffice p q valid h
@@ -76,7 +78,8 @@ module _ (p : Presented) (ok : IsPresented p) (gens : List (List Term)) (are : A
     entries : AllByRecursion (Lies p) s'.entries
     due : DueHold p s' → DueHold p s × IsTrueLine p l
 
-  line_sound : (s : State) (l : Line) → AllByRecursion (Lies p) s.entries → AreWords p s.subjects → IsLineOf p l → MayFollow gens s l → Agrees gens s l → Sound s l (next s l)
+  line_sound : (s : State) (l : Line) → AllByRecursion (Lies p) s.entries → AreWords p s.subjects → IsLineOf p l → MayFollow gens s l → Agrees gens s l
+      → Sound s l (next s l)
   line_sound s (lines.Entry number made vector) all words valid follows agrees =
       let own : Lies p vector = entry_lies p gens s.entries made (length p.names) vector are all valid.1.0 follows.3 agrees in record {
         entries = all_join (Lies p) s.entries (vector ∷ []) all (own, tt);
@@ -145,29 +148,42 @@ module _ (p : Presented) (ok : IsPresented p) (gens : List (List Term)) (are : A
         due = held.0;
       }
 
-  told_body : (n : ℕ) (s : State) (text : List ℕ) (r : Result Checked CertFault) (c : Checked) → Tells p gens n s text r → r ≡ Ok c → IsBehindHead s.phase → AllByRecursion (Lies p) s.entries → AreWords p s.subjects → Body s text
-  told_body n s text _ c (Tells.complete _ _ _ none whole) e behind all words = record { ls = []; valid = tt; spelled = whole.nothing; true_lines = tt; due = settled_holds p s whole.settled }
+  told_body : (n : ℕ) (s : State) (text : List ℕ) (r : Result Checked CertFault) (c : Checked) → Tells p gens n s text r → r ≡ Ok c → IsBehindHead s.phase
+      → AllByRecursion (Lies p) s.entries → AreWords p s.subjects → Body s text
+  told_body n s text _ c (Tells.complete _ _ _ none whole) e behind all words = record {
+    ls = [];
+    valid = tt;
+    spelled = whole.nothing;
+    true_lines = tt;
+    due = settled_holds p s whole.settled;
+  }
   told_body n s text _ c (Tells.missing _ _ _ none not) e behind all words = absurd cc
   told_body n s text _ c (Tells.fails _ _ _ line others k cuts f) e behind all words = absurd cc
   told_body n s text r c (Tells.goes_on _ _ taken _ line others _ cuts holds later) e behind all words =
       let b : BodyHolds p gens s line taken = as_body s.phase s taken line behind holds in
       let on : IsBehindHead taken.phase = subst (λ (t : State). IsBehindHead t.phase) (sym b.holds.is) (stays_behind s b.line behind) in
       subst (Body s) (sym (cut_joins 10 text line others cuts))
-      (line_body s taken line others all words b (λ more. told_body (capped (n + 1)) taken others r c later e on more (taken_words p gens s taken line holds words)))
+      (line_body s taken line others all words b (λ more. told_body (capped (n + 1)) taken others r c later e on more
+      (taken_words p gens s taken line holds words)))
 
   -- the second line, and the lines behind it
-  told_second : (n : ℕ) (s : State) (text : List ℕ) (r : Result Checked CertFault) (c : Checked) → Tells p gens n s text r → r ≡ Ok c → s ≡ record start { phase = Presentation }
+  told_second : (n : ℕ) (s : State) (text : List ℕ) (r : Result Checked CertFault) (c : Checked) → Tells p gens n s text r → r ≡ Ok c
+      → s ≡ record start { phase = Presentation }
       → (ls : List Line) × AllByRecursion (IsLineOf p) ls × (text ≡ pres_line p ++ 10 ∷ lines_text p ls) × AllByRecursion (IsTrueLine p) ls
-  told_second n s text _ c (Tells.complete _ _ _ none whole) e is = let wrong : Presentation ≡ Finished = ap (λ (t : State). t.phase) (sym is) ∙ whole.finished in absurd cc
+  told_second n s text _ c (Tells.complete _ _ _ none whole) e is = let wrong : Presentation ≡ Finished =
+      ap (λ (t : State). t.phase) (sym is) ∙ whole.finished in absurd cc
   told_second n s text _ c (Tells.missing _ _ _ none not) e is = absurd cc
   told_second n s text _ c (Tells.fails _ _ _ line others k cuts f) e is = absurd cc
   told_second n s text r c (Tells.goes_on _ _ taken _ line others _ cuts holds later) e is =
       let h : (line ≡ pres_line p) × (taken ≡ record start { phase = Entries }) = subst (λ (t : State). BytesHold p gens t line taken) is holds in
-      let body : Body (record start { phase = Entries }) others = told_body (capped (n + 1)) (record start { phase = Entries }) others r c (subst (λ (t : State). Tells p gens (capped (n + 1)) t others r) h.1 later) e tt tt tt in
+      let body : Body (record start { phase = Entries }) others = told_body (capped (n + 1)) (record start { phase = Entries }) others r c
+      (subst (λ (t : State). Tells p gens (capped (n + 1)) t others r) h.1 later) e tt tt tt in
       (body.ls, body.valid, cut_joins 10 text line others cuts ∙ (λ i. h.0 i ++ 10 ∷ body.spelled i), body.true_lines)
 
-  told_first : (n : ℕ) (s : State) (text : List ℕ) (r : Result Checked CertFault) (c : Checked) → Tells p gens n s text r → r ≡ Ok c → s ≡ start → IsTrueReport p text
-  told_first n s text _ c (Tells.complete _ _ _ none whole) e is = let wrong : Title ≡ Finished = ap (λ (t : State). t.phase) (sym is) ∙ whole.finished in absurd cc
+  told_first : (n : ℕ) (s : State) (text : List ℕ) (r : Result Checked CertFault) (c : Checked) → Tells p gens n s text r → r ≡ Ok c → s ≡ start
+      → IsTrueReport p text
+  told_first n s text _ c (Tells.complete _ _ _ none whole) e is = let wrong : Title ≡ Finished =
+      ap (λ (t : State). t.phase) (sym is) ∙ whole.finished in absurd cc
   told_first n s text _ c (Tells.missing _ _ _ none not) e is = absurd cc
   told_first n s text _ c (Tells.fails _ _ _ line others k cuts f) e is = absurd cc
   told_first n s text r c (Tells.goes_on _ _ taken _ line others _ cuts holds later) e is =

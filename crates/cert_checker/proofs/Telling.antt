@@ -22,7 +22,8 @@ use Rattle.cert_checker.specs.Texts.{BodyHolds, HoldsIn, BytesHold, BytesFail, T
 use Rattle.cert_checker.proofs.ShortWords.{asked_words}
 
 -- the subjects stay words over the presentation
-next_words : (p : Presented) (gens : List (List Term)) (s : State) (l : Line) → IsLineOf p l → MayFollow gens s l → AreWords p s.subjects → AreWords p (next s l).subjects
+next_words : (p : Presented) (gens : List (List Term)) (s : State) (l : Line) → IsLineOf p l → MayFollow gens s l → AreWords p s.subjects
+    → AreWords p (next s l).subjects
 next_words p gens s (lines.Entry number made vector) valid follows h = h
 next_words p gens s lines.Seal valid follows h = h
 next_words p gens s (lines.Live session number front question verdict) valid follows h = asked_words p question verdict valid.1.1.1.question follows.4
@@ -31,10 +32,12 @@ next_words p gens s (lines.End end) valid follows h = h
 next_words p gens s (lines.Close session number question verdict) valid follows h = asked_words p question verdict valid.1.1.question follows.2
 next_words p gens s lines.Done valid follows h = h
 
-body_words : (p : Presented) (gens : List (List Term)) (s taken : State) (bytes : List ℕ) → BodyHolds p gens s bytes taken → AreWords p s.subjects → AreWords p taken.subjects
+body_words : (p : Presented) (gens : List (List Term)) (s taken : State) (bytes : List ℕ) → BodyHolds p gens s bytes taken → AreWords p s.subjects
+    → AreWords p taken.subjects
 body_words p gens s taken bytes b h = subst (λ (t : State). AreWords p t.subjects) (sym b.holds.is) (next_words p gens s b.line b.valid b.holds.follows h)
 
-in_words : (f : Phase) (p : Presented) (gens : List (List Term)) (s taken : State) (bytes : List ℕ) → HoldsIn f p gens s bytes taken → AreWords p s.subjects → AreWords p taken.subjects
+in_words : (f : Phase) (p : Presented) (gens : List (List Term)) (s taken : State) (bytes : List ℕ) → HoldsIn f p gens s bytes taken → AreWords p s.subjects
+    → AreWords p taken.subjects
 in_words Title p gens s taken bytes b h = subst (λ (t : State). AreWords p t.subjects) (sym b.1) h
 in_words Presentation p gens s taken bytes b h = subst (λ (t : State). AreWords p t.subjects) (sym b.1) h
 in_words Entries p gens s taken bytes b h = body_words p gens s taken bytes b h
@@ -42,14 +45,21 @@ in_words Sealed p gens s taken bytes b h = body_words p gens s taken bytes b h
 in_words Closing p gens s taken bytes b h = body_words p gens s taken bytes b h
 in_words Finished p gens s taken bytes b h = body_words p gens s taken bytes b h
 
-pub taken_words : (p : Presented) (gens : List (List Term)) (s taken : State) (bytes : List ℕ) → BytesHold p gens s bytes taken → AreWords p s.subjects → AreWords p taken.subjects
+pub taken_words : (p : Presented) (gens : List (List Term)) (s taken : State) (bytes : List ℕ) → BytesHold p gens s bytes taken → AreWords p s.subjects
+    → AreWords p taken.subjects
 taken_words p gens s taken bytes b h = in_words s.phase p gens s taken bytes b h
 
 -- the fault of a line is that of the text
-pub text_fails : (p : Presented) (text : List ℕ) (gens same : List (List Term)) (n : ℕ) (s : State) (rest line others : List ℕ) (e : LineFault) (r : CertFault) → AreGenerators p gens → same ≡ gens
+pub text_fails : (p : Presented) (text : List ℕ) (gens same : List (List Term)) (n : ℕ) (s : State) (rest line others : List ℕ) (e : LineFault) (r : CertFault)
+    → AreGenerators p gens → same ≡ gens
     → ((r : Result Checked CertFault) → Tells p gens n s rest r → Tells p gens 1 start text r) → cut 10 rest ≡ Some (line, others)
     → Outcome (BytesHold p same s line) (BytesFail p same s line) (Err e) → OfLine n e r → Answers p text (Err r)
 text_fails p text gens same n s rest line others (faults.Fails k) r are is told cuts h of =
     subst (λ (x : CertFault). Answers p text (Err x)) (sym of)
-    (record { generators = gens; are = are; tells = told (Err (texts.Line n k)) (Tells.fails n s rest line others k cuts (subst (λ g. BytesFail p g s line k) is h)) })
+    (record {
+      generators = gens;
+      are = are;
+      tells =
+          told (Err (texts.Line n k)) (Tells.fails n s rest line others k cuts (subst (λ g. BytesFail p g s line k) is h));
+    })
 text_fails p text gens same n s rest line others faults.NoMemory r are is told cuts h of = subst (λ (x : CertFault). Answers p text (Err x)) (sym of) tt

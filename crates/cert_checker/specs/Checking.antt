@@ -1,6 +1,7 @@
 -- Whether a line holds, and why it fails.
 use Rattle.std.specs.List.{AllByRecursion}
-use Rattle.std.specs.Prelude.{◌≡◌, ◌≢◌, ◌⊎◌, ℕ, ◌<◌, ◌≤◌, Bool, neg_ℤ, if◌then◌else◌, List, [], ◌∷◌, length, slice_index_or, Result, Ok, Err}
+use Rattle.std.specs.Prelude.{◌≡◌, ◌≢◌, ◌⊎◌, ℕ, ◌<◌, ◌≤◌, Bool, neg_ℤ, if◌then◌else◌, List, [], ◌∷◌, length}
+use Rattle.std.specs.Prelude.{slice_index_or, Result, Ok, Err}
 use Rattle.free_words.specs.declared.letter.Letter.{Letter}
 use Rattle.formal_sums.specs.FormalSum.{coefficient}
 use Rattle.module_vec.specs.declared.TheConstants.{TERMS}
@@ -35,12 +36,14 @@ StepFails way b f s NoEntry = length b ≤ s.by
 StepFails way b f s (NotEqual at) = ⊥
 StepFails way b f s (NotZero at) = ⊥
 StepFails way b f s Wide = (s.by < length b) × ((x : Place) × IsWideAt way f (taken_at b s) x)
-StepFails way b f s Long = (s.by < length b) × Nowhere (IsWideAt way f (taken_at b s)) × ((n : ℕ) × HasTerms (passed way b f s) n × (TERMS < n))
+StepFails way b f s Long = (s.by < length b) × Nowhere (IsWideAt way f (taken_at b s))
+    × ((n : ℕ) × HasTerms (passed way b f s) n × (TERMS < n))
 
 -- the steps can be made up to one that fails
 abbrev pub StepsFail : Way → List (List Term) → Coefficients → List Step → CertKind → Type 0
 StepsFail way b f [] k = ⊥
-StepsFail way b f (s ∷ ss) k = StepFails way b f s k ⊎ ((s.by < length b) × CanPass way b f s × StepsFail way b (passed way b f s) ss k)
+StepsFail way b f (s ∷ ss) k = StepFails way b f s k ⊎ ((s.by < length b) × CanPass way b f s
+    × StepsFail way b (passed way b f s) ss k)
 
 -- the steps name entries alone
 abbrev pub AreThere : List (List Term) → List Step → Type 0
@@ -73,7 +76,8 @@ PartAt f g at = IsGreatest (λ x. f x ≢ g x) at
 abbrev pub EntryFails : List (List Term) → List (List Term) → Made → List Term → CertKind → Type 0
 EntryFails gens entries made v Text = ⊥
 EntryFails gens entries made v NoEntry = RecipeFails entries made NoEntry
-EntryFails gens entries made v (NotEqual at) = (f : Coefficients) × IsMadeOf gens entries made f × PartAt f (coefficient_at v) at
+EntryFails gens entries made v (NotEqual at) = (f : Coefficients) × IsMadeOf gens entries made f
+    × PartAt f (coefficient_at v) at
 EntryFails gens entries made v (NotZero at) = ⊥
 EntryFails gens entries made v Wide = RecipeFails entries made Wide
 EntryFails gens entries made v Long = RecipeFails entries made Long
@@ -92,7 +96,8 @@ abbrev pub ProofFails : List (List Term) → List Letter → List Step → CertK
 ProofFails entries w steps Text = ⊥
 ProofFails entries w steps NoEntry = StepsFail Take entries (fox_at w) steps NoEntry
 ProofFails entries w steps (NotEqual at) = ⊥
-ProofFails entries w steps (NotZero at) = (f : Coefficients) × StepsLead Take entries (fox_at w) steps f × PartAt f zero_vector at
+ProofFails entries w steps (NotZero at) = (f : Coefficients) × StepsLead Take entries (fox_at w) steps f
+    × PartAt f zero_vector at
 ProofFails entries w steps Wide = StepsFail Take entries (fox_at w) steps Wide
 ProofFails entries w steps Long = StepsFail Take entries (fox_at w) steps Long
 

@@ -78,10 +78,13 @@ IsInTurn gens entries (Sum steps) = (length gens ≤ length entries) × AreNear 
 
 -- the line may follow
 abbrev pub MayFollow : List (List Term) → State → Line → Type 0
-MayFollow gens s (lines.Entry number made vector) = (s.phase ≡ Entries) × IsSettled s × (number ≡ length s.entries) × IsInTurn gens s.entries made
+MayFollow gens s (lines.Entry number made vector) = (s.phase ≡ Entries) × IsSettled s × (number ≡ length s.entries)
+    × IsInTurn gens s.entries made
 MayFollow gens s lines.Seal = (s.phase ≡ Entries) × IsSettled s × HasGenerators gens s
-MayFollow gens s (lines.Live session number front question verdict) = IsOpen s.phase × IsSettled s × HasGenerators gens s × (front ≡ items s) × HasImages question
-MayFollow gens s (lines.Proof subject steps) = (s.shown < length s.subjects) × (subject ≡ s.shown + 1) × AreNear s.entries steps
+MayFollow gens s (lines.Live session number front question verdict) =
+    IsOpen s.phase × IsSettled s × HasGenerators gens s × (front ≡ items s) × HasImages question
+MayFollow gens s (lines.Proof subject steps) = (s.shown < length s.subjects) × (subject ≡ s.shown + 1)
+    × AreNear s.entries steps
 MayFollow gens s (lines.End end) = IsOpen s.phase × IsSettled s × HasGenerators gens s
 MayFollow gens s (lines.Close session number question verdict) = (s.phase ≡ Closing) × IsSettled s × HasImages question
 MayFollow gens s lines.Done = (s.phase ≡ Closing) × IsSettled s

@@ -25,14 +25,16 @@ abbrev pub HeadFails : List ℕ → List ℕ → CertKind → Type 0
 HeadFails wanted bytes k = (bytes ≢ wanted) × (k ≡ Text)
 
 -- the bytes are those of a line over the presentation that is taken
-pub record BodyHolds (p : Presented) (gens : List (List Term)) (s : State) (bytes : List ℕ) (taken : State) : Type 0 where
+pub record BodyHolds (p : Presented) (gens : List (List Term)) (s : State) (bytes : List ℕ)
+    (taken : State) : Type 0 where
   pub line : Line
   pub valid : IsLineOf p line
   pub spelled : bytes ≡ line_text p line
   pub holds : LineHolds gens s line taken
 
 -- they are those of a line that fails
-pub record SpelledFails (p : Presented) (gens : List (List Term)) (s : State) (bytes : List ℕ) (k : CertKind) : Type 0 where
+pub record SpelledFails (p : Presented) (gens : List (List Term)) (s : State) (bytes : List ℕ)
+    (k : CertKind) : Type 0 where
   pub line : Line
   pub valid : IsLineOf p line
   pub spelled : bytes ≡ line_text p line
@@ -82,14 +84,18 @@ counts s = record { entries = capped (length s.entries); proofs = s.proofs }
 -- What is told of a text whose first line has this number, after what was taken. Each line ends with the byte 10.
 pub data Tells (p : Presented) (gens : List (List Term)) : ℕ → State → List ℕ → Result Checked CertFault → Type 0 where
   -- all lines were taken
-  complete : (n : ℕ) (s : State) (text : List ℕ) → cut 10 text ≡ None → IsComplete s text → Tells p gens n s text (Ok (counts s))
+  complete : (n : ℕ) (s : State) (text : List ℕ) → cut 10 text ≡ None → IsComplete s text
+      → Tells p gens n s text (Ok (counts s))
   -- no line stands here, or one without its end
-  missing : (n : ℕ) (s : State) (text : List ℕ) → cut 10 text ≡ None → (IsComplete s text → ⊥) → Tells p gens n s text (Err (faults.Line n Text))
+  missing : (n : ℕ) (s : State) (text : List ℕ) → cut 10 text ≡ None → (IsComplete s text → ⊥)
+      → Tells p gens n s text (Err (faults.Line n Text))
   -- this line is the first that fails
-  fails : (n : ℕ) (s : State) (text line others : List ℕ) (k : CertKind) → cut 10 text ≡ Some (line, others) → BytesFail p gens s line k
+  fails : (n : ℕ) (s : State) (text line others : List ℕ) (k : CertKind) → cut 10 text ≡ Some (line, others)
+      → BytesFail p gens s line k
       → Tells p gens n s text (Err (faults.Line n k))
   -- it is taken, and the others follow
-  goes_on : (n : ℕ) (s taken : State) (text line others : List ℕ) (r : Result Checked CertFault) → cut 10 text ≡ Some (line, others) → BytesHold p gens s line taken
+  goes_on : (n : ℕ) (s taken : State) (text line others : List ℕ) (r : Result Checked CertFault)
+      → cut 10 text ≡ Some (line, others) → BytesHold p gens s line taken
       → Tells p gens (capped (n + 1)) taken others r → Tells p gens n s text r
 
 -- what is told of a whole text, by the generators of the presentation's module

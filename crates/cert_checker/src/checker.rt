@@ -30,7 +30,13 @@ impl Model for Checker {
 
     ghost Value = { State };
 
-    ghost view = { λ c. record { phase = c.phase; entries = c.entries.items; subjects = c.subjects.items; shown = c.shown; proofs = c.proofs } };
+    ghost view = { λ c. record {
+      phase = c.phase;
+      entries = c.entries.items;
+      subjects = c.subjects.items;
+      shown = c.shown;
+      proofs = c.proofs;
+    } };
 }
 
 impl Checker {

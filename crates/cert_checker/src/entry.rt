@@ -27,7 +27,8 @@ pub fn entry_agrees(
 ) -> Result<(), LineFault>
     requires turn { IsInTurn generators.now entries.now made.now }
     requires range { HaveRange made.now }
-    ensures { Outcome (λ _. IsMadeOf generators.now entries.now made.now (coefficient_at vector.now)) (EntryFails generators.now entries.now made.now vector.now) result }
+    ensures { Outcome (λ _. IsMadeOf generators.now entries.now made.now (coefficient_at vector.now))
+        (EntryFails generators.now entries.now made.now vector.now) result }
 {
     match made {
         Made::Gen { negated } => { generator_agrees(alloc, generators, entries, *negated, vector) }
@@ -44,7 +45,8 @@ fn generator_agrees(
     vector: &ModVec,
 ) -> Result<(), LineFault>
     requires turn { length entries.now < length generators.now }
-    ensures { Outcome (λ _. IsMadeOf generators.now entries.now (made.Gen negated) (coefficient_at vector.now)) (EntryFails generators.now entries.now (made.Gen negated) vector.now) result }
+    ensures { Outcome (λ _. IsMadeOf generators.now entries.now (made.Gen negated) (coefficient_at vector.now))
+        (EntryFails generators.now entries.now (made.Gen negated) vector.now) result }
 {
     let generator = signed(alloc, &generators[entries.len()], negated)?;
     match Sum::of(alloc, &generator).difference(vector) {
@@ -62,7 +64,9 @@ fn recipe_agrees(
 ) -> Result<(), LineFault>
     requires near { AreNear entries.now steps.now }
     requires range { AllByRecursion (λ s. InRange s.q) steps.now }
-    ensures { (gens : List (List Term)) → Outcome (λ _. IsMadeOf gens entries.now (made.Sum steps.now) (coefficient_at vector.now)) (EntryFails gens entries.now (made.Sum steps.now) vector.now) result }
+    ensures { (gens : List (List Term))
+        → Outcome (λ _. IsMadeOf gens entries.now (made.Sum steps.now) (coefficient_at vector.now))
+        (EntryFails gens entries.now (made.Sum steps.now) vector.now) result }
 {
     let sum = pass(alloc, Sum::empty(alloc), Way::Add, entries, steps)?;
     match sum.difference(vector) {

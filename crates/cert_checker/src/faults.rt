@@ -16,7 +16,8 @@ pub enum CertKind {
     Text,
     /// A step names an entry that isn't there yet.
     NoEntry,
-    /// The entry isn't what its recipe makes, or isn't the generator with its sign; the greatest place where they differ.
+    /// The entry isn't what its recipe makes, or isn't the generator with its sign; the greatest place where they
+    /// differ.
     NotEqual { at: Place },
     /// The steps of a proof leave something of the Fox vector; the greatest place of that.
     NotZero { at: Place },

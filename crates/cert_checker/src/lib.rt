@@ -1,7 +1,7 @@
 //! The checker of reports: whether the entries and the proofs of a report hold.
 //!
-//! It stands on words, presentations, questions, Fox vectors and the lines of reports, and on nothing that finds answers:
-//! a report is believed for what it says, whoever wrote it.
+//! It stands on words, presentations, questions, Fox vectors and the lines of reports, and on nothing that finds
+//! answers: a report is believed for what it says, whoever wrote it.
 #![tactic(auto)]
 
 mod checked;

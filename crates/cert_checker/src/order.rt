@@ -55,7 +55,8 @@ impl Checker {
 
     fn answer_may_follow(&self, generators: &[ModVec], front: u32, question: &Question) -> bool
         requires { (p : Presented) × IsWritable p question.now }
-        ensures { (session number : ℕ) (verdict : Verdict) → IsTrue result ↔ MayFollow generators.now self.now (lines.Live session number front question.now verdict) }
+        ensures { (session number : ℕ) (verdict : Verdict) → IsTrue result
+            ↔ MayFollow generators.now self.now (lines.Live session number front question.now verdict) }
     {
         self.is_open()
             && self.is_settled()
@@ -80,7 +81,8 @@ impl Checker {
 
     fn closing_may_follow(&self, question: &Question) -> bool
         requires { (p : Presented) × IsWritable p question.now }
-        ensures { (session number : ℕ) (verdict : Verdict) → IsTrue result ↔ MayFollow [] self.now (lines.Close session number question.now verdict) }
+        ensures { (session number : ℕ) (verdict : Verdict) → IsTrue result
+            ↔ MayFollow [] self.now (lines.Close session number question.now verdict) }
     {
         self.is_closing() && has_images(question)
     }

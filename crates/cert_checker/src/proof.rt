@@ -32,7 +32,8 @@ pub fn proof_agrees(
     requires short { length word.now ≤ COMPOSED }
     requires near { AreNear entries.now steps.now }
     requires range { AllByRecursion (λ s. InRange s.q) steps.now }
-    ensures { Outcome (λ _. StepsLead Take entries.now (fox_at word.now) steps.now zero_vector) (ProofFails entries.now word.now steps.now) result }
+    ensures { Outcome (λ _. StepsLead Take entries.now (fox_at word.now) steps.now zero_vector)
+        (ProofFails entries.now word.now steps.now) result }
 {
     let vector = fox(alloc, p, word)?;
     let sum = pass(alloc, Sum::of(alloc, &vector), Way::Take, entries, steps)?;

@@ -13,8 +13,8 @@ use presentation::Presentation;
 use spelling::cut;
 use std::alloc::Global;
 
-/// Whether the text is a report over the presentation each of whose entries and proofs holds, and how many of them there
-/// are; or else the first line that fails, and why.
+/// Whether the text is a report over the presentation each of whose entries and proofs holds, and how many of them
+/// there are; or else the first line that fails, and why.
 ///
 /// An entry is a generator of the presentation's module, or its negative, or the sum of multiples of earlier entries; a
 /// proof takes multiples of entries from the Fox vector of a subject until nothing is left. So each entry lies in the

@@ -24,7 +24,8 @@ pub fn pass<'a>(
     requires near { AreNear entries.now steps.now }
     requires range { AllByRecursion (λ s. InRange s.q) steps.now }
     ensures { let f = coefficient_at sum.entry in
-        Outcome (λ v. StepsLead way entries.now f steps.now (coefficient_at v)) (StepsFail way entries.now f steps.now) result }
+        Outcome (λ v. StepsLead way entries.now f steps.now (coefficient_at v))
+        (StepsFail way entries.now f steps.now) result }
 {
     let mut sum = sum;
     for step in steps {
@@ -60,7 +61,8 @@ fn is_near(entries: &[ModVec], step: &Step) -> bool
 
 /// The entry that the step names, if it is there.
 fn named<'a>(entries: &'a [ModVec], step: &Step) -> Option<&'a ModVec>
-    ensures { MatchOption result (length entries.now ≤ step.now.by) (λ g. (step.now.by < length entries.now) × (g.now ≡ vector_at entries.now step.now.by)) }
+    ensures { MatchOption result (length entries.now ≤ step.now.by) (λ g. (step.now.by < length entries.now)
+        × (g.now ≡ vector_at entries.now step.now.by)) }
 {
     entries.get(step.by as usize)
 }

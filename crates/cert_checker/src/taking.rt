@@ -34,7 +34,8 @@ impl Checker {
         bytes: &[u8],
     ) -> Result<Checker, LineFault>
         requires words { AreWords p.now self.subjects }
-        ensures { Outcome (BytesHold p.now generators.now self bytes.now) (BytesFail p.now generators.now self bytes.now) result }
+        ensures { Outcome (BytesHold p.now generators.now self bytes.now)
+            (BytesFail p.now generators.now self bytes.now) result }
     {
         match self.phase {
             Phase::Title => self.take_head(is_title(bytes), Phase::Presentation),
@@ -48,7 +49,8 @@ impl Checker {
 
     /// Goes on to the phase, where a line at the head is right.
     fn take_head(self, is_right: bool, phase: Phase) -> Result<Checker, LineFault>
-        ensures { Outcome (λ taken. IsTrue is_right × (taken ≡ record self { phase = phase })) (λ k. (IsTrue is_right → ⊥) × (k ≡ Text)) result }
+        ensures { Outcome (λ taken. IsTrue is_right × (taken ≡ record self { phase = phase })) (λ k. (IsTrue is_right
+            → ⊥) × (k ≡ Text)) result }
     {
         if !is_right {
             return Err(LineFault::Fails(CertKind::Text));
@@ -67,7 +69,8 @@ impl Checker {
         bytes: &[u8],
     ) -> Result<Checker, LineFault>
         requires words { AreWords p.now self.subjects }
-        ensures { Outcome (BodyHolds p.now generators.now self bytes.now) (BodyFails p.now generators.now self bytes.now) result }
+        ensures { Outcome (BodyHolds p.now generators.now self bytes.now)
+            (BodyFails p.now generators.now self bytes.now) result }
     {
         match read_line(alloc, p, bytes)? {
             Some(line) => self.take_line(alloc, p, generators, line),
@@ -105,7 +108,8 @@ impl Checker {
         requires valid { IsLineOf p.now line.now }
         requires words { AreWords p.now self.now.subjects }
         requires follows { MayFollow generators.now self.now line.now }
-        ensures { Outcome (λ _. Agrees generators.now self.now line.now) (Disagrees generators.now self.now line.now) result }
+        ensures { Outcome (λ _. Agrees generators.now self.now line.now)
+            (Disagrees generators.now self.now line.now) result }
     {
         match line {
             Line::Entry { made, vector, .. } => {

@@ -52,7 +52,12 @@ negative : (r d k : ℤ) → r *ℤ d ≡ neg_ℤ k → k ≡ neg_ℤ r *ℤ d
 negative r d k e = let turned : neg_ℤ r *ℤ d ≡ neg_ℤ (r *ℤ d) = neg_ℤ-*ℤ r d in omega (arith, ints, e, turned)
 
 factored : (k l q r : ℤ) → pos 0 <ℤ l → (f : AreFactors S k l q r) → Factored k l (pos f.0) q r
-factored k l q r h (d, g, first, second) = record { divisor = g; positive = some_divisor q d l h first; first = sym first; second = negative r (pos d) k second }
+factored k l q r h (d, g, first, second) = record {
+  divisor = g;
+  positive = some_divisor q d l h first;
+  first = sym first;
+  second = negative r (pos d) k second;
+}
 
 -- by which multiples the S-vectors of i with k, and of k with j, add up to that of i with j
 record Mixed (q r qik rik qkj rkj : ℤ) : Type 0 where
@@ -72,7 +77,8 @@ module _ (ci cj ck d q r dik qik rik dkj qkj rkj : ℤ) (hi : pos 0 <ℤ ci) (hj
       swap a b c = sym (*ℤ_assoc a b c) ∙ ap (λ z. z *ℤ c) (*ℤ_comm a b) ∙ *ℤ_assoc b a c
 
   middle_of : (x y : ℤ) → q ≡ x *ℤ qik → r ≡ y *ℤ rkj → x *ℤ rik +ℤ y *ℤ qkj ≡ pos 0
-  middle_of x y ex ey = cancel (x *ℤ rik +ℤ y *ℤ qkj) (pos 0) ck hk (+ℤ-*ℤ (x *ℤ rik) (y *ℤ qkj) ck ∙ nothing ((x *ℤ rik) *ℤ ck) ((y *ℤ qkj) *ℤ ck) (q *ℤ ci) (r *ℤ cj) (pos 0 *ℤ ck) one two both zero)
+  middle_of x y ex ey = cancel (x *ℤ rik +ℤ y *ℤ qkj) (pos 0) ck hk (+ℤ-*ℤ (x *ℤ rik) (y *ℤ qkj) ck
+      ∙ nothing ((x *ℤ rik) *ℤ ck) ((y *ℤ qkj) *ℤ ck) (q *ℤ ci) (r *ℤ cj) (pos 0 *ℤ ck) one two both zero)
     where
       one : (x *ℤ rik) *ℤ ck ≡ neg_ℤ (q *ℤ ci)
       one = ap (λ z. (x *ℤ rik) *ℤ z) ik.first ∙ exchanged x rik qik dik ∙ (λ n. sym ex n *ℤ turned n) ∙ *ℤ-neg_ℤ q ci
@@ -99,7 +105,8 @@ module _ (ci cj ck d q r dik qik rik dkj qkj rkj : ℤ) (hi : pos 0 <ℤ ci) (hj
   mixed h = by (h (q *ℤ ci) (q, refl) (neg_ℤ r, multiple))
     where
       by : Divides ck (q *ℤ ci) → Mixed q r qik rik qkj rkj
-      by (f, e) = both (gauss ck ci q qik dik hk hi ik.positive (IsGcd-swap (unsigned_abs ci) (unsigned_abs ck) (unsigned_abs dik) ik.divisor) ik.first (f, *ℤ_comm ci q ∙ e))
+      by (f, e) = both (gauss ck ci q qik dik hk hi ik.positive (IsGcd-swap (unsigned_abs ci) (unsigned_abs ck) (unsigned_abs dik) ik.divisor) ik.first
+          (f, *ℤ_comm ci q ∙ e))
           (gauss ck cj r (neg_ℤ rkj) dkj hk hj kj.positive kj.divisor kj.second (neg_ℤ f, other))
         where
           other : cj *ℤ r ≡ neg_ℤ f *ℤ ck
@@ -121,8 +128,10 @@ module _ (ci cj ck d q r dik qik rik dkj qkj rkj : ℤ) (hi : pos 0 <ℤ ci) (hj
 -- q·A + r·C, where the multiples of B go out
 combine : (q r qik rik qkj rkj a b c : ℤ) → (m : Mixed q r qik rik qkj rkj) → q *ℤ a +ℤ r *ℤ c ≡ m.x *ℤ (qik *ℤ a +ℤ rik *ℤ b) +ℤ m.y *ℤ (qkj *ℤ b +ℤ rkj *ℤ c)
 combine q r qik rik qkj rkj a b c m =
-    let one : m.x *ℤ (qik *ℤ a +ℤ rik *ℤ b) ≡ q *ℤ a +ℤ (m.x *ℤ rik) *ℤ b = *ℤ-+ℤ m.x (qik *ℤ a) (rik *ℤ b) ∙ (λ n. (sym (*ℤ_assoc m.x qik a) ∙ ap (λ z. z *ℤ a) (sym m.first)) n +ℤ sym (*ℤ_assoc m.x rik b) n) in
-    let two : m.y *ℤ (qkj *ℤ b +ℤ rkj *ℤ c) ≡ (m.y *ℤ qkj) *ℤ b +ℤ r *ℤ c = *ℤ-+ℤ m.y (qkj *ℤ b) (rkj *ℤ c) ∙ (λ n. sym (*ℤ_assoc m.y qkj b) n +ℤ (sym (*ℤ_assoc m.y rkj c) ∙ ap (λ z. z *ℤ c) (sym m.third)) n) in
+    let one : m.x *ℤ (qik *ℤ a +ℤ rik *ℤ b) ≡ q *ℤ a +ℤ (m.x *ℤ rik) *ℤ b = *ℤ-+ℤ m.x (qik *ℤ a) (rik *ℤ b)
+    ∙ (λ n. (sym (*ℤ_assoc m.x qik a) ∙ ap (λ z. z *ℤ a) (sym m.first)) n +ℤ sym (*ℤ_assoc m.x rik b) n) in
+    let two : m.y *ℤ (qkj *ℤ b +ℤ rkj *ℤ c) ≡ (m.y *ℤ qkj) *ℤ b +ℤ r *ℤ c = *ℤ-+ℤ m.y (qkj *ℤ b) (rkj *ℤ c)
+    ∙ (λ n. sym (*ℤ_assoc m.y qkj b) n +ℤ (sym (*ℤ_assoc m.y rkj c) ∙ ap (λ z. z *ℤ c) (sym m.third)) n) in
     let gone : (m.x *ℤ rik) *ℤ b +ℤ (m.y *ℤ qkj) *ℤ b ≡ pos 0 = sym (+ℤ-*ℤ (m.x *ℤ rik) (m.y *ℤ qkj) b) ∙ ap (λ z. z *ℤ b) m.middle ∙ zero_times b in
     regroup (m.x *ℤ (qik *ℤ a +ℤ rik *ℤ b)) (m.y *ℤ (qkj *ℤ b +ℤ rkj *ℤ c)) (q *ℤ a) ((m.x *ℤ rik) *ℤ b) ((m.y *ℤ qkj) *ℤ b) (r *ℤ c) one two gone
   where
@@ -142,7 +151,8 @@ module _ (b : List (List Term)) (entries : AreEntries b) where
     factors = by c.factors;
     steps = scaled (negsuc 0) c.steps;
     below = at_scaled b entries (λ x. IsBelow x p) (negsuc 0) c.steps c.below;
-    is = λ x. turn c.q c.r (shifted u (vector_at b j) x) (shifted t (vector_at b i) x) (steps_at b c.steps x) (steps_at b (scaled (negsuc 0) c.steps) x) (c.is x) (steps_at-scaled b (negsuc 0) c.steps x);
+    is = λ x. turn c.q c.r (shifted u (vector_at b j) x) (shifted t (vector_at b i) x) (steps_at b c.steps x) (steps_at b (scaled (negsuc 0) c.steps) x)
+        (c.is x) (steps_at-scaled b (negsuc 0) c.steps x);
   }
     where
       ki : ℤ
@@ -152,7 +162,13 @@ module _ (b : List (List Term)) (entries : AreEntries b) where
       kj = (lead_at b j).k
 
       by : AreFactors S kj ki c.q c.r → AreFactors S ki kj (neg_ℤ c.r) (neg_ℤ c.q)
-      by (d, g, first, second) = (d, IsGcd-swap (unsigned_abs kj) (unsigned_abs ki) d g, neg_ℤ-*ℤ c.r (pos d) ∙ ap neg_ℤ second ∙ twice kj, neg_ℤ-*ℤ c.q (pos d) ∙ ap neg_ℤ first)
+      by (d, g, first, second) = (
+        d,
+        IsGcd-swap (unsigned_abs kj) (unsigned_abs ki) d g,
+        neg_ℤ-*ℤ c.r (pos d) ∙ ap neg_ℤ second ∙ twice kj,
+        neg_ℤ-*ℤ c.q (pos d)
+            ∙ ap neg_ℤ first,
+      )
         where
           twice : (z : ℤ) → neg_ℤ (neg_ℤ z) ≡ z
           twice z = omega (arith, ints)
@@ -171,7 +187,8 @@ module _ (b : List (List Term)) (entries : AreEntries b) where
   carried_either i j t u p (inr closed) meet = turned i j t u p (pair_carried b entries j i u t p closed.1 (swapped b entries i j t u p meet))
 
   -- ---- the rule
-  module _ (i j k : ℕ) (pair : IsPair b i j) (k_in : k < length b) (reduces : Reduces (lead_at b k) (pair_place b i j)) (coefficient : DividesMultiple (lead_at b k).k (lead_at b i).k (lead_at b j).k) where
+  module _ (i j k : ℕ) (pair : IsPair b i j) (k_in : k < length b) (reduces : Reduces (lead_at b k) (pair_place b i j))
+      (coefficient : DividesMultiple (lead_at b k).k (lead_at b i).k (lead_at b j).k) where
     abbrev p : Place
     p = pair_place b i j
 
@@ -202,10 +219,19 @@ module _ (b : List (List Term)) (entries : AreEntries b) where
     there : (n : ℕ) → n < length b → (lead_at b n).at.c ≡ p.c → divides (mono n) p.m ≡ true → moved (to n) (lead_at b n).at ≡ p
     there n h e d = λ x. record { m = quotient-back (mono n) p.m (lead_length b entries n h ∙ sym p-length) d x; c = e x }
 
-    meets : (m n : ℕ) → m < length b → n < length b → (lead_at b m).at.c ≡ p.c → (lead_at b n).at.c ≡ p.c → divides (mono m) p.m ≡ true → divides (mono n) p.m ≡ true → Meets b entries m n (to m) (to n) p
-    meets m n hm hn em en dm dn = record { i_in = hm; j_in = hn; t-length = to-length m hm dm; u-length = to-length n hn dn; first = there m hm em dm; second = there n hn en dn }
+    meets : (m n : ℕ) → m < length b → n < length b → (lead_at b m).at.c ≡ p.c → (lead_at b n).at.c ≡ p.c → divides (mono m) p.m ≡ true
+        → divides (mono n) p.m ≡ true → Meets b entries m n (to m) (to n) p
+    meets m n hm hn em en dm dn = record {
+      i_in = hm;
+      j_in = hn;
+      t-length = to-length m hm dm;
+      u-length = to-length n hn dn;
+      first = there m hm em dm;
+      second = there n hn en dn;
+    }
 
-    by_both : PairCarried b entries i k (to i) (to k) p → PairCarried b entries k j (to k) (to j) p → Combined (unsigned_abs (coeff i)) (unsigned_abs (coeff j)) → IsClosed b S i j
+    by_both : PairCarried b entries i k (to i) (to k) p → PairCarried b entries k j (to k) (to j) p → Combined (unsigned_abs (coeff i)) (unsigned_abs (coeff j))
+        → IsClosed b S i j
     by_both one two g = parts (divisor_of (coeff j) (pos g.d) hj some g.divisor.1) (divisor_of (coeff i) (pos g.d) hi some g.divisor.0)
       where
         hi : pos 0 <ℤ coeff i
@@ -227,7 +253,8 @@ module _ (b : List (List Term)) (entries : AreEntries b) where
           are,
           record {
             steps = scaled m.x one.steps ++ scaled m.y two.steps;
-            below = at_append b entries (λ x. IsBelow x p) (scaled m.x one.steps) (scaled m.y two.steps) (at_scaled b entries (λ x. IsBelow x p) m.x one.steps one.below) (at_scaled b entries (λ x. IsBelow x p) m.y two.steps two.below);
+            below = at_append b entries (λ x. IsBelow x p) (scaled m.x one.steps) (scaled m.y two.steps)
+                (at_scaled b entries (λ x. IsBelow x p) m.x one.steps one.below) (at_scaled b entries (λ x. IsBelow x p) m.y two.steps two.below);
             is = is;
           },
         )
@@ -270,10 +297,15 @@ module _ (b : List (List Term)) (entries : AreEntries b) where
 
   pub chain_rule : ChainRule b
   chain_rule i j k pair k_in reduces coefficient ik kj = by_both i j k pair k_in reduces coefficient
-      (carried_either i k (to i j k pair k_in reduces coefficient i) (to i j k pair k_in reduces coefficient k) (pair_place b i j) ik (meets i j k pair k_in reduces coefficient i k (i_in i j k pair k_in reduces coefficient) k_in refl reduces.0 (both_divide i j k pair k_in reduces coefficient).0 reduces.1))
-      (carried_either k j (to i j k pair k_in reduces coefficient k) (to i j k pair k_in reduces coefficient j) (pair_place b i j) kj (meets i j k pair k_in reduces coefficient k j k_in pair.within reduces.0 (sym pair.component) reduces.1 (both_divide i j k pair k_in reduces coefficient).1))
+      (carried_either i k (to i j k pair k_in reduces coefficient i) (to i j k pair k_in reduces coefficient k) (pair_place b i j) ik
+      (meets i j k pair k_in reduces coefficient i k (i_in i j k pair k_in reduces coefficient) k_in refl reduces.0
+      (both_divide i j k pair k_in reduces coefficient).0 reduces.1))
+      (carried_either k j (to i j k pair k_in reduces coefficient k) (to i j k pair k_in reduces coefficient j) (pair_place b i j) kj
+      (meets i j k pair k_in reduces coefficient k j k_in pair.within reduces.0 (sym pair.component) reduces.1
+      (both_divide i j k pair k_in reduces coefficient).1))
       (combined (unsigned_abs (lead_at b i).k) (unsigned_abs (lead_at b j).k))
 
   -- through the closed pairs of a list
   pub closed_through : (pairs : List (ℕ × ℕ)) → AreClosedPairs b pairs → (i j k : ℕ) → IsPair b i j → IsChained b pairs i j k → IsClosed b S i j
-  closed_through pairs closed i j k pair h = chain_rule i j k pair h.number h.leads.reduces h.leads.coefficient (either b pairs closed i k h.with_first) (either b pairs closed k j h.with_second)
+  closed_through pairs closed i j k pair h = chain_rule i j k pair h.number h.leads.reduces h.leads.coefficient (either b pairs closed i k h.with_first)
+      (either b pairs closed k j h.with_second)

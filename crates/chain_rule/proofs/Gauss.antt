@@ -14,7 +14,8 @@ use Rattle.strong_pairs.proofs.Exchanges.{cancel}
 
 -- (a·b)·(c·d) = (a·c)·(b·d)
 pub exchanged : (a b c d : ℤ) → (a *ℤ b) *ℤ (c *ℤ d) ≡ (a *ℤ c) *ℤ (b *ℤ d)
-exchanged a b c d = *ℤ_assoc a b (c *ℤ d) ∙ ap (λ z. a *ℤ z) (sym (*ℤ_assoc b c d) ∙ ap (λ z. z *ℤ d) (*ℤ_comm b c) ∙ *ℤ_assoc c b d) ∙ sym (*ℤ_assoc a c (b *ℤ d))
+exchanged a b c d = *ℤ_assoc a b (c *ℤ d) ∙ ap (λ z. a *ℤ z) (sym (*ℤ_assoc b c d) ∙ ap (λ z. z *ℤ d) (*ℤ_comm b c) ∙ *ℤ_assoc c b d)
+    ∙ sym (*ℤ_assoc a c (b *ℤ d))
 
 -- a·(b·c) = b·(a·c)
 pub carried_over : (a b c : ℤ) → a *ℤ (b *ℤ c) ≡ b *ℤ (a *ℤ c)
@@ -52,7 +53,8 @@ pub record Combined (a b : ℕ) : Type 0 where
 step_sum : (u v q c r a d : ℤ) → a ≡ q *ℤ c +ℤ r → u *ℤ c +ℤ v *ℤ r ≡ d → v *ℤ a +ℤ (u +ℤ neg_ℤ (v *ℤ q)) *ℤ c ≡ d
 step_sum u v q c r a d e h =
     let one : v *ℤ a ≡ v *ℤ (q *ℤ c) +ℤ v *ℤ r = ap (λ z. v *ℤ z) e ∙ *ℤ-+ℤ v (q *ℤ c) r in
-    let two : (u +ℤ neg_ℤ (v *ℤ q)) *ℤ c ≡ u *ℤ c +ℤ neg_ℤ (v *ℤ (q *ℤ c)) = +ℤ-*ℤ u (neg_ℤ (v *ℤ q)) c ∙ ap (λ z. u *ℤ c +ℤ z) (neg_ℤ-*ℤ (v *ℤ q) c ∙ ap neg_ℤ (*ℤ_assoc v q c)) in
+    let two : (u +ℤ neg_ℤ (v *ℤ q)) *ℤ c ≡ u *ℤ c +ℤ neg_ℤ (v *ℤ (q *ℤ c)) = +ℤ-*ℤ u (neg_ℤ (v *ℤ q)) c
+    ∙ ap (λ z. u *ℤ c +ℤ z) (neg_ℤ-*ℤ (v *ℤ q) c ∙ ap neg_ℤ (*ℤ_assoc v q c)) in
     (λ n. one n +ℤ two n) ∙ regroup (v *ℤ (q *ℤ c)) (v *ℤ r) (u *ℤ c) d h
   where
     regroup : (w x y d : ℤ) → y +ℤ x ≡ d → (w +ℤ x) +ℤ (y +ℤ neg_ℤ w) ≡ d
@@ -94,7 +96,8 @@ gauss_by c k n q d u v f some sum part multiple =
     second = carried_over n v k ∙ ap (λ z. v *ℤ z) (*ℤ_comm n k ∙ multiple) ∙ sym (*ℤ_assoc v f c)
 
 -- d is the greatest common divisor of c and k, and c = q·d: where c divides k·n, q divides n
-pub gauss : (c k n q d : ℤ) → pos 0 <ℤ c → pos 0 <ℤ k → pos 0 <ℤ d → IsGcd (unsigned_abs c) (unsigned_abs k) (unsigned_abs d) → c ≡ q *ℤ d → Divides c (k *ℤ n) → Divides q n
+pub gauss : (c k n q d : ℤ) → pos 0 <ℤ c → pos 0 <ℤ k → pos 0 <ℤ d → IsGcd (unsigned_abs c) (unsigned_abs k) (unsigned_abs d) → c ≡ q *ℤ d
+    → Divides c (k *ℤ n) → Divides q n
 gauss c k n q d hc hk hd g part (f, multiple) = by (combined (unsigned_abs c) (unsigned_abs k))
   where
     by : Combined (unsigned_abs c) (unsigned_abs k) → Divides q n

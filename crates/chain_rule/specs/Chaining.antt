@@ -35,4 +35,5 @@ pub record IsChained (b : List (List Term)) (pairs : List (ℕ × ℕ)) (i j k :
 -- tasks of k with both of them are truly closed, so is that of the pair
 abbrev pub ChainRule : List (List Term) → Type 0
 ChainRule b = (i j k : ℕ) → IsPair b i j → k < length b → Reduces (lead_at b k) (pair_place b i j) →
-    DividesMultiple (lead_at b k).k (lead_at b i).k (lead_at b j).k → IsClosedEither b i k → IsClosedEither b k j → IsClosed b S i j
+    DividesMultiple (lead_at b k).k (lead_at b i).k (lead_at b j).k → IsClosedEither b i k → IsClosedEither b k j
+    → IsClosed b S i j

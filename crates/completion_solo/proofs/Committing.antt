@@ -1,5 +1,6 @@
 -- An outcome of the task in hand is committed.
-use Rattle.std.proofs.Common.{ℕ, ◌+◌, ◌<◌, ◌≤◌, ◌≡◌, ◌≢◌, ◌⊎◌, inl, inr, arith, refl, sym, ap, ◌∙◌, List, [], ◌∷◌, ◌++◌, length, map, Bool, true, false, subst, length-append}
+use Rattle.std.proofs.Common.{ℕ, ◌+◌, ◌<◌, ◌≤◌, ◌≡◌, ◌≢◌, ◌⊎◌, inl, inr, arith, refl, sym, ap, ◌∙◌, List, [], ◌∷◌, ◌++◌, length, map, Bool, true, false, subst}
+use Rattle.std.proofs.Common.{length-append}
 use Rattle.std.proofs.lemmas.List.{append-nil, map-append}
 use Rattle.std.specs.Prelude.{Ok, ◌↔◌, IsTrue}
 use Rattle.presentation.specs.Presented.{Presented}
@@ -96,7 +97,8 @@ module _ (mid new : Held) (t : Task) (b : IsBook mid) (hand : IsInHand mid t) (n
     task_back : (u : Task) → IsTask (length new.entries) u → IsTask (length mid.entries) u
     task_back u k = let n : length new.entries ≡ length mid.entries = ap length entries_same in let a = k.1 in (k.0, omega (arith, n, a))
 
-    read_closed : (u : Task) → IsTask (length mid.entries) u → ((u ≡ t) × (state_of (put mid.tasks t Closed) u ≡ Closed)) ⊎ ((u ≢ t) × (state_of (put mid.tasks t Closed) u ≡ state_of mid.tasks u))
+    read_closed : (u : Task) → IsTask (length mid.entries) u → ((u ≡ t) × (state_of (put mid.tasks t Closed) u ≡ Closed))
+        ⊎ ((u ≢ t) × (state_of (put mid.tasks t Closed) u ≡ state_of mid.tasks u))
     read_closed u k = read_put mid.tasks t u Closed b.table at_hand (task_in mid u b k)
 
     continues_closed : Continues mid new
@@ -116,7 +118,11 @@ module _ (mid new : Held) (t : Task) (b : IsBook mid) (hand : IsInHand mid t) (n
     none_closed : NoneTaken new
     none_closed u k = elim (f.each u (task_back u k)) [
       | inr e ↦ ap is_taken e
-      | inl e ↦ ap is_taken e ∙ elim (read_closed u (task_back u k)) [ inl (_, s) ↦ ap is_taken s | inr (ne, s) ↦ ap is_taken s ∙ hand.others u (task_back u k) ne ]
+      | inl e ↦ ap is_taken e ∙ elim (read_closed u (task_back u k)) [
+        | inl (_, s) ↦ ap is_taken s
+        | inr (ne, s) ↦ ap is_taken s
+            ∙ hand.others u (task_back u k) ne
+      ]
     ]
 
     still_hard : (u : Task) → IsTask (length mid.entries) u → is_hard (state_of new.tasks u) ≡ true → is_hard (state_of mid.tasks u) ≡ true
@@ -177,7 +183,8 @@ module _ (mid new : Held) (t : Task) (b : IsBook mid) (hand : IsInHand mid t) (n
     hand_in_row : IsTask row.count t
     hand_in_row = in_row t (task_more t hand.taken.0)
 
-    read_row : (u : Task) → IsTask (length (mid.entries ++ e ∷ [])) u → ((u ≡ t) × (state_of (put row t (state_after closed)) u ≡ state_after closed)) ⊎ ((u ≢ t) × (state_of (put row t (state_after closed)) u ≡ state_of row u))
+    read_row : (u : Task) → IsTask (length (mid.entries ++ e ∷ [])) u → ((u ≡ t) × (state_of (put row t (state_after closed)) u ≡ state_after closed))
+        ⊎ ((u ≢ t) × (state_of (put row t (state_after closed)) u ≡ state_of row u))
     read_row u k = read_put row t u (state_after closed) table_row hand_in_row (in_row u k)
 
     continues_longer : Continues mid new
@@ -200,7 +207,8 @@ module _ (mid new : Held) (t : Task) (b : IsBook mid) (hand : IsInHand mid t) (n
     row_free : (u : Task) → IsTask (length (mid.entries ++ e ∷ [])) u → u ≢ t → is_taken (state_of row u) ≡ false
     row_free u k ne = let n = length-append mid.entries (e ∷ []) in let a = k.1 in elim (older (length mid.entries) u (k.0, omega (arith, n, a))) [
       | inl o ↦ ap is_taken (state_old mid.tasks mid.entries e.vector u b.table (task_in mid u b o)) ∙ hand.others u o ne
-      | inr (j, i) ↦ ap is_taken (state_new mid.tasks mid.entries e.vector u b.table b.count j i) ∙ first_free (settled_of u.kind (settled_by (lead_at (vectors_of mid.entries) u.i) (lead_of e.vector)))
+      | inr (j, i) ↦ ap is_taken (state_new mid.tasks mid.entries e.vector u b.table b.count j i)
+          ∙ first_free (settled_of u.kind (settled_by (lead_at (vectors_of mid.entries) u.i) (lead_of e.vector)))
     ]
 
     none_longer : NoneTaken new
@@ -216,7 +224,8 @@ module _ (mid new : Held) (t : Task) (b : IsBook mid) (hand : IsInHand mid t) (n
     pub broken_longer : LacksMemory mid new
     broken_longer = (continues_longer, none_longer, ap (λ (h : Held). h.seal) f.is)
 
-    leads_longer : (leads more : List Term) (lead : Term) (k : ℕ) → AreLeads (vectors_of mid.entries) leads → k ≡ length mid.entries → lead ≡ lead_at (vectors_of new.entries) k → more ≡ leads ++ lead ∷ [] → AreLeads (vectors_of new.entries) more
+    leads_longer : (leads more : List Term) (lead : Term) (k : ℕ) → AreLeads (vectors_of mid.entries) leads → k ≡ length mid.entries
+        → lead ≡ lead_at (vectors_of new.entries) k → more ≡ leads ++ lead ∷ [] → AreLeads (vectors_of new.entries) more
     leads_longer leads more lead k are number is all =
         let last : lead ≡ lead_of e.vector = is ∙ ((λ x. lead_at (vectors_of (longer x)) (number x)) ∙ lead_end mid.entries e) in
         all
@@ -224,13 +233,19 @@ module _ (mid new : Held) (t : Task) (b : IsBook mid) (hand : IsInHand mid t) (n
         ∙ (sym (map-append lead_of (vectors_of mid.entries) (e.vector ∷ []))
         ∙ (ap (map lead_of) (sym (vectors_push mid.entries e)) ∙ ap (λ (es : List BasisEntry). map lead_of (vectors_of es)) (sym longer))))
 
-    pub longer_on : (leads more : List Term) (lead : Term) (k : ℕ) (stale : Bool) → IsWorkDue mid leads t stale → k ≡ length mid.entries → lead ≡ lead_at (vectors_of new.entries) k → more ≡ leads ++ lead ∷ [] → LeadsOn mid.source mid stale new more true
+    pub longer_on : (leads more : List Term) (lead : Term) (k : ℕ) (stale : Bool) → IsWorkDue mid leads t stale → k ≡ length mid.entries
+        → lead ≡ lead_at (vectors_of new.entries) k → more ≡ leads ++ lead ∷ [] → LeadsOn mid.source mid stale new more true
     longer_on leads more lead k stale due number is all =
         let n : length new.entries ≡ length (mid.entries ++ e ∷ []) = ap length longer in
         let l = length-append mid.entries (e ∷ []) in (
           continues_longer,
           ap (λ (h : Held). h.seal) f.is,
-          record { source = continues_longer.source; none_taken = none_longer; are_leads = leads_longer leads more lead k due.are_leads number is all; hard = λ q. absurd (cc) },
+          record {
+            source = continues_longer.source;
+            none_taken = none_longer;
+            are_leads = leads_longer leads more lead k due.are_leads number is all;
+            hard = λ q. absurd (cc);
+          },
           left_longer mid new stale now (omega (arith, n, l)),
         )
 
@@ -245,7 +260,8 @@ rest_known p b t (Rest e) c = c.entry.source
 is_closed : (mid new : Held) (w : Worked) → Commits mid w (Ok done.Closed) new → Follows (closed_by mid w.task) new
 is_closed mid new w (_, _, chained) = follows (closed_by mid w.task) new w.task true chained
 
-pub closed_round : (mid new : Held) (w : Worked) (f : Committed) (leads : List Term) (stale : Bool) → IsBook mid → IsBook new → IsWorkDue mid leads w.task stale → f ≡ done.Closed → Commits mid w (Ok f) new → LeadsOn mid.source mid stale new leads stale
+pub closed_round : (mid new : Held) (w : Worked) (f : Committed) (leads : List Term) (stale : Bool) → IsBook mid → IsBook new → IsWorkDue mid leads w.task stale
+    → f ≡ done.Closed → Commits mid w (Ok f) new → LeadsOn mid.source mid stale new leads stale
 closed_round mid new w f leads stale b now due g c =
     let d = subst (λ (x : Committed). Commits mid w (Ok x) new) g c in
     closed_on mid new w.task b due.hand now (is_closed mid new w d) leads stale due
@@ -256,21 +272,31 @@ pub record Appends (mid new : Held) (w : Worked) (k : ℕ) (closed : Bool) : Typ
   pub few : length mid.entries + 1 ≤ mid.limits.entries
   pub follows : Follows (appended_by mid w.task entry closed) new
 
-fits_behind : (mid new : Held) (w : Worked) (k : ℕ) (closed : Bool) (close : Close) → k ≡ length mid.entries → IfRest close (λ e. IsFresh mid w e × NoneDivides (vectors_of mid.entries) (lead_of e.vector) × Fits mid e) →
-    OnRest close (λ e. (IsTrue closed ↔ IsClosed (vectors_of (mid.entries ++ e ∷ [])) w.task.kind w.task.i w.task.j) × ClosesChained (appended_by mid w.task e closed) w.task closed new) → Appends mid new w k closed
+fits_behind : (mid new : Held) (w : Worked) (k : ℕ) (closed : Bool) (close : Close) → k ≡ length mid.entries
+    → IfRest close (λ e. IsFresh mid w e × NoneDivides (vectors_of mid.entries) (lead_of e.vector) × Fits mid e) →
+    OnRest close (λ e. (IsTrue closed ↔ IsClosed (vectors_of (mid.entries ++ e ∷ [])) w.task.kind w.task.i w.task.j)
+    × ClosesChained (appended_by mid w.task e closed) w.task closed new) → Appends mid new w k closed
 fits_behind mid new w k closed (Covered by) n fits on = absurd on
 fits_behind mid new w k closed (Zero steps) n fits on = absurd on
-fits_behind mid new w k closed (Rest e) n (_, _, (few, _, _)) (_, chained) = record { number = n; entry = arc_value e; few = few; follows = follows (appended_by mid w.task (arc_value e) closed) new w.task closed chained }
+fits_behind mid new w k closed (Rest e) n (_, _, (few, _, _)) (_, chained) = record {
+  number = n;
+  entry = arc_value e;
+  few = few;
+  follows = follows (appended_by mid w.task (arc_value e) closed) new w.task closed chained;
+}
 
 is_appended : (mid new : Held) (w : Worked) (k : ℕ) (closed : Bool) → Commits mid w (Ok (done.Appended k closed)) new → Appends mid new w k closed
 is_appended mid new w k closed ((_, _, fits), n, on) = fits_behind mid new w k closed w.close n fits on
 
-module _ (mid new : Held) (w : Worked) (f : Committed) (k : ℕ) (closed : Bool) (leads : List Term) (stale : Bool) (b : IsBook mid) (now : IsBook new) (due : IsWorkDue mid leads w.task stale) (g : f ≡ done.Appended k closed) (c : Commits mid w (Ok f) new) where
+module _ (mid new : Held) (w : Worked) (f : Committed) (k : ℕ) (closed : Bool) (leads : List Term) (stale : Bool) (b : IsBook mid) (now : IsBook new)
+    (due : IsWorkDue mid leads w.task stale) (g : f ≡ done.Appended k closed) (c : Commits mid w (Ok f) new) where
   appends : Appends mid new w k closed
   appends = is_appended mid new w k closed (subst (λ (x : Committed). Commits mid w (Ok x) new) g c)
 
   pub broken_round : LacksMemory mid new
   broken_round = broken_longer mid new w.task b due.hand now appends.entry closed appends.few appends.follows
 
-  pub appended_round : (more : List Term) (lead : Term) → lead ≡ lead_at (vectors_of new.entries) k → more ≡ leads ++ lead ∷ [] → LeadsOn mid.source mid stale new more true
-  appended_round more lead is all = longer_on mid new w.task b due.hand now appends.entry closed appends.few appends.follows leads more lead k stale due appends.number is all
+  pub appended_round : (more : List Term) (lead : Term) → lead ≡ lead_at (vectors_of new.entries) k → more ≡ leads ++ lead ∷ []
+      → LeadsOn mid.source mid stale new more true
+  appended_round more lead is all = longer_on mid new w.task b due.hand now appends.entry closed appends.few appends.follows leads more lead k stale due
+      appends.number is all

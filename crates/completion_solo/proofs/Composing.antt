@@ -24,7 +24,8 @@ pub broken_on : (a b c : Held) → Continues a b → b.seal ≡ a.seal → Lacks
 broken_on a b c x s (y, free, t) = (continues_on a b c x y, free, t ∙ s)
 
 -- a round that began with the task taken
-pub round_on : {E : Type 0} → (p : Presented) (old mid new : Held) (t : Task) (stale : Bool) (r : Result Round E) (leads : List Term) → Took old mid t → Rounds p mid stale r new leads → Rounds p old stale r new leads
+pub round_on : {E : Type 0} → (p : Presented) (old mid new : Held) (t : Task) (stale : Bool) (r : Result Round E) (leads : List Term) → Took old mid t
+    → Rounds p mid stale r new leads → Rounds p old stale r new leads
 round_on p old mid new t stale (Ok (Ended end)) leads k h = end_on p old mid new end k.continues h
 round_on p old mid new t stale (Ok (GoesOn again)) leads k (c, seal, ready, less) =
     let same = left_same old mid stale k.entries k.weighs in
@@ -37,12 +38,23 @@ pub record IsRunning (p : Presented) (start now : Held) (leads : List Term) (sta
   pub seal : now.seal ≡ start.seal
   pub ready : IsReady p now leads stale
 
-pub runs_on : (p : Presented) (start old new : Held) (before leads : List Term) (stale again : Bool) → IsRunning p start old before stale → LeadsOn p old stale new leads again → IsRunning p start new leads again
-runs_on p start old new before leads stale again r (c, seal, ready, less) = record { continues = continues_on start old new r.continues c; seal = seal ∙ r.seal; ready = ready }
+pub runs_on : (p : Presented) (start old new : Held) (before leads : List Term) (stale again : Bool) → IsRunning p start old before stale
+    → LeadsOn p old stale new leads again → IsRunning p start new leads again
+runs_on p start old new before leads stale again r (c, seal, ready, less) = record {
+  continues = continues_on start old new r.continues c;
+  seal = seal ∙ r.seal;
+  ready = ready;
+}
 
 -- the task that was taken is due
-pub due_now : (p : Presented) (old mid : Held) (t : Task) (leads : List Term) (stale : Bool) → Took old mid t → IsReady p old leads stale → IsWorkDue mid leads t stale
-due_now p old mid t leads stale k ready = record { hand = k.hand; are_leads = subst (λ (es : List BasisEntry). AreLeads (vectors_of es) leads) (sym k.entries) ready.are_leads; hard = λ s. k.hard (ready.hard s) }
+pub due_now : (p : Presented) (old mid : Held) (t : Task) (leads : List Term) (stale : Bool) → Took old mid t → IsReady p old leads stale
+    → IsWorkDue mid leads t stale
+due_now p old mid t leads stale k ready = record {
+  hand = k.hand;
+  are_leads =
+      subst (λ (es : List BasisEntry). AreLeads (vectors_of es) leads) (sym k.entries) ready.are_leads;
+  hard = λ s. k.hard (ready.hard s);
+}
 
 pub none_taken_now : (old mid : Held) → TakesTask old None mid → mid ≡ old
 none_taken_now old mid (is, (none, tasks)) = is ∙ ap (λ (z : Table). record old { tasks = z }) tasks

@@ -29,9 +29,15 @@ all_on P Q [] f h = tt
 all_on P Q (x ∷ xs) f h = (f x h.0, all_on P Q xs f h.1)
 
 listed_more : (tasks : Table) (n : ℕ) (us : List Task) → AllByRecursion (IsListed tasks n) us → AllByRecursion (IsListed tasks (suc n)) us
-listed_more tasks n us h = all_on (IsListed tasks n) (IsListed tasks (suc n)) us (λ u k. record { task = k.task; below = let b = k.below in omega (arith, b); closed = k.closed }) h
+listed_more tasks n us h = all_on (IsListed tasks n) (IsListed tasks (suc n)) us (λ u k. record {
+  task = k.task;
+  below = let b = k.below
+      in omega (arith, b);
+  closed = k.closed;
+}) h
 
-sum_more : (tasks : Table) (n : ℕ) → n < length tasks.states → sum_by closed_once (take (suc n) tasks.states) ≡ sum_by closed_once (take n tasks.states) + closed_once (state_at tasks.states n)
+sum_more : (tasks : Table) (n : ℕ) → n < length tasks.states → sum_by closed_once (take (suc n) tasks.states)
+    ≡ sum_by closed_once (take n tasks.states) + closed_once (state_at tasks.states n)
 sum_more tasks n lt =
     let one : suc n ≡ n + 1 = omega arith in
     ap (λ m. sum_by closed_once (take m tasks.states)) one
@@ -49,8 +55,15 @@ list_more tasks n h lt l = elim (either (is_closed_later (state_at tasks.states 
       record {
         list = t.0 ∷ l.list;
         count = omega (arith, more, one, c);
-        apart = (all_on (IsListed tasks n) (λ u. u ≢ t.0) l.list (λ u k e. let b = k.below in let m : number_of u ≡ number_of t.0 = ap number_of e in omega (arith, b, m, q)) l.each, l.apart);
-        each = (record { task = t.1; below = omega (arith, q); closed = ap (λ m. is_closed_later (state_at tasks.states m)) q ∙ yes_it }, listed_more tasks n l.list l.each);
+        apart = (
+          all_on (IsListed tasks n) (λ u. u ≢ t.0) l.list (λ u k e. let b = k.below in let m : number_of u ≡ number_of t.0 = ap number_of e
+              in omega (arith, b, m, q)) l.each,
+          l.apart,
+        );
+        each = (
+          record { task = t.1; below = omega (arith, q); closed = ap (λ m. is_closed_later (state_at tasks.states m)) q ∙ yes_it },
+          listed_more tasks n l.list l.each,
+        );
       }
   | inr no_it ↦
       let more = sum_more tasks n lt in
@@ -81,5 +94,6 @@ closed_ones tasks h =
       list = l.list;
       count = l.count ∙ ap (sum_by closed_once) (take_whole tasks.states);
       apart = l.apart;
-      each = all_on (IsListed tasks (length tasks.states)) (λ u. IsTask tasks.count u × (is_closed_later (state_of tasks u) ≡ true)) l.list (λ u k. (k.task, k.closed)) l.each;
+      each = all_on (IsListed tasks (length tasks.states)) (λ u. IsTask tasks.count u
+          × (is_closed_later (state_of tasks u) ≡ true)) l.list (λ u k. (k.task, k.closed)) l.each;
     }

@@ -55,7 +55,8 @@ truly : (h : Held) → IsBook h → (t : Task) → IsTaskOf h.entries t → is_u
 truly h b t k c = b.truly t (task_in_log h t k) c k
 
 closed_before : (h : Held) → IsBook h → (t : Task) → IsFirstUnclosed h t → AreClosedBefore h.limits.order h.entries t
-closed_before h b t first u k goes = truly h b u k (first.before u (task_in h u b (task_in_log h u k)) (subst (λ (o : Order). Before o (vectors_of h.entries) u t) (sym b.order) goes))
+closed_before h b t first u k goes = truly h b u k (first.before u (task_in h u b (task_in_log h u k))
+    (subst (λ (o : Order). Before o (vectors_of h.entries) u t) (sym b.order) goes))
 
 unclosed_task : (h : Held) → IsBook h → (t : Task) → IsFirstUnclosed h t → IsTaskOf h.entries t
 unclosed_task h b t first = task_of h b t (task_out h t b first.task) (unclosed_not_never (state_of h.tasks t) first.is)
@@ -69,7 +70,8 @@ unsealed h b t first = no_seal h t h.seal first b.seal
 
 -- ---- sealed
 
-sealed_here : (h : Held) (s : Seal) → IsBook h → NoneTaken h → NoneIs Unclosed h.tasks → s ≡ record { source = h.source; entries = h.entries } → EndsWith h.source h Sealed (record h { seal = Some s })
+sealed_here : (h : Held) (s : Seal) → IsBook h → NoneTaken h → NoneIs Unclosed h.tasks → s ≡ record { source = h.source; entries = h.entries }
+    → EndsWith h.source h Sealed (record h { seal = Some s })
 sealed_here h s b free none is = (
   record { source = refl; limits = refl; base = refl; more = []; entries = sym (append-nil h.entries); closed = λ t k c. c; commits = omega arith },
   free,
@@ -96,7 +98,8 @@ later_not_never Hard e = cc
 later_not_never Closed e = refl
 later_not_never Never e = cc
 
-pub ends_spent : (p : Presented) (h : Held) (t : Task) → IsBook h → h.source ≡ p → NoneTaken h → IsFirstUnclosed h t → h.limits.budget ≡ Some h.commits → EndsWith p h (Spent h.commits t) h
+pub ends_spent : (p : Presented) (h : Held) (t : Task) → IsBook h → h.source ≡ p → NoneTaken h → IsFirstUnclosed h t → h.limits.budget ≡ Some h.commits
+    → EndsWith p h (Spent h.commits t) h
 ends_spent p h t b source free first budget = (
   continues_still h,
   free,
@@ -114,8 +117,12 @@ ends_spent p h t b source free first budget = (
         let task = task_out h u b q.0 in
         let never = later_not_never (state_of h.tasks u) q.1 in
         let shut = later_unclosed (state_of h.tasks u) q.1 in
-        let of = task_of h b u task never in
-        (of, (λ e. not_both (is_unclosed (state_of h.tasks u)) (ap (λ (z : Task). is_unclosed (state_of h.tasks z)) e ∙ first.is) shut), b.truly u task shut of, not_at_start h b u task never)) ones.each;
+        let of = task_of h b u task never in (
+          of,
+          (λ e. not_both (is_unclosed (state_of h.tasks u)) (ap (λ (z : Task). is_unclosed (state_of h.tasks z)) e ∙ first.is) shut),
+          b.truly u task shut of,
+          not_at_start h b u task never,
+        )) ones.each;
     count =
         let c = b.commits in
         let n = ones.count in
@@ -148,7 +155,8 @@ module _ (h : Held) (b : IsBook h) (free : NoneTaken h) (none : NoneIs OpenOnes 
     | inr n ↦ inl (truly h b u k n)
   ]
 
-  pub ends_stopped : (p : Presented) (t : Task) (stop : Stop) → IsWithinBudget h → IsFirstUnclosed h t → StopsAt h.entries t stop → EndsWith p h (Stopped t stop) h
+  pub ends_stopped : (p : Presented) (t : Task) (stop : Stop) → IsWithinBudget h → IsFirstUnclosed h t → StopsAt h.entries t stop
+      → EndsWith p h (Stopped t stop) h
   ends_stopped p t stop budget first stops = (
     continues_still h,
     free,
@@ -163,20 +171,24 @@ module _ (h : Held) (b : IsBook h) (free : NoneTaken h) (none : NoneIs OpenOnes 
 
 -- ---- full
 
-on_rest : (p : Presented) (b : List (List Term)) (t : Task) (close : Close) (P : BasisEntry → Type 0) → ClosesAs p b t close → OnRest close P → (e : BasisEntry) × LeavesRest p b t e × P e
+on_rest : (p : Presented) (b : List (List Term)) (t : Task) (close : Close) (P : BasisEntry → Type 0) → ClosesAs p b t close → OnRest close P
+    → (e : BasisEntry) × LeavesRest p b t e × P e
 on_rest p b t (Covered by) P c h = absurd h
 on_rest p b t (Zero steps) P c h = absurd h
 on_rest p b t (Rest e) P c h = (arc_value e, c, h)
 
 module _ (h : Held) (w : Worked) (b : IsBook h) (hand : IsInHand h w.task) where
   stranger : (k : ℕ) → AllThere h.entries w.used → ClosesAs h.source (vectors_of h.entries) w.task w.close →
-      IsStranger h.entries w.used k ⊎ ((AllThere h.entries w.used × OnRest w.close (λ e. (e.source ≢ h.source) × (k ≡ length h.entries))) ⊎ OnRest w.close (λ e. IsFresh h w e × IsLeadDivisor h.entries e k)) → ⊥
+      IsStranger h.entries w.used k ⊎ ((AllThere h.entries w.used × OnRest w.close (λ e. (e.source ≢ h.source) × (k ≡ length h.entries)))
+      ⊎ OnRest w.close (λ e. IsFresh h w e × IsLeadDivisor h.entries e k)) → ⊥
   stranger k there closes (inl s) = s.differs (there s.place s.one s.found)
-  stranger k there closes (inr (inl (_, on))) = by (on_rest h.source (vectors_of h.entries) w.task w.close (λ e. (e.source ≢ h.source) × (k ≡ length h.entries)) closes on)
+  stranger k there closes (inr (inl (_, on))) = by (on_rest h.source (vectors_of h.entries) w.task w.close (λ e. (e.source ≢ h.source)
+      × (k ≡ length h.entries)) closes on)
     where
       by : (e : BasisEntry) × LeavesRest h.source (vectors_of h.entries) w.task e × ((e.source ≢ h.source) × (k ≡ length h.entries)) → ⊥
       by (e, leaves, (ne, _)) = ne leaves.entry.source
-  stranger k there closes (inr (inr on)) = by (on_rest h.source (vectors_of h.entries) w.task w.close (λ e. IsFresh h w e × IsLeadDivisor h.entries e k) closes on)
+  stranger k there closes (inr (inr on)) = by (on_rest h.source (vectors_of h.entries) w.task w.close (λ e. IsFresh h w e
+      × IsLeadDivisor h.entries e k) closes on)
     where
       by : (e : BasisEntry) × LeavesRest h.source (vectors_of h.entries) w.task e × (IsFresh h w e × IsLeadDivisor h.entries e k) → ⊥
       by (e, leaves, (_, divisor)) =
@@ -184,16 +196,22 @@ module _ (h : Held) (w : Worked) (b : IsBook h) (hand : IsInHand h w.task) where
           let n = divisor.within in
           undivided h.source (vectors_of h.entries) w.task e (are_entries h.entries b.lawful.entries) leaves k (omega (arith, l, n)) divisor.divides
 
-  stale : (front now : ℕ) → w.front ≡ length h.entries → ClosesAs h.source (vectors_of h.entries) w.task w.close → OnRest w.close (λ e. (e.source ≡ h.source) × (front ≡ w.front) × (now ≡ length h.entries) × (front < now)) → ⊥
-  stale front now whole closes on = by (on_rest h.source (vectors_of h.entries) w.task w.close (λ e. (e.source ≡ h.source) × (front ≡ w.front) × (now ≡ length h.entries) × (front < now)) closes on)
+  stale : (front now : ℕ) → w.front ≡ length h.entries → ClosesAs h.source (vectors_of h.entries) w.task w.close
+      → OnRest w.close (λ e. (e.source ≡ h.source) × (front ≡ w.front) × (now ≡ length h.entries) × (front < now)) → ⊥
+  stale front now whole closes on = by (on_rest h.source (vectors_of h.entries) w.task w.close (λ e. (e.source ≡ h.source) × (front ≡ w.front)
+      × (now ≡ length h.entries) × (front < now)) closes on)
     where
-      by : (e : BasisEntry) × LeavesRest h.source (vectors_of h.entries) w.task e × ((e.source ≡ h.source) × (front ≡ w.front) × (now ≡ length h.entries) × (front < now)) → ⊥
+      by : (e : BasisEntry) × LeavesRest h.source (vectors_of h.entries) w.task e × ((e.source ≡ h.source) × (front ≡ w.front) × (now ≡ length h.entries)
+          × (front < now)) → ⊥
       by (e, _, (_, f, n, lt)) = omega (arith, whole, f, n, lt)
 
-  no_room : (m : Measure) (c : ℕ) → ClosesAs h.source (vectors_of h.entries) w.task w.close → OnRest w.close (λ e. IsFresh h w e × NoneDivides (vectors_of h.entries) (lead_of e.vector) × Passes h e m c) → HasNoRoomFor h w.task m c
-  no_room m c closes on = by (on_rest h.source (vectors_of h.entries) w.task w.close (λ e. IsFresh h w e × NoneDivides (vectors_of h.entries) (lead_of e.vector) × Passes h e m c) closes on)
+  no_room : (m : Measure) (c : ℕ) → ClosesAs h.source (vectors_of h.entries) w.task w.close
+      → OnRest w.close (λ e. IsFresh h w e × NoneDivides (vectors_of h.entries) (lead_of e.vector) × Passes h e m c) → HasNoRoomFor h w.task m c
+  no_room m c closes on = by (on_rest h.source (vectors_of h.entries) w.task w.close (λ e. IsFresh h w e × NoneDivides (vectors_of h.entries) (lead_of e.vector)
+      × Passes h e m c) closes on)
     where
-      by : (e : BasisEntry) × LeavesRest h.source (vectors_of h.entries) w.task e × (IsFresh h w e × NoneDivides (vectors_of h.entries) (lead_of e.vector) × Passes h e m c) → HasNoRoomFor h w.task m c
+      by : (e : BasisEntry) × LeavesRest h.source (vectors_of h.entries) w.task e × (IsFresh h w e × NoneDivides (vectors_of h.entries) (lead_of e.vector)
+          × Passes h e m c) → HasNoRoomFor h w.task m c
       by (e, leaves, (_, _, passes)) = record { entry = e; rest = leaves; passes = passes }
 
   -- a commit of the work by the whole log is refused for want of room alone
@@ -209,13 +227,23 @@ passes_first h e Entries c p = p
 passes_first h e Terms c p = p
 passes_first h e Steps c p = p
 
-full_here : (h : Held) (t : Task) (m : Measure) (c : ℕ) → IsBook h → IsInHand h t → HasNoRoomFor h t m c → HasNoRoom (with_state h t Open) m c × IsFull h.source h.limits h.entries m c
+full_here : (h : Held) (t : Task) (m : Measure) (c : ℕ) → IsBook h → IsInHand h t → HasNoRoomFor h t m c
+    → HasNoRoom (with_state h t Open) m c × IsFull h.source h.limits h.entries m c
 full_here h t m c b hand n = (
-  record { budget = hand.budget; task = t; first = hand.first; is_task = hand.pair; entry = n.entry; rest = n.rest; passes = passes_first h n.entry m c n.passes },
+  record {
+    budget = hand.budget;
+    task = t;
+    first = hand.first;
+    is_task = hand.pair;
+    entry = n.entry;
+    rest = n.rest;
+    passes = passes_first h n.entry m c n.passes;
+  },
   record { task = t; is_task = hand.pair; entry = n.entry; rest = n.rest; passes = passes_first h n.entry m c n.passes },
 )
 
-pub ends_full : (h new : Held) (t : Task) (m : Measure) (c : ℕ) → IsBook h → IsInHand h t → HasNoRoomFor h t m c → GivesBack h t false new → EndsWith h.source h (Full m c) new
+pub ends_full : (h new : Held) (t : Task) (m : Measure) (c : ℕ) → IsBook h → IsInHand h t → HasNoRoomFor h t m c → GivesBack h t false new
+    → EndsWith h.source h (Full m c) new
 ends_full h new t m c b hand n gives = subst (λ (z : Held). EndsWith h.source h (Full m c) z) (sym (gives.taken hand.taken)) (
   continues_given h t b hand Open,
   none_given h t b hand Open refl,
@@ -239,7 +267,8 @@ taken_reopened Hard = refl
 taken_reopened Closed = refl
 taken_reopened Never = refl
 
-opened_here : (p : Presented) (h : Held) (leads : List Term) → IsBook h → h.source ≡ p → NoneTaken h → AreLeads (vectors_of h.entries) leads → LeadsOn p h true (record h { tasks = reopen HardOnes h.tasks }) leads false
+opened_here : (p : Presented) (h : Held) (leads : List Term) → IsBook h → h.source ≡ p → NoneTaken h → AreLeads (vectors_of h.entries) leads
+    → LeadsOn p h true (record h { tasks = reopen HardOnes h.tasks }) leads false
 opened_here p h leads b source free are = (
   record {
     source = refl;
@@ -255,10 +284,12 @@ opened_here p h leads b source free are = (
     source = source;
     none_taken = λ t k. ap is_taken (state_reopened HardOnes h.tasks.states (number_of t)) ∙ (taken_reopened (state_of h.tasks t) ∙ free t k);
     are_leads = are;
-    hard = λ s t k is. absurd (not_both (is_hard (reopened HardOnes (state_of h.tasks t))) (sym (ap is_hard (state_reopened HardOnes h.tasks.states (number_of t))) ∙ is) (none_hard (state_of h.tasks t)));
+    hard = λ s t k is. absurd (not_both (is_hard (reopened HardOnes (state_of h.tasks t)))
+        (sym (ap is_hard (state_reopened HardOnes h.tasks.states (number_of t))) ∙ is) (none_hard (state_of h.tasks t)));
   },
   left_opened h (record h { tasks = reopen HardOnes h.tasks }) (book_reopened h HardOnes b) refl,
 )
 
-pub opened_again : (p : Presented) (h new : Held) (leads : List Term) → IsBook h → h.source ≡ p → NoneTaken h → AreLeads (vectors_of h.entries) leads → new ≡ record h { tasks = reopen HardOnes h.tasks } → LeadsOn p h true new leads false
+pub opened_again : (p : Presented) (h new : Held) (leads : List Term) → IsBook h → h.source ≡ p → NoneTaken h → AreLeads (vectors_of h.entries) leads
+    → new ≡ record h { tasks = reopen HardOnes h.tasks } → LeadsOn p h true new leads false
 opened_again p h new leads b source free are is = subst (λ (z : Held). LeadsOn p h true z leads false) (sym is) (opened_here p h leads b source free are)

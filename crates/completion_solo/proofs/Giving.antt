@@ -18,7 +18,8 @@ use Rattle.completion_solo.proofs.Numbers.{read_put, not_both}
 use Rattle.completion_solo.proofs.Weighing.{taken_weight, weigh_put, left_lower}
 
 module _ (mid : Held) (t : Task) (b : IsBook mid) (hand : IsInHand mid t) where
-  read : (s : TaskState) (u : Task) → IsTask (length mid.entries) u → ((u ≡ t) × (state_of (put mid.tasks t s) u ≡ s)) ⊎ ((u ≢ t) × (state_of (put mid.tasks t s) u ≡ state_of mid.tasks u))
+  read : (s : TaskState) (u : Task) → IsTask (length mid.entries) u → ((u ≡ t) × (state_of (put mid.tasks t s) u ≡ s))
+      ⊎ ((u ≢ t) × (state_of (put mid.tasks t s) u ≡ state_of mid.tasks u))
   read s u k = read_put mid.tasks t u s b.table (task_in mid t b hand.taken.0) (task_in mid u b k)
 
   pub continues_given : (s : TaskState) → Continues mid (with_state mid t s)
@@ -29,7 +30,8 @@ module _ (mid : Held) (t : Task) (b : IsBook mid) (hand : IsInHand mid t) where
     more = [];
     entries = sym (append-nil mid.entries);
     closed = λ u k c. elim (read s u k) [
-      | inl (e, x) ↦ absurd (not_both (is_unclosed (state_of mid.tasks u)) (ap (λ (z : Task). is_unclosed (state_of mid.tasks z)) e ∙ taken_unclosed (state_of mid.tasks t) hand.taken.1) c)
+      | inl (e, x) ↦ absurd (not_both (is_unclosed (state_of mid.tasks u)) (ap (λ (z : Task). is_unclosed (state_of mid.tasks z)) e
+          ∙ taken_unclosed (state_of mid.tasks t) hand.taken.1) c)
       | inr (ne, x) ↦ ap is_unclosed x ∙ c
     ];
     commits = omega arith;
@@ -50,7 +52,8 @@ module _ (mid : Held) (t : Task) (b : IsBook mid) (hand : IsInHand mid t) where
       let o = taken_weight (state_of mid.tasks t) hand.taken.1 in
       omega (arith, w, o)
 
-  pub given_hard : (p : Presented) (new : Held) (leads : List Term) (stop : Stop) (stale : Bool) → mid.source ≡ p → IsWorkDue mid leads t stale → StopsAt mid.entries t stop → GivesBack mid t true new → LeadsOn p mid stale new leads stale
+  pub given_hard : (p : Presented) (new : Held) (leads : List Term) (stop : Stop) (stale : Bool) → mid.source ≡ p → IsWorkDue mid leads t stale
+      → StopsAt mid.entries t stop → GivesBack mid t true new → LeadsOn p mid stale new leads stale
   given_hard p new leads stop stale source due here gives = subst (λ (z : Held). LeadsOn p mid stale z leads stale) (sym (gives.taken hand.taken)) (
     continues_given Hard,
     refl,

@@ -28,7 +28,8 @@ half (suc j) r h = elim (at_most r (j + j)) [
   ]
 ]
 
-task_in_row : (j below n : ℕ) → below ≡ tasks_below j → (i : ℕ) → i < j → (n ≡ below + (i + i)) ⊎ (n ≡ below + (i + i + 1)) → (t : Task) × IsTask (suc j) t × (number_of t ≡ n)
+task_in_row : (j below n : ℕ) → below ≡ tasks_below j → (i : ℕ) → i < j → (n ≡ below + (i + i)) ⊎ (n ≡ below + (i + i + 1))
+    → (t : Task) × IsTask (suc j) t × (number_of t ≡ n)
 task_in_row j below n e i lt (inl q) = (record { i = i; j = j; kind = G }, (lt, omega arith), omega (arith, e, q))
 task_in_row j below n e i lt (inr q) = (record { i = i; j = j; kind = S }, (lt, omega arith), omega (arith, e, q))
 

@@ -1,5 +1,6 @@
 -- What the work of a task by a whole log can come to: a rest that no lead divides, or a limit, and never both.
-use Rattle.std.proofs.Common.{ℕ, zero, suc, ◌<◌, ◌≡◌, ◌≢◌, inl, inr, arith, refl, sym, ap, ◌∙◌, List, [], ◌∷◌, length, Bool, true, false, subst, MatchBool, ℤ, pos, negsuc, ◌*ℤ◌}
+use Rattle.std.proofs.Common.{ℕ, zero, suc, ◌<◌, ◌≡◌, ◌≢◌, inl, inr, arith, refl, sym, ap, ◌∙◌, List, [], ◌∷◌, length, Bool, true, false, subst, MatchBool, ℤ}
+use Rattle.std.proofs.Common.{pos, negsuc, ◌*ℤ◌}
 use borrow.Author.Differences.{ints}
 use Rattle.std.specs.Prelude.{◌<ℤ◌, ◌≤ℤ◌, Err}
 use Rattle.formal_sums.specs.FormalSum.{scale}
@@ -48,7 +49,8 @@ stops_or_made step P f v (Steep d) h made = h
 
 module _ (b : List (List Term)) (entries : AreEntries b) (t : Task) (pair : IsPair b t.i t.j) where
   -- the sums that the pair's vector is made of, over other names of its steps
-  made_by : (v : List Term) (is : IsPairVector t.kind b t.i t.j v) (first second : Step) → (is.first ≡ first) × (is.second ≡ second) → BothAreMade b first second v
+  made_by : (v : List Term) (is : IsPairVector t.kind b t.i t.j v) (first second : Step) → (is.first ≡ first) × (is.second ≡ second)
+      → BothAreMade b first second v
   made_by v is first second (one, two) = subst (λ (s : Step). BothAreMade b s second v) one (subst (λ (s : Step). BothAreMade b is.first s v) two is.made)
 
   both_or_stop : (v : List Term) (first second : Step) (stop : Stop) → BothAreMade b first second v → BothStop b first second stop → ⊥
@@ -56,7 +58,8 @@ module _ (b : List (List Term)) (entries : AreEntries b) (t : Task) (pair : IsPa
   both_or_stop v first second stop (one, two) (inr (made, h)) = stops_or_made 0 _ _ v stop h two
 
   vector_or_stop : (v : List Term) (stop : Stop) → IsPairVector t.kind b t.i t.j v → StopsPair t.kind b t.i t.j stop → ⊥
-  vector_or_stop v stop is h = both_or_stop v h.first h.second stop (made_by v is h.first h.second (same_steps b entries t.kind t.i t.j pair is.first is.second h.first h.second is.steps h.steps)) h.stops
+  vector_or_stop v stop is h = both_or_stop v h.first h.second stop (made_by v is h.first h.second
+      (same_steps b entries t.kind t.i t.j pair is.first is.second h.first h.second is.steps h.steps)) h.stops
 
   vector_or_none : (v : List Term) (stop : Stop) → IsPairVector t.kind b t.i t.j v → MakesPair t.kind b t.i t.j (Err (of_pair.Stop stop)) → ⊥
   vector_or_none v (Steep d) is (much, same) = let r = is.reach in omega (arith, much, same, r)
@@ -65,14 +68,16 @@ module _ (b : List (List Term)) (entries : AreEntries b) (t : Task) (pair : IsPa
   vector_or_none v Deep is h = h
 
   one_vector : (v w : List Term) → IsPairVector t.kind b t.i t.j v → IsPairVector t.kind b t.i t.j w → v ≡ w
-  one_vector v w is h = by (made_by v is h.first h.second (same_steps b entries t.kind t.i t.j pair is.first is.second h.first h.second is.steps h.steps)) h.made
+  one_vector v w is h = by (made_by v is h.first h.second (same_steps b entries t.kind t.i t.j pair is.first is.second h.first h.second is.steps
+      h.steps)) h.made
     where
       by : BothAreMade b h.first h.second v → BothAreMade b h.first h.second w → v ≡ w
       by (_, m) (_, n) = same_vector v w m.vector.sparse n.vector.sparse (λ x. m.is x ∙ sym (n.is x))
 
   reduces_or_halts : (steps : List Step) (w : List Term) (stop : Stop) → Reduces b t steps w → Halts b t stop → ⊥
   reduces_or_halts steps w stop r (inl h) = vector_or_none r.vector stop r.pair h
-  reduces_or_halts steps w stop r (inr (v, is, h)) = rest_or_stop b (coefficient_at v) w steps stop (subst (λ (u : List Term). IsRest b (coefficient_at u) w steps) (one_vector r.vector v r.pair is) r.rest) h
+  reduces_or_halts steps w stop r (inr (v, is, h)) = rest_or_stop b (coefficient_at v) w steps stop
+      (subst (λ (u : List Term). IsRest b (coefficient_at u) w steps) (one_vector r.vector v r.pair is) r.rest) h
 
   pub closes_or_stops : (p : Presented) (close : Close) (stop : Stop) → ClosesAs p b t close → Stops b t stop → ⊥
   closes_or_stops p (Covered by) stop (kind, found) (un, h) = un kind by found.0 found.1
@@ -88,7 +93,8 @@ none_below a (pos l) (negsuc q) n h e = absurd (omega (arith, ints, e, h, n))
 none_below a (negsuc l) q n h e = absurd (omega (arith, ints, n, h))
 
 -- the coefficient of the rest at the lead of its entry
-at_lead : (negated : Bool) (w v : List Term) → IsEntry v → MatchBool negated (sum_of v ≡ scale (negsuc 0) (sum_of w)) (v ≡ w) → pos 0 ≤ℤ coefficient_at w (lead_of v).at → (coefficient_at w (lead_of v).at ≡ (lead_of v).k) × (pos 0 <ℤ (lead_of v).k)
+at_lead : (negated : Bool) (w v : List Term) → IsEntry v → MatchBool negated (sum_of v ≡ scale (negsuc 0) (sum_of w)) (v ≡ w)
+    → pos 0 ≤ℤ coefficient_at w (lead_of v).at → (coefficient_at w (lead_of v).at ≡ (lead_of v).k) × (pos 0 <ℤ (lead_of v).k)
 at_lead negated w [] is e from = let wrong = is.is in absurd cc
 at_lead negated w (t ∷ v) is e from = (by negated e, positive)
   where
@@ -105,11 +111,13 @@ at_lead negated w (t ∷ v) is e from = (by negated e, positive)
     by true e = let turns = at_turned w (t ∷ v) e t.at in absurd (omega (arith, ints, turns, own, positive, from))
     by false e = sym (ap (λ (u : List Term). coefficient_at u t.at) e) ∙ own
 
-entry_of : (negated : Bool) (w v : List Term) → IsVector w → w ≢ [] → has_negative_lead w ≡ negated → MatchBool negated (sum_of v ≡ scale (negsuc 0) (sum_of w)) (v ≡ w) → IsEntry v
+entry_of : (negated : Bool) (w v : List Term) → IsVector w → w ≢ [] → has_negative_lead w ≡ negated
+    → MatchBool negated (sum_of v ≡ scale (negsuc 0) (sum_of w)) (v ≡ w) → IsEntry v
 entry_of true w v vector some sign e = turned_entry w v vector some sign e
 entry_of false w v vector some sign e = subst IsEntry (sym e) (positive_entry w vector some sign)
 
-pub undivided : (p : Presented) (b : List (List Term)) (t : Task) (e : BasisEntry) → AreEntries b → LeavesRest p b t e → (m : ℕ) → m < length b → DividesLead (lead_at b m) (lead_of e.vector) → ⊥
+pub undivided : (p : Presented) (b : List (List Term)) (t : Task) (e : BasisEntry) → AreEntries b → LeavesRest p b t e → (m : ℕ) → m < length b
+    → DividesLead (lead_at b m) (lead_of e.vector) → ⊥
 undivided p b t e entries r m lt (reduces, (factor, divides)) =
     let entry = entry_of (has_negative_lead r.rest) r.rest e.vector r.reduces.rest.vector r.some refl r.entry.vector in
     let place = (lead_of e.vector).at in

@@ -41,7 +41,8 @@ or_false false b h = refl
 
 same_component : (k : PairKind) (d e : Term) → settled_of k (settled_by d e) ≡ false → d.at.c ≡ e.at.c
 same_component S d e h = eqb-true d.at.c e.at.c (not_false (nat_eq d.at.c e.at.c) h)
-same_component G d e h = eqb-true d.at.c e.at.c (not_false (nat_eq d.at.c e.at.c) (or_false (not (nat_eq d.at.c e.at.c)) (divides_number d.k e.k || divides_number e.k d.k) h))
+same_component G d e h = eqb-true d.at.c e.at.c (not_false (nat_eq d.at.c e.at.c)
+    (or_false (not (nat_eq d.at.c e.at.c)) (divides_number d.k e.k || divides_number e.k d.k) h))
 
 -- they are tasks of the entries
 pub task_of : (h : Held) → IsBook h → (t : Task) → IsTask (length h.entries) t → is_never (state_of h.tasks t) ≡ false → IsTaskOf h.entries t
@@ -54,7 +55,8 @@ task_of h b t k n = record {
 pub not_at_start : (h : Held) → IsBook h → (t : Task) → IsTask (length h.entries) t → is_never (state_of h.tasks t) ≡ false → IsClosedAtStart h.entries t → ⊥
 not_at_start h b t k n start =
     let right = settled_right (vectors_of h.entries) (are_entries h.entries b.lawful.entries) t.kind t.i t.j (task_of h b t k n) in
-    not_both (settled_of t.kind (settled_by (lead_at (vectors_of h.entries) t.i) (lead_at (vectors_of h.entries) t.j))) (right.1 start) (sym (b.settled t k) ∙ n)
+    not_both (settled_of t.kind (settled_by (lead_at (vectors_of h.entries) t.i) (lead_at (vectors_of h.entries) t.j))) (right.1 start)
+    (sym (b.settled t k) ∙ n)
 
 pub unclosed_not_never : (s : TaskState) → is_unclosed s ≡ true → is_never s ≡ false
 unclosed_not_never Open e = refl
@@ -73,7 +75,8 @@ pub record Took (old mid : Held) (t : Task) : Type 0 where
   pub entries : mid.entries ≡ old.entries
   pub seal : mid.seal ≡ old.seal
 
-took_here : (old : Held) (t : Task) → IsBook old → NoneTaken old → IsWithinBudget old → IsLeast OpenOnes (vectors_of old.entries) old.tasks t → Took old (with_state old t Taken) t
+took_here : (old : Held) (t : Task) → IsBook old → NoneTaken old → IsWithinBudget old → IsLeast OpenOnes (vectors_of old.entries) old.tasks t
+    → Took old (with_state old t Taken) t
 took_here old t b none budget least = record {
   continues = record {
     source = refl;
@@ -82,7 +85,8 @@ took_here old t b none budget least = record {
     more = [];
     entries = sym (append-nil old.entries);
     closed = λ u k c. elim (read u (task_in old u b k)) [
-      | inl (e, s) ↦ absurd (not_both (is_unclosed (state_of old.tasks u)) (ap (λ (z : Task). is_unclosed (state_of old.tasks z)) e ∙ open_unclosed (state_of old.tasks t) least.is) c)
+      | inl (e, s) ↦ absurd (not_both (is_unclosed (state_of old.tasks u)) (ap (λ (z : Task). is_unclosed (state_of old.tasks z)) e
+          ∙ open_unclosed (state_of old.tasks t) least.is) c)
       | inr (ne, s) ↦ ap is_unclosed s ∙ c
     ];
     commits = omega arith;
@@ -109,14 +113,18 @@ took_here old t b none budget least = record {
     table : IsTable (put old.tasks t Taken)
     table = table_put old.tasks t Taken b.table
 
-    read : (u : Task) → IsTask old.tasks.count u → ((u ≡ t) × (state_of (put old.tasks t Taken) u ≡ Taken)) ⊎ ((u ≢ t) × (state_of (put old.tasks t Taken) u ≡ state_of old.tasks u))
+    read : (u : Task) → IsTask old.tasks.count u → ((u ≡ t) × (state_of (put old.tasks t Taken) u ≡ Taken))
+        ⊎ ((u ≢ t) × (state_of (put old.tasks t Taken) u ≡ state_of old.tasks u))
     read u k = read_put old.tasks t u Taken b.table least.task k
 
-    before : (u : Task) → IsTask old.tasks.count u → Before old.tasks.order (vectors_of old.entries) u t → is_open (state_of (put (put old.tasks t Taken) t Open) u) ≡ false
+    before : (u : Task) → IsTask old.tasks.count u → Before old.tasks.order (vectors_of old.entries) u t
+        → is_open (state_of (put (put old.tasks t Taken) t Open) u) ≡ false
     before u k goes = elim (read_put (put old.tasks t Taken) t u Open table least.task k) [
-      | inl (e, s) ↦ absurd (before_not_itself old.tasks.order (vectors_of old.entries) t (subst (λ (z : Task). Before old.tasks.order (vectors_of old.entries) z t) e goes))
+      | inl (e, s) ↦ absurd (before_not_itself old.tasks.order (vectors_of old.entries) t
+          (subst (λ (z : Task). Before old.tasks.order (vectors_of old.entries) z t) e goes))
       | inr (ne, s) ↦ ap is_open s ∙ elim (read u k) [ inl (e, x) ↦ absurd (ne e) | inr (x, y) ↦ ap is_open y ∙ least.before u k goes ]
     ]
 
 pub took : (old mid : Held) (t : Task) → IsBook old → NoneTaken old → IsWithinBudget old → TakesTask old (Some t) mid → Took old mid t
-took old mid t b none budget (is, (least, tasks)) = subst (λ (z : Held). Took old z t) (sym (is ∙ ap (λ (z : Table). record old { tasks = z }) tasks)) (took_here old t b none budget least)
+took old mid t b none budget (is, (least, tasks)) = subst (λ (z : Held). Took old z t) (sym (is ∙ ap (λ (z : Table). record old { tasks = z }) tasks))
+    (took_here old t b none budget least)

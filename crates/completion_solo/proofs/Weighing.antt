@@ -38,10 +38,13 @@ weigh_most [] = omega arith
 weigh_most (s ∷ ss) = let h = weigh_most ss in let c = sum_by-cons weight s ss in let d = one_weight s in omega (arith, h, c, d)
 
 -- a task's state is written
-pub weigh_put : (tasks : Table) (t : Task) (s : TaskState) → IsTable tasks → IsTask tasks.count t → sum_by weight (put tasks t s).states + weight (state_of tasks t) ≡ sum_by weight tasks.states + weight s
-weigh_put tasks t s h k = let w = number_within t tasks.count k in let r = h.states in sum_by-set weight tasks.states (number_of t) s Never (omega (arith, w, r))
+pub weigh_put : (tasks : Table) (t : Task) (s : TaskState) → IsTable tasks → IsTask tasks.count t
+    → sum_by weight (put tasks t s).states + weight (state_of tasks t) ≡ sum_by weight tasks.states + weight s
+weigh_put tasks t s h k = let w = number_within t tasks.count k in let r = h.states
+    in sum_by-set weight tasks.states (number_of t) s Never (omega (arith, w, r))
 
-each_lower : (xs ys : List TaskState) → length ys ≡ length xs → ((k : ℕ) → k < length xs → weight (state_at ys k) ≤ weight (state_at xs k)) → sum_by weight ys ≤ sum_by weight xs
+each_lower : (xs ys : List TaskState) → length ys ≡ length xs → ((k : ℕ) → k < length xs → weight (state_at ys k) ≤ weight (state_at xs k))
+    → sum_by weight ys ≤ sum_by weight xs
 each_lower [] [] e h = omega arith
 each_lower [] (y ∷ ys) e h = absurd (omega (arith, e))
 each_lower (x ∷ xs) [] e h = absurd (omega (arith, e))
@@ -53,7 +56,8 @@ each_lower (x ∷ xs) (y ∷ ys) e h =
     omega (arith, a, b, first, others)
 
 -- where no task weighs more, all of them don't
-pub lower : (old new : Table) → IsTable old → IsTable new → new.count ≡ old.count → ((u : Task) → IsTask old.count u → weight (state_of new u) ≤ weight (state_of old u)) → sum_by weight new.states ≤ sum_by weight old.states
+pub lower : (old new : Table) → IsTable old → IsTable new → new.count ≡ old.count
+    → ((u : Task) → IsTask old.count u → weight (state_of new u) ≤ weight (state_of old u)) → sum_by weight new.states ≤ sum_by weight old.states
 lower old new a b n h =
     let s = a.states in
     let r = b.states in

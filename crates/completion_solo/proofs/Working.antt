@@ -10,5 +10,7 @@ use Rattle.pair_book.specs.Books.{Held}
 use Rattle.pair_book.specs.Works.{Works}
 use Rattle.completion_solo.specs.Ends.{StopsAt}
 
-pub stops_here : (p : Presented) (list h : Held) (t : Task) (fault : WorkFault) (stop : TheStop) → list ≡ h → fault ≡ Stop stop → Works p list.entries t (Err fault) → StopsAt h.entries t stop
-stops_here p list h t fault stop same is works = subst (λ (x : Held). StopsAt x.entries t stop) same (subst (λ (f : WorkFault). Works p list.entries t (Err f)) is works)
+pub stops_here : (p : Presented) (list h : Held) (t : Task) (fault : WorkFault) (stop : TheStop) → list ≡ h → fault ≡ Stop stop
+    → Works p list.entries t (Err fault) → StopsAt h.entries t stop
+stops_here p list h t fault stop same is works = subst (λ (x : Held). StopsAt x.entries t stop) same
+    (subst (λ (f : WorkFault). Works p list.entries t (Err f)) is works)

@@ -52,8 +52,10 @@ AreApart (t ∷ ts) = AllByRecursion (λ u. u ≢ t) ts × AreApart ts
 -- with the entry e this measure is the first of entries, terms and recipe steps to pass its limit, and it reaches c
 abbrev pub PassesFirst : Limits → List BasisEntry → BasisEntry → Measure → ℕ → Type 0
 PassesFirst limits es e Entries c = (c ≡ length es + 1) × (limits.entries < c)
-PassesFirst limits es e Terms c = (length es + 1 ≤ limits.entries) × (c ≡ terms_of es + length e.vector) × (limits.terms < c)
-PassesFirst limits es e Steps c = (length es + 1 ≤ limits.entries) × (terms_of es + length e.vector ≤ limits.terms) × (c ≡ steps_of es + recipe_steps e.recipe) × (limits.steps < c)
+PassesFirst limits es e Terms c = (length es + 1 ≤ limits.entries) × (c ≡ terms_of es + length e.vector)
+    × (limits.terms < c)
+PassesFirst limits es e Steps c = (length es + 1 ≤ limits.entries) × (terms_of es + length e.vector ≤ limits.terms)
+    × (c ≡ steps_of es + recipe_steps e.recipe) × (limits.steps < c)
 
 -- t stops, each task before it is truly closed, and each other one is truly closed or stops
 pub record IsStopped (order : Order) (es : List BasisEntry) (t : Task) (stop : Stop) : Type 0 where
@@ -70,8 +72,8 @@ pub record IsFull (p : Presented) (limits : Limits) (es : List BasisEntry) (m : 
   pub rest : HasRest p es task entry
   pub passes : PassesFirst limits es entry m c
 
--- the budget is c, and c is no more than what commits can be for: the entries behind the generators, and the truly closed
--- tasks other than t that weren't closed from the start. Of these, so many different ones are listed
+-- the budget is c, and c is no more than what commits can be for: the entries behind the generators, and the truly
+-- closed tasks other than t that weren't closed from the start. Of these, so many different ones are listed
 pub record IsSpent (p : Presented) (limits : Limits) (es : List BasisEntry) (c : ℕ) (t : Task) : Type 0 where
   pub budget : limits.budget ≡ Some c
   pub task : IsTaskOf es t

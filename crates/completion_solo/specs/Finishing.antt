@@ -13,14 +13,16 @@ use Rattle.basis_entry.specs.Entries.{BasisEntry, vectors_of}
 use Rattle.pair_book.specs.Books.{Held}
 use Rattle.completion_solo.specs.Ends.{Ends, IsTaskOf, StopsAt, HasRest, PassesFirst}
 
--- what a completion keeps of a book: the old log begins the new one, what was closed stays closed, and commits don't fall
+-- what a completion keeps of a book: the old log begins the new one, what was closed stays closed, and commits don't
+-- fall
 pub record Continues (old new : Held) : Type 0 where
   pub source : new.source ≡ old.source
   pub limits : new.limits ≡ old.limits
   pub base : new.base ≡ old.base
   pub more : List BasisEntry
   pub entries : new.entries ≡ old.entries ++ more
-  pub closed : (t : Task) → IsTask (length old.entries) t → is_unclosed (state_of old.tasks t) ≡ false → is_unclosed (state_of new.tasks t) ≡ false
+  pub closed : (t : Task) → IsTask (length old.entries) t → is_unclosed (state_of old.tasks t) ≡ false
+      → is_unclosed (state_of new.tasks t) ≡ false
   pub commits : old.commits ≤ new.commits
 
 abbrev pub NoneTaken : Held → Type 0
@@ -40,7 +42,8 @@ pub record IsStuck (h : Held) (t : Task) (stop : Stop) : Type 0 where
   pub first : IsFirstUnclosed h t
   pub none_open : NoneIs OpenOnes h.tasks
   pub stops : StopsAt h.entries t stop
-  pub all : (u : Task) → IsTask (length h.entries) u → is_unclosed (state_of h.tasks u) ≡ true → (s : Stop) × StopsAt h.entries u s
+  pub all : (u : Task) → IsTask (length h.entries) u → is_unclosed (state_of h.tasks u) ≡ true
+      → (s : Stop) × StopsAt h.entries u s
 
 -- the least open task has a rest, for which there is no room
 pub record HasNoRoom (h : Held) (m : Measure) (c : ℕ) : Type 0 where
@@ -52,8 +55,8 @@ pub record HasNoRoom (h : Held) (m : Measure) (c : ℕ) : Type 0 where
   pub rest : HasRest h.source h.entries task entry
   pub passes : PassesFirst h.limits h.entries entry m c
 
--- what the book shows at an end: `Sealed` comes exactly where every task is closed, and of the others `Spent` exactly where
--- the commits equal the budget
+-- what the book shows at an end: `Sealed` comes exactly where every task is closed, and of the others `Spent` exactly
+-- where the commits equal the budget
 abbrev pub Shows : Held → End → Type 0
 Shows h Sealed = NoneIs Unclosed h.tasks × (h.seal ≡ Some (record { source = h.source; entries = h.entries }))
 Shows h (Stopped t stop) = IsStuck h t stop

@@ -1,5 +1,6 @@
 -- One round of a completion, and what is left to do.
-use Rattle.std.specs.Prelude.{◌≡◌, ◌≢◌, ◌<◌, ◌+◌, ◌-◌, ◌*◌, ℕ, List, Bool, true, false, cond, length, sum_by, Result, Ok, Err}
+use Rattle.std.specs.Prelude.{◌≡◌, ◌≢◌, ◌<◌, ◌+◌, ◌-◌, ◌*◌, ℕ, List, Bool, true, false, cond, length, sum_by, Result}
+use Rattle.std.specs.Prelude.{Ok, Err}
 use Rattle.presentation.specs.Presented.{Presented}
 use Rattle.outcomes.specs.declared.ends.Measure.{Measure}
 use Rattle.outcomes.specs.declared.tasks.Task.{Task}
@@ -32,13 +33,15 @@ weight Never = 0
 abbrev pub weigh : Held → ℕ
 weigh h = sum_by weight h.tasks.states
 
--- the measure of a completion. An append costs more than all tasks of a log can weigh, and more than opening hard ones adds
+-- the measure of a completion. An append costs more than all tasks of a log can weigh, and more than opening hard ones
+-- adds
 abbrev pub left : Held → Bool → ℕ
 left h stale = (4096 - length h.entries) * 67200000 + (cond stale 33600000 0 + weigh h)
 
 -- each hard task stops by the log as it is
 abbrev pub HardOnesStop : Held → Type 0
-HardOnesStop h = (t : Task) → IsTask (length h.entries) t → is_hard (state_of h.tasks t) ≡ true → (stop : Stop) × StopsAt h.entries t stop
+HardOnesStop h = (t : Task) → IsTask (length h.entries) t → is_hard (state_of h.tasks t) ≡ true
+    → (stop : Stop) × StopsAt h.entries t stop
 
 -- what is known when a round begins. `stale` says that some hard task may have stopped by a shorter log
 pub record IsReady (p : Presented) (h : Held) (leads : List Term) (stale : Bool) : Type 0 where
@@ -77,7 +80,8 @@ IsFullAt h t (Full m c) = HasNoRoomFor h t m c
 
 -- another round is due
 abbrev pub LeadsOn : Presented → Held → Bool → Held → List Term → Bool → Type 0
-LeadsOn p old stale new leads again = Continues old new × (new.seal ≡ old.seal) × IsReady p new leads again × (left new again < left old stale)
+LeadsOn p old stale new leads again = Continues old new × (new.seal ≡ old.seal) × IsReady p new leads again
+    × (left new again < left old stale)
 
 -- what a round answers, and what it leaves of the book and of the leads
 abbrev pub Rounds : {E : Type 0} → Presented → Held → Bool → Result Round E → Held → List Term → Type 0

@@ -16,8 +16,8 @@ use std::alloc::{AllocError, Global};
 use std::sync::Arc;
 use strong_pairs::lead;
 
-/// Completes the log of a book of the presentation, no task of which is taken, in rounds. A round does the first of these
-/// that can be done:
+/// Completes the log of a book of the presentation, no task of which is taken, in rounds. A round does the first of
+/// these that can be done:
 ///
 /// - where all tasks are closed the book is sealed, and the end is `Sealed`;
 /// - where the commits equal the budget, the end is `Spent`, with the least task that isn't closed;

@@ -11,6 +11,7 @@ ghost use Rattle.completion_solo.specs.Finishing.{NoneTaken};
 /// No task of a book is taken when it was opened, nor when its taken tasks were released.
 #[tactic(auto, using(crate::proofs::Free::none_at_opening, crate::proofs::Free::none_released))]
 pub fn books_can_be_completed()
-    ensures opened { (p : Presented) (limits : TheLimits) (h : Held) → IsOpened p limits h → (h.source ≡ p) × NoneTaken h }
+    ensures opened { (p : Presented) (limits : TheLimits) (h : Held) → IsOpened p limits h
+        → (h.source ≡ p) × NoneTaken h }
     ensures released { (h : Held) → NoneTaken (record h { tasks = reopen TakenOnes h.tasks }) }
 {}

@@ -39,9 +39,16 @@ gap_right w new start end at to k ordered within here there e =
     let few : k ≤ length (drop end w) = omega (arith, length-drop end w) in
     let beyond : (start + k) + (end - start) ≡ to = omega arith in
     let back : drop to new ≡ drop to w =
-    rw (← beyond, ← drop-drop (end - start) (start + k) new, ← drop-drop (end - start) (start + k) w, e, drop-paste w start (drop end w) k (omega arith) few) refl in
+    rw (
+      ← beyond,
+      ← drop-drop (end - start) (start + k) new,
+      ← drop-drop (end - start) (start + k) w,
+      e,
+      drop-paste w start (drop end w) k (omega arith) few,
+    ) refl in
     let front : take at new ≡ take start w ++ take k (drop end w) = rw (← here, e) (take-paste w start (drop end w) k (omega arith) few) in
-    rw (front, back, ← there, ← drop-drop k end w) (append_assoc (take start w) (take k (drop end w)) (drop k (drop end w)) ∙ ap (λ t. take start w ++ t) (take-append-drop k (drop end w)))
+    rw (front, back, ← there, ← drop-drop k end w) (append_assoc (take start w) (take k (drop end w)) (drop k (drop end w))
+    ∙ ap (λ t. take start w ++ t) (take-append-drop k (drop end w)))
 
 pub gap_goes_right : (w new : List Letter) (start end at : ℕ) → start ≤ end → end ≤ length w → start ≤ at → at ≤ start + (length w - end)
     → new ≡ paste w start (drop end w) (end + (at - start) - end)
@@ -63,9 +70,11 @@ pub put_in_gap : (old all new piece : List Letter) (at to : ℕ) → at + length
     → new ≡ take at all ++ (piece ++ drop (at + length piece) all)
     → take (at + length piece) new ++ drop to new ≡ take at old ++ (piece ++ drop at old)
 put_in_gap old all new piece at to room within word e =
-    let written : length (take at all ++ piece) ≡ at + length piece = length-append (take at all) piece ∙ ap (λ n. n + length piece) (length-take-le at all (omega arith)) in
+    let written : length (take at all ++ piece) ≡ at + length piece = length-append (take at all) piece
+    ∙ ap (λ n. n + length piece) (length-take-le at all (omega arith)) in
     let grouped : new ≡ (take at all ++ piece) ++ drop (at + length piece) all = e ∙ sym (append_assoc (take at all) piece (drop (at + length piece) all)) in
-    let front : take (at + length piece) new ≡ take at all ++ piece = rw grouped (take_at (take at all ++ piece) (drop (at + length piece) all) (at + length piece) written) in
+    let front : take (at + length piece) new ≡ take at all ++ piece =
+    rw grouped (take_at (take at all ++ piece) (drop (at + length piece) all) (at + length piece) written) in
     let further : (at + length piece) + (to - (at + length piece)) ≡ to = omega arith in
     let back : drop to new ≡ drop to all =
     rw (

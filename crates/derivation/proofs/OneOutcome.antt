@@ -65,7 +65,8 @@ stopped_same p old moves [] [] why because a b =
     let heads = tail_same a.m b.m a.later b.later (sym a.whole ∙ b.whole) in (
       refl,
       why_same p old a.m why because (subst (λ w. MoveGives p w a.m (Err (Refused why))) (sym a.run) a.refused)
-          (subst (λ (n : Move). MoveGives p old n (Err (Refused because))) (sym heads.0) (subst (λ w. MoveGives p w b.m (Err (Refused because))) (sym b.run) b.refused)),
+          (subst (λ (n : Move). MoveGives p old n (Err (Refused because))) (sym heads.0)
+          (subst (λ w. MoveGives p w b.m (Err (Refused because))) (sym b.run) b.refused)),
     )
 stopped_same p old moves [] (y ∷ other) why because a b =
     let heads = tail_same a.m y a.later (other ++ b.m ∷ b.later) (sym a.whole ∙ b.whole) in

@@ -1,5 +1,6 @@
 -- The parts of a line that the grammar has are read, where blanks alone follow them.
-use Rattle.std.proofs.Common.{◌≡◌, ◌==◌, ◌<◌, ◌≤◌, ℕ, Bool, true, false, nat_lt, codes, List, [], ◌∷◌, ◌++◌, length, Result, Ok, refl, sym, ◌∙◌, arith, if◌then◌else◌}
+use Rattle.std.proofs.Common.{◌≡◌, ◌==◌, ◌<◌, ◌≤◌, ℕ, Bool, true, false, nat_lt, codes, List, [], ◌∷◌, ◌++◌, length, Result, Ok, refl, sym, ◌∙◌, arith}
+use Rattle.std.proofs.Common.{if◌then◌else◌}
 use Rattle.std.specs.Str.{bytes_eq}
 use Rattle.std.proofs.lemmas.Bool.Decides.{nat_tests}
 use Rattle.std.proofs.lemmas.Slice.Eq.{bytes_eq-Decides}
@@ -79,32 +80,43 @@ two_again : (find : Find) (bs : List ℕ) (a b : List Letter) (mid next rest : L
     → WordAt find next b rest → mark_of (after_blanks rest) ≡ marks.Other → two_words find bs ≡ Ok ((a, b), after_blanks rest)
 unfolding two_words next_word
 two_again find bs a b mid next rest first comma second e =
-    rw (word_again find bs a mid first (comma_mark mid next comma), comma_again (after_blanks mid) next (blanks_once mid ∙ comma), word_again find next b rest second e) refl
+    rw (
+      word_again find bs a mid first (comma_mark mid next comma),
+      comma_again (after_blanks mid) next (blanks_once mid ∙ comma),
+      word_again find next b rest second e,
+    ) refl
 
 double_again : (find : Find) (bs : List ℕ) (a b c d : List Letter) (m k n l o q rest : List ℕ) → WordAt find bs a m → after_blanks m ≡ codes "," ++ k
     → WordAt find k b n → after_blanks n ≡ codes "," ++ l → WordAt find l c o → after_blanks o ≡ codes "," ++ q → WordAt find q d rest
     → after_blanks rest ≡ [] → double_at find bs ≡ Ok (Dbl a b c d, after_blanks rest)
 unfolding double_at
 double_again find bs a b c d m k n l o q rest wa ca wb cb wc cc_ wd e =
-    rw (two_again find bs a b m k n wa ca wb (comma_mark n l cb), comma_again (after_blanks n) l (blanks_once n ∙ cb), two_again find l c d o q rest wc cc_ wd (end_mark rest e)) refl
+    rw (
+      two_again find bs a b m k n wa ca wb (comma_mark n l cb),
+      comma_again (after_blanks n) l (blanks_once n ∙ cb),
+      two_again find l c d o q rest wc cc_ wd (end_mark rest e),
+    ) refl
 
 clear : (bs : List ℕ) → after_blanks bs ≡ [] → after_blanks (after_blanks bs) ≡ []
 clear bs e = blanks_once bs ∙ e
 
-inverse_again : (j : ℕ) (last : List ℕ) (inverted : Bool) (rest : List ℕ) → InverseAt last inverted rest → after_blanks rest ≡ [] → Reads (inverse_at j last) (Rel j inverted)
+inverse_again : (j : ℕ) (last : List ℕ) (inverted : Bool) (rest : List ℕ) → InverseAt last inverted rest → after_blanks rest ≡ []
+    → Reads (inverse_at j last) (Rel j inverted)
 inverse_again j last true rest h e = (rest, rw (keyword (codes "inv") last rest h, behind (codes "inv") last rest h) refl, e)
 inverse_again j last false rest h e =
     let none : after_blanks last ≡ [] = rw h at e in
     (last, rw (no_keyword (codes "inv") last refl none) refl, none)
 
-relator_again : (bs : List ℕ) (j : ℕ) (last : List ℕ) (inverted : Bool) (rest : List ℕ) → NumberAt bs j last → InverseAt last inverted rest → after_blanks rest ≡ []
+relator_again : (bs : List ℕ) (j : ℕ) (last : List ℕ) (inverted : Bool) (rest : List ℕ) → NumberAt bs j last → InverseAt last inverted rest
+    → after_blanks rest ≡ []
     → Reads (relator_at bs) (Rel j inverted)
 unfolding relator_at
 relator_again bs j last inverted rest n h e =
     let r = inverse_again j last inverted rest h e in
     (r.0, rw (number_again bs j last n) (r.1), r.2)
 
-insert_again : (find : Find) (bs : List ℕ) (what : Insert) (rest : List ℕ) → InsertAt find bs what rest → after_blanks rest ≡ [] → Reads (insert_at find bs) what
+insert_again : (find : Find) (bs : List ℕ) (what : Insert) (rest : List ℕ) → InsertAt find bs what rest → after_blanks rest ≡ []
+    → Reads (insert_at find bs) what
 unfolding insert_at power_at
 insert_again find bs (Pair x) rest h e =
     let r = letter_again find h.0 x rest h.2 e in
@@ -116,16 +128,38 @@ insert_again find bs (Dbl a b c d) rest h e =
     let u = h.2 in
     let v = u.4 in
     let w = v.4 in
-    let r = double_again find h.0 a b c d u.0 u.1 v.0 v.1 w.0 w.1 rest u.2 u.3 v.2 v.3 w.2 w.3 w.4 e in
-    (after_blanks rest, rw (other_keyword (codes "dbl") (codes "pair") bs h.0 refl h.1, other_keyword (codes "dbl") (codes "rel") bs h.0 refl h.1, keyword (codes "dbl") bs h.0 h.1, behind (codes "dbl") bs h.0 h.1) r, clear rest e)
+    let r = double_again find h.0 a b c d u.0 u.1 v.0 v.1 w.0 w.1 rest u.2 u.3 v.2 v.3 w.2 w.3 w.4 e in (
+      after_blanks rest,
+      rw (
+        other_keyword (codes "dbl") (codes "pair") bs h.0 refl h.1,
+        other_keyword (codes "dbl") (codes "rel") bs h.0 refl h.1,
+        keyword (codes "dbl") bs h.0 h.1,
+        behind (codes "dbl") bs h.0 h.1,
+      ) r,
+      clear rest e,
+    )
 insert_again find bs (Pow a b) rest h e =
     let u = h.2 in
-    let r = two_again find h.0 a b u.0 u.1 rest u.2 u.3 u.4 (end_mark rest e) in
-    (after_blanks rest, rw (other_keyword (codes "pow") (codes "pair") bs h.0 refl h.1, other_keyword (codes "pow") (codes "rel") bs h.0 refl h.1, other_keyword (codes "pow") (codes "dbl") bs h.0 refl h.1, keyword (codes "pow") bs h.0 h.1, behind (codes "pow") bs h.0 h.1, r) refl, clear rest e)
+    let r = two_again find h.0 a b u.0 u.1 rest u.2 u.3 u.4 (end_mark rest e) in (
+      after_blanks rest,
+      rw (
+        other_keyword (codes "pow") (codes "pair") bs h.0 refl h.1,
+        other_keyword (codes "pow") (codes "rel") bs h.0 refl h.1,
+        other_keyword (codes "pow") (codes "dbl") bs h.0 refl h.1,
+        keyword (codes "pow") bs h.0 h.1,
+        behind (codes "pow") bs h.0 h.1,
+        r,
+      ) refl,
+      clear rest e,
+    )
 
 direction_again : (bs : List ℕ) (del : Bool) (rest : List ℕ) → KeywordAt bs (if del then codes "del" else codes "ins") rest → direction_at bs ≡ Ok (del, rest)
 unfolding direction_at
-direction_again bs true rest h = rw (other_keyword (codes "del") (codes "ins") bs rest refl h, keyword (codes "del") bs rest h, behind (codes "del") bs rest h) refl
+direction_again bs true rest h = rw (
+  other_keyword (codes "del") (codes "ins") bs rest refl h,
+  keyword (codes "del") bs rest h,
+  behind (codes "del") bs rest h,
+) refl
 direction_again bs false rest h = rw (keyword (codes "ins") bs rest h, behind (codes "ins") bs rest h) refl
 
 pub end_again : (bs : List ℕ) → after_blanks bs ≡ [] → is_end bs ≡ true

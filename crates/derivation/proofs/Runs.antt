@@ -1,5 +1,6 @@
 -- Runs of moves, and what they show.
-use Rattle.std.proofs.Common.{◌≡◌, ℕ, List, [], ◌∷◌, ◌++◌, Bool, true, false, Option, Some, None, Ok, Err, refl, sym, inl, inr, zero, suc, subst, ◌<◌, ◌==◌, ◌+◌, length, take, drop, get_or, arith, ◌∙◌, ap}
+use Rattle.std.proofs.Common.{◌≡◌, ℕ, List, [], ◌∷◌, ◌++◌, Bool, true, false, Option, Some, None, Ok, Err, refl, sym, inl, inr, zero, suc, subst, ◌<◌, ◌==◌}
+use Rattle.std.proofs.Common.{◌+◌, length, take, drop, get_or, arith, ◌∙◌, ap}
 use Rattle.std.proofs.lemmas.Bool.Decides.{nat_tests}
 use Rattle.std.proofs.lemmas.List.{take-append-drop, take_more, drop_more, length-take-le}
 use Rattle.std.specs.Prelude.{All, Contains, if◌then◌else◌}

@@ -1,5 +1,6 @@
 -- The parts of a line that are read are those of the grammar.
-use Rattle.std.proofs.Common.{◌≡◌, ◌==◌, ◌<◌, ◌≤◌, ◌⊎◌, inl, inr, ℕ, Bool, true, false, nat_lt, codes, List, [], ◌∷◌, ◌++◌, length, take, drop, Option, Some, None, Result, Ok, Err, refl, sym, ◌∙◌, ap, subst, arith, if◌then◌else◌}
+use Rattle.std.proofs.Common.{◌≡◌, ◌==◌, ◌<◌, ◌≤◌, ◌⊎◌, inl, inr, ℕ, Bool, true, false, nat_lt, codes, List, [], ◌∷◌, ◌++◌, length, take, drop, Option, Some}
+use Rattle.std.proofs.Common.{None, Result, Ok, Err, refl, sym, ◌∙◌, ap, subst, arith, if◌then◌else◌}
 use Rattle.std.proofs.lemmas.Bool.Decides.{nat_tests}
 use Rattle.std.proofs.lemmas.List.{take-append-drop}
 use Rattle.std.proofs.lemmas.Slice.Eq.{bytes_eq-Decides}
@@ -43,7 +44,8 @@ unfolding number_at
 number_spelled bs n rest e =
     let here : List ℕ = after_blanks bs in
     let some = guard_ok (length (digits_at here) == 0) (due here) _ (n, rest) e in
-    let few = guard_ok (nat_lt 6 (length (digits_at here))) (record { kind = Expected; left = length (drop 6 here) }) (Ok (number 0 (digits_at here), after_digits here)) (n, rest) some.1 in
+    let few = guard_ok (nat_lt 6 (length (digits_at here))) (record { kind = Expected; left = length (drop 6 here) })
+    (Ok (number 0 (digits_at here), after_digits here)) (n, rest) some.1 in
     let p = ok_is {A = ℕ × List ℕ} (number 0 (digits_at here), after_digits here) (n, rest) few.1 in (
       some_is (length (digits_at here)) some.0,
       not_past 6 (length (digits_at here)) few.0,
@@ -73,7 +75,8 @@ sign_spelled : (bs : List ℕ) (inv : Bool) → comes_next (codes "^-1") bs ≡ 
 sign_spelled bs true e = mark_spelled (codes "^-1") bs e
 sign_spelled bs false e = no_mark (codes "^-1") bs e
 
-on_letter : (find : Find) (m : Mark) (bs : List ℕ) (x : Letter × List ℕ) → letter_on find m bs ≡ Ok x → (m ≡ marks.Letter) × (letter_of (find (name_at bs)) bs ≡ Ok x)
+on_letter : (find : Find) (m : Mark) (bs : List ℕ) (x : Letter × List ℕ) → letter_on find m bs ≡ Ok x
+    → (m ≡ marks.Letter) × (letter_of (find (name_at bs)) bs ≡ Ok x)
 on_letter find marks.Letter bs x e = (refl, e)
 on_letter find marks.One bs x e = cc
 on_letter find marks.Round bs x e = cc
@@ -122,7 +125,8 @@ abbrev Answers : {A : Type 0} → A → A → Type 0
 Answers {A} y x = ◌≡◌ {A = Result A Fault} (Ok y) (Ok x)
 
 inverse_spelled : (find : Find) (bs mid last : List ℕ) (j : ℕ) (x : Insert × List ℕ) → KeywordAt bs (codes "rel") mid → NumberAt mid j last
-    → ((is_word (codes "inv") last ≡ true) × Answers {A = Insert × List ℕ} (Rel j true, after_word last) x) ⊎ Answers {A = Insert × List ℕ} (Rel j false, last) x → Stands find bs x
+    → ((is_word (codes "inv") last ≡ true) × Answers {A = Insert × List ℕ} (Rel j true, after_word last) x)
+    ⊎ Answers {A = Insert × List ℕ} (Rel j false, last) x → Stands find bs x
 inverse_spelled find bs mid last j x k n (inl (t, e)) =
     subst (Stands find bs) (ok_is {A = Insert × List ℕ} (Rel j true, after_word last) x e) (mid, last, k, n, keyword (codes "inv") last t)
 inverse_spelled find bs mid last j x k n (inr e) = subst (Stands find bs) (ok_is {A = Insert × List ℕ} (Rel j false, last) x e) (mid, last, k, n, refl)
@@ -165,13 +169,15 @@ insert_spelled find bs x e = pairs (choice (is_word (codes "pair") bs) _ _ x e)
     powers : (is_word (codes "pow") bs ≡ true) × (power_at find mid ≡ Ok x) → Stands find bs x
     powers (t, e) = power_spelled find bs mid x (keyword (codes "pow") bs t) e
 
-    doubles : ((is_word (codes "dbl") bs ≡ true) × (double_at find mid ≡ Ok x)) ⊎ ((if is_word (codes "pow") bs then power_at find mid else Err (due (after_blanks bs))) ≡ Ok x)
+    doubles : ((is_word (codes "dbl") bs ≡ true) × (double_at find mid ≡ Ok x))
+        ⊎ ((if is_word (codes "pow") bs then power_at find mid else Err (due (after_blanks bs))) ≡ Ok x)
         → Stands find bs x
     doubles (inl (t, e)) = double_spelled find bs mid x (keyword (codes "dbl") bs t) e
     doubles (inr e) = powers (test_ok (is_word (codes "pow") bs) (due (after_blanks bs)) (power_at find mid) x e)
 
     relators : ((is_word (codes "rel") bs ≡ true) × (relator_at mid ≡ Ok x))
-        ⊎ ((if is_word (codes "dbl") bs then double_at find mid else if is_word (codes "pow") bs then power_at find mid else Err (due (after_blanks bs))) ≡ Ok x)
+        ⊎ ((if is_word (codes "dbl") bs then double_at find mid else if is_word (codes "pow") bs then power_at find mid else Err
+        (due (after_blanks bs))) ≡ Ok x)
         → Stands find bs x
     relators (inl (t, e)) = relator_spelled find bs mid x (keyword (codes "rel") bs t) e
     relators (inr e) = doubles (choice (is_word (codes "dbl") bs) _ _ x e)

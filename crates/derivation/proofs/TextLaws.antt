@@ -32,7 +32,8 @@ followed_ok : (r later : Result (List Move) TextFault) (ms : List Move) → foll
 followed_ok (Ok xs) later ms e = let x = fronted_ok xs later ms e in (xs, refl, x.0, x.1, x.2)
 followed_ok (Err f) later ms e = cc
 
-one_ok : (line : List ℕ) (n : ℕ) (r : Result (Move × List ℕ) Fault) (xs : List Move) → only_move line n r ≡ Ok xs → (x : Move × List ℕ) × (r ≡ Ok x) × (x.0 ∷ [] ≡ xs)
+one_ok : (line : List ℕ) (n : ℕ) (r : Result (Move × List ℕ) Fault) (xs : List Move) → only_move line n r ≡ Ok xs
+    → (x : Move × List ℕ) × (r ≡ Ok x) × (x.0 ∷ [] ≡ xs)
 one_ok line n (Ok x) xs e = (x, refl, are (x.0 ∷ []) xs e)
 one_ok line n (Err f) xs e = cc
 

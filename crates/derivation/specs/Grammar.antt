@@ -1,6 +1,7 @@
 -- The grammar of derivations between bytes and moves, apart from any reader. A part stands at bytes, has a value, and
 -- leaves the bytes after it. Every part may have blanks before it.
-use Rattle.std.specs.Prelude.{◌≡◌, ℕ, ◌<◌, ◌≤◌, ◌==◌, Bool, true, false, codes, List, [], ◌∷◌, ◌++◌, length, Some, if◌then◌else◌}
+use Rattle.std.specs.Prelude.{◌≡◌, ℕ, ◌<◌, ◌≤◌, ◌==◌, Bool, true, false, codes, List, [], ◌∷◌, ◌++◌, length, Some}
+use Rattle.std.specs.Prelude.{if◌then◌else◌}
 use Rattle.std.specs.List.{AllByRecursion}
 use Rattle.free_words.specs.declared.letter.Letter.{Letter}
 use Rattle.word_text.specs.declared.scan.Mark.TheVariants as marks
@@ -22,7 +23,8 @@ KeywordAt bs word rest = (name_at (after_blanks bs) ≡ word) × (rest ≡ after
 abbrev pub NumberAt : List ℕ → ℕ → List ℕ → Type 0
 NumberAt bs n rest =
     let here : List ℕ = after_blanks bs in
-    (0 < length (digits_at here)) × (length (digits_at here) ≤ 6) × (n ≡ number 0 (digits_at here)) × (rest ≡ after_digits here)
+    (0 < length (digits_at here)) × (length (digits_at here) ≤ 6) × (n ≡ number 0 (digits_at here))
+    × (rest ≡ after_digits here)
 
 -- a word, whose letters are the generators that its names give
 abbrev pub WordAt : Find → List ℕ → List Letter → List ℕ → Type 0
@@ -33,7 +35,8 @@ abbrev pub WordsAt : Find → List ℕ → List (List Letter) → List ℕ → T
 WordsAt find bs [] rest = ⊥
 WordsAt find bs (w ∷ []) rest = WordAt find bs w rest
 WordsAt find bs (w ∷ v ∷ vs) rest =
-    (mid : List ℕ) × (next : List ℕ) × WordAt find bs w mid × (after_blanks mid ≡ codes "," ++ next) × WordsAt find next (v ∷ vs) rest
+    (mid : List ℕ) × (next : List ℕ) × WordAt find bs w mid × (after_blanks mid ≡ codes "," ++ next)
+    × WordsAt find next (v ∷ vs) rest
 
 -- `^-1` as one token, where the letter is an inverse
 abbrev pub SignAt : List ℕ → Bool → List ℕ → Type 0
@@ -55,8 +58,10 @@ InverseAt bs false rest = rest ≡ bs
 abbrev pub InsertAt : Find → List ℕ → Insert → List ℕ → Type 0
 InsertAt find bs (Pair x) rest = (mid : List ℕ) × KeywordAt bs (codes "pair") mid × LetterAt find mid x rest
 InsertAt find bs (Rel j inverted) rest =
-    (mid : List ℕ) × (last : List ℕ) × KeywordAt bs (codes "rel") mid × NumberAt mid j last × InverseAt last inverted rest
-InsertAt find bs (Dbl a b c d) rest = (mid : List ℕ) × KeywordAt bs (codes "dbl") mid × WordsAt find mid (a ∷ b ∷ c ∷ d ∷ []) rest
+    (mid : List ℕ) × (last : List ℕ) × KeywordAt bs (codes "rel") mid × NumberAt mid j last
+    × InverseAt last inverted rest
+InsertAt find bs (Dbl a b c d) rest = (mid : List ℕ) × KeywordAt bs (codes "dbl") mid
+    × WordsAt find mid (a ∷ b ∷ c ∷ d ∷ []) rest
 InsertAt find bs (Pow a b) rest = (mid : List ℕ) × KeywordAt bs (codes "pow") mid × WordsAt find mid (a ∷ b ∷ []) rest
 
 -- the line is a move: `ins` or `del`, the place, what is put in or taken out, and blanks alone behind it
@@ -72,15 +77,18 @@ pub record IsMove (find : Find) (line : List ℕ) (m : Move) : Type 0 where
 -- the lines have these moves in order: a line is a move, or blanks alone
 pub data HaveMoves (find : Find) : List (List ℕ) → List Move → Type 0 where
   none : HaveMoves find [] []
-  blank : (line : List ℕ) (later : List (List ℕ)) (ms : List Move) → after_blanks line ≡ [] → HaveMoves find later ms → HaveMoves find (line ∷ later) ms
-  move : (line : List ℕ) (m : Move) (later : List (List ℕ)) (ms : List Move) → IsMove find line m → HaveMoves find later ms
+  blank : (line : List ℕ) (later : List (List ℕ)) (ms : List Move) → after_blanks line ≡ [] → HaveMoves find later ms
+      → HaveMoves find (line ∷ later) ms
+  move : (line : List ℕ) (m : Move) (later : List (List ℕ)) (ms : List Move) → IsMove find line m
+      → HaveMoves find later ms
       → HaveMoves find (line ∷ later) (m ∷ ms)
 
 -- no byte is LF
 abbrev pub IsLine : List ℕ → Type 0
 IsLine bs = AllByRecursion (λ (b : ℕ). (b == 10) ≡ false) bs
 
--- The text is a derivation with these moves: lines with LF between each two. So a text that ends with LF has an empty last
--- line.
+-- The text is a derivation with these moves: lines with LF between each two. So a text that ends with LF has an empty
+-- last line.
 abbrev pub IsDerivation : Presented → List ℕ → List Move → Type 0
-IsDerivation p text ms = (lines : List (List ℕ)) × (text ≡ joined (10 ∷ []) lines) × AllByRecursion IsLine lines × HaveMoves (finding p.names) lines ms
+IsDerivation p text ms = (lines : List (List ℕ)) × (text ≡ joined (10 ∷ []) lines) × AllByRecursion IsLine lines
+    × HaveMoves (finding p.names) lines ms

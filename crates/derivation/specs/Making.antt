@@ -1,5 +1,6 @@
 -- What `apply` and `check_steps` answer.
-use Rattle.std.specs.Prelude.{◌≡◌, ℕ, zero, suc, ◌+◌, ◌==◌, ◌<◌, ◌≤◌, Bool, true, false, List, [], ◌∷◌, ◌++◌, length, Option, Some, None, Result, Ok, Err, slice_get, if◌then◌else◌, drop}
+use Rattle.std.specs.Prelude.{◌≡◌, ℕ, zero, suc, ◌+◌, ◌==◌, ◌<◌, ◌≤◌, Bool, true, false, List, [], ◌∷◌, ◌++◌, length}
+use Rattle.std.specs.Prelude.{Option, Some, None, Result, Ok, Err, slice_get, if◌then◌else◌, drop}
 use Rattle.free_words.specs.declared.letter.Letter.{Letter}
 use Rattle.free_words.specs.declared.TheConstants.{COMPOSED}
 use Rattle.free_words.specs.Words.{flipped, inverse, commutator, copies}
@@ -37,13 +38,15 @@ piece_of p (Pow a b) = if p.modulus == 0 then Err NoModulus else Ok (copies p.mo
 abbrev pub IsInsertOver : Presented → Insert → Type 0
 IsInsertOver p (Pair x) = x.g < length p.names
 IsInsertOver p (Rel j inverted) = Unit {0}
-IsInsertOver p (Dbl a b c d) = IsWritten (length p.names) a × IsWritten (length p.names) b × IsWritten (length p.names) c × IsWritten (length p.names) d
+IsInsertOver p (Dbl a b c d) = IsWritten (length p.names) a × IsWritten (length p.names) b
+    × IsWritten (length p.names) c × IsWritten (length p.names) d
 IsInsertOver p (Pow a b) = IsWritten (length p.names) a × IsWritten (length p.names) b
 
 -- with the piece taken out at a place the one word is the other
 abbrev pub TakesOut : ℕ → List Letter → List Letter → List Letter → Type 0
 TakesOut at piece longer shorter =
-    (front : List Letter) × (back : List Letter) × (length front ≡ at) × (longer ≡ front ++ (piece ++ back)) × (shorter ≡ front ++ back)
+    (front : List Letter) × (back : List Letter) × (length front ≡ at) × (longer ≡ front ++ (piece ++ back))
+    × (shorter ≡ front ++ back)
 
 -- the word after a move with this piece
 abbrev pub Moved : Bool → ℕ → List Letter → List Letter → List Letter → Type 0
@@ -58,9 +61,11 @@ MoveGives p old m (Err (Refused Place)) = length old < m.at
 MoveGives p old m (Err (Refused NoRelator)) = (m.at ≤ length old) × (piece_of p m.what ≡ Err NoRelator)
 MoveGives p old m (Err (Refused NoModulus)) = (m.at ≤ length old) × (piece_of p m.what ≡ Err NoModulus)
 MoveGives p old m (Err (Refused NotThere)) =
-    (m.at ≤ length old) × (m.del ≡ true) × ((piece : List Letter) × (piece_of p m.what ≡ Ok piece) × ((back : List Letter) → drop m.at old ≡ piece ++ back → ⊥))
+    (m.at ≤ length old) × (m.del ≡ true) × ((piece : List Letter) × (piece_of p m.what ≡ Ok piece)
+    × ((back : List Letter) → drop m.at old ≡ piece ++ back → ⊥))
 MoveGives p old m (Err (Refused TooLong)) =
-    (m.at ≤ length old) × (m.del ≡ false) × ((piece : List Letter) × (piece_of p m.what ≡ Ok piece) × (COMPOSED < length old + length piece))
+    (m.at ≤ length old) × (m.del ≡ false) × ((piece : List Letter) × (piece_of p m.what ≡ Ok piece)
+    × (COMPOSED < length old + length piece))
 MoveGives p old m (Err NoMemory) = Unit {0}
 
 -- the moves were made, one after another, from the first word to the last
@@ -74,7 +79,8 @@ abbrev pub StepsGive : Presented → List Letter → List Move → Result (Unit 
 StepsGive p w moves (Ok done) = Runs p w moves []
 StepsGive p w moves (Err (BadMove number reason)) =
     (made : List Move) × (m : Move) × (later : List Move) × (mid : List Letter)
-    × (moves ≡ made ++ m ∷ later) × Runs p w made mid × MoveGives p mid m (Err (Refused reason)) × (number ≡ capped (length made + 1))
+    × (moves ≡ made ++ m ∷ later) × Runs p w made mid × MoveGives p mid m (Err (Refused reason))
+    × (number ≡ capped (length made + 1))
 StepsGive p w moves (Err (NotEmpty left)) =
     (end : List Letter) × Runs p w moves end × (left ≡ length end) × (0 < left)
 StepsGive p w moves (Err steps.NoMemory) = Unit {0}

@@ -20,7 +20,8 @@ pub data IsPiece (p : Presented) : List Letter → Type 0 where
   double : (a b c d : List Letter) → IsWordOver p a → IsWordOver p b → IsWordOver p c → IsWordOver p d
       → IsPiece p (commutator (commutator a b) (commutator c d))
   -- [a, b]^m, where the presentation has the modulus m
-  power : (a b : List Letter) → 0 < p.modulus → IsWordOver p a → IsWordOver p b → IsPiece p (copies p.modulus (commutator a b))
+  power : (a b : List Letter) → 0 < p.modulus → IsWordOver p a → IsWordOver p b
+      → IsPiece p (copies p.modulus (commutator a b))
 
 -- `longer` is `shorter` with a piece put in somewhere
 pub record PutsIn (p : Presented) (shorter longer : List Letter) : Type 0 where

@@ -1,5 +1,7 @@
--- Reading a derivation: the value of each part of a line and what follows it, or the first fault; and then all its lines.
-use Rattle.std.specs.Prelude.{◌≡◌, ℕ, ◌+◌, ◌==◌, Bool, true, false, codes, List, [], ◌∷◌, ◌++◌, drop, Result, Ok, Err, Vec, if◌then◌else◌}
+-- Reading a derivation: the value of each part of a line and what follows it, or the first fault; and then all its
+-- lines.
+use Rattle.std.specs.Prelude.{◌≡◌, ℕ, ◌+◌, ◌==◌, Bool, true, false, codes, List, [], ◌∷◌, ◌++◌, drop, Result, Ok, Err}
+use Rattle.std.specs.Prelude.{Vec, if◌then◌else◌}
 use Rattle.std.specs.declared.alloc.Global.{Global}
 use Rattle.free_words.specs.declared.letter.Letter.{Letter}
 use Rattle.word_text.specs.declared.fault.Fault.{Fault}
@@ -15,7 +17,8 @@ use Rattle.derivation.specs.declared.moves.Insert.{Insert}
 use Rattle.derivation.specs.declared.moves.Insert.TheVariants.{Pair, Rel, Dbl, Pow}
 use Rattle.derivation.specs.declared.moves.Move.{Move}
 
--- What a reader answers that goes on to the place `new` of a line: the value, before what follows it; or the first fault.
+-- What a reader answers that goes on to the place `new` of a line: the value, before what follows it; or the first
+-- fault.
 abbrev pub GoesOn : {X Y : Type 0} → (X → Y) → List ℕ → ℕ → ℕ → Result (Y × List ℕ) Fault → Result X ReadFault → Type 0
 GoesOn view text line new read (Ok x) = read ≡ Ok (view x, drop new text)
 GoesOn view text line new read (Err faults.NoMemory) = Unit {0}
@@ -52,7 +55,8 @@ relator_at bs = number_at bs >>= λ j. inverse_at j.0 j.1
 
 unfoldable pub double_at : Find → List ℕ → Result (Insert × List ℕ) Fault
 double_at find bs =
-    two_words find bs >>= λ x. (comma_at x.1 >>= λ c. (two_words find c.1 >>= λ y. Ok (Dbl (x.0).0 (x.0).1 (y.0).0 (y.0).1, y.1)))
+    two_words find bs >>= λ x. (comma_at x.1 >>= λ c. (two_words find c.1 >>=
+    λ y. Ok (Dbl (x.0).0 (x.0).1 (y.0).0 (y.0).1, y.1)))
 
 unfoldable pub power_at : Find → List ℕ → Result (Insert × List ℕ) Fault
 power_at find bs = two_words find bs >>= λ x. Ok (Pow (x.0).0 (x.0).1, x.1)

@@ -10,8 +10,8 @@ use free_words::{COMPOSED, Letter, Word};
 use std::alloc::{AllocError, Global};
 use std::marker::Model;
 
-/// A word that is edited in place, seen as its letters: those before `start`, and those from `end` on. What lies between
-/// is room. An edit moves the letters between its place and that of the edit before, and no others.
+/// A word that is edited in place, seen as its letters: those before `start`, and those from `end` on. What lies
+/// between is room. An edit moves the letters between its place and that of the edit before, and no others.
 #[derive(Drop)]
 pub struct GapWord {
     letters: Vec<Letter>,
@@ -28,7 +28,8 @@ impl Model for GapWord {
 
     ghost view = { λ w. take w.start w.letters.items ++ drop w.end w.letters.items };
 
-    ghost invariant = { λ w. (w.start ≤ w.end) × (w.end ≤ vec_len w.letters) × (COMPOSED ≤ vec_len w.letters) × (vec_len w.letters < 2 ^ 32) };
+    ghost invariant = { λ w. (w.start ≤ w.end) × (w.end ≤ vec_len w.letters) × (COMPOSED ≤ vec_len w.letters)
+        × (vec_len w.letters < 2 ^ 32) };
 }
 
 impl GapWord {

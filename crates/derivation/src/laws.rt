@@ -79,15 +79,17 @@ pub fn equality()
 /// A move has one answer, want of memory aside: so each reason is given exactly where `MoveGives` names it.
 #[tactic(auto, using(crate::proofs::OneAnswer::one_answer))]
 pub fn one_answer()
-    ensures { (p : Presented) (old : List Letter) (m : Move) (r s : Result (List Letter) MoveFault) → r ≢ Err MoveFault.NoMemory → s ≢ Err MoveFault.NoMemory
+    ensures { (p : Presented) (old : List Letter) (m : Move) (r s : Result (List Letter) MoveFault)
+        → r ≢ Err MoveFault.NoMemory → s ≢ Err MoveFault.NoMemory
         → MoveGives p old m r → MoveGives p old m s → r ≡ s }
 {}
 
-/// A list of moves has one outcome, want of memory aside: so it is Ok exactly where the moves carry the word to the empty
-/// word, and each fault comes exactly where `StepsGive` names it.
+/// A list of moves has one outcome, want of memory aside: so it is Ok exactly where the moves carry the word to the
+/// empty word, and each fault comes exactly where `StepsGive` names it.
 #[tactic(auto, using(crate::proofs::OneOutcome::one_outcome))]
 pub fn one_outcome()
-    ensures { (p : Presented) (w : List Letter) (moves : List Move) (r s : Result (Unit {0}) StepsFault) → r ≢ Err StepsFault.NoMemory → s ≢ Err StepsFault.NoMemory
+    ensures { (p : Presented) (w : List Letter) (moves : List Move) (r s : Result (Unit {0}) StepsFault)
+        → r ≢ Err StepsFault.NoMemory → s ≢ Err StepsFault.NoMemory
         → StepsGive p w moves r → StepsGive p w moves s → r ≡ s }
 {}
 
@@ -100,15 +102,18 @@ pub fn staying()
 /// What is read of a text is a derivation of the grammar, with its moves.
 #[tactic(auto, using(crate::proofs::TextLaws::text_spelled))]
 pub fn read_is_spelled()
-    ensures { (p : Presented) (text : List ℕ) (ms : List Move) → derivation_text p text ≡ Ok ms → IsDerivation p text ms }
+    ensures { (p : Presented) (text : List ℕ) (ms : List Move) → derivation_text p text ≡ Ok ms
+        → IsDerivation p text ms }
 {}
 
 /// A derivation of the grammar is read, with its moves.
 pub fn spelled_is_read()
-    ensures { (p : Presented) (text : List ℕ) (ms : List Move) → IsDerivation p text ms → derivation_text p text ≡ Ok ms }
+    ensures { (p : Presented) (text : List ℕ) (ms : List Move) → IsDerivation p text ms
+        → derivation_text p text ≡ Ok ms }
 {}
 
 /// A text spells one list of moves at most.
 pub fn one_value()
-    ensures { (p : Presented) (text : List ℕ) (ms ns : List Move) → IsDerivation p text ms → IsDerivation p text ns → ms ≡ ns }
+    ensures { (p : Presented) (text : List ℕ) (ms ns : List Move) → IsDerivation p text ms
+        → IsDerivation p text ns → ms ≡ ns }
 {}

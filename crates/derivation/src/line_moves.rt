@@ -4,7 +4,8 @@ ghost use Rattle.std.specs.Prelude.{◌≡◌, ◌≤◌, length, drop, IfOk};
 ghost use Rattle.word_text.specs.Machine.{finding};
 ghost use Rattle.presentation.specs.Presented.{Presented, IsWritten};
 ghost use Rattle.derivation.specs.Making.{IsInsertOver};
-ghost use Rattle.derivation.specs.Reading.{GoesOn, direction_at, comma_at, next_word, two_words, relator_at, double_at, power_at, insert_at, ending_at, move_at};
+ghost use Rattle.derivation.specs.Reading.{GoesOn, direction_at, comma_at, next_word, two_words, relator_at, double_at};
+ghost use Rattle.derivation.specs.Reading.{power_at, insert_at, ending_at, move_at};
 
 use crate::moves::{Insert, Move};
 use free_words::Word;
@@ -16,7 +17,8 @@ use word_text::ReadFault;
 #[tactic(auto, unfolding(crate::specs::Reading::direction_at))]
 fn direction(reader: &mut WordReader) -> Result<bool, ReadFault>
     requires { reader.old.at ≤ length reader.old.text.now }
-    ensures exact { GoesOn (λ del. del) reader.old.text.now reader.old.line reader.new.at (direction_at (drop reader.old.at reader.old.text.now)) result }
+    ensures exact { GoesOn (λ del. del) reader.old.text.now reader.old.line reader.new.at
+        (direction_at (drop reader.old.at reader.old.text.now)) result }
     ensures inside { reader.new.at ≤ length reader.old.text.now }
     ensures text { reader.new.text ≡ reader.old.text }
     ensures line { reader.new.line ≡ reader.old.line }
@@ -34,7 +36,8 @@ fn direction(reader: &mut WordReader) -> Result<bool, ReadFault>
 #[tactic(auto, unfolding(crate::specs::Reading::comma_at))]
 fn comma(reader: &mut WordReader) -> Result<(), ReadFault>
     requires { reader.old.at ≤ length reader.old.text.now }
-    ensures exact { GoesOn (λ _. tt) reader.old.text.now reader.old.line reader.new.at (comma_at (drop reader.old.at reader.old.text.now)) result }
+    ensures exact { GoesOn (λ _. tt) reader.old.text.now reader.old.line reader.new.at
+        (comma_at (drop reader.old.at reader.old.text.now)) result }
     ensures inside { reader.new.at ≤ length reader.old.text.now }
     ensures text { reader.new.text ≡ reader.old.text }
     ensures line { reader.new.line ≡ reader.old.line }
@@ -51,7 +54,8 @@ fn comma(reader: &mut WordReader) -> Result<(), ReadFault>
 #[tactic(auto, unfolding(crate::specs::Reading::next_word))]
 fn next_word(alloc: Global, reader: &mut WordReader, p: &Presentation) -> Result<Word, ReadFault>
     requires { reader.old.at ≤ length reader.old.text.now }
-    ensures exact { GoesOn (λ w. w) reader.old.text.now reader.old.line reader.new.at (next_word (finding p.now.names) (drop reader.old.at reader.old.text.now)) result }
+    ensures exact { GoesOn (λ w. w) reader.old.text.now reader.old.line reader.new.at
+        (next_word (finding p.now.names) (drop reader.old.at reader.old.text.now)) result }
     ensures written { IfOk result (λ w. IsWritten (length p.now.names) w) }
     ensures inside { reader.new.at ≤ length reader.old.text.now }
     ensures text { reader.new.text ≡ reader.old.text }
@@ -69,7 +73,8 @@ fn two_words(
     p: &Presentation,
 ) -> Result<(Word, Word), ReadFault>
     requires { reader.old.at ≤ length reader.old.text.now }
-    ensures exact { GoesOn (λ x. x) reader.old.text.now reader.old.line reader.new.at (two_words (finding p.now.names) (drop reader.old.at reader.old.text.now)) result }
+    ensures exact { GoesOn (λ x. x) reader.old.text.now reader.old.line reader.new.at
+        (two_words (finding p.now.names) (drop reader.old.at reader.old.text.now)) result }
     ensures written { IfOk result (λ x. IsWritten (length p.now.names) x.0 × IsWritten (length p.now.names) x.1) }
     ensures inside { reader.new.at ≤ length reader.old.text.now }
     ensures text { reader.new.text ≡ reader.old.text }
@@ -84,7 +89,8 @@ fn two_words(
 #[tactic(auto, unfolding(crate::specs::Reading::relator_at))]
 fn relator(reader: &mut WordReader) -> Result<Insert, ReadFault>
     requires { reader.old.at ≤ length reader.old.text.now }
-    ensures exact { GoesOn (λ x. x) reader.old.text.now reader.old.line reader.new.at (relator_at (drop reader.old.at reader.old.text.now)) result }
+    ensures exact { GoesOn (λ x. x) reader.old.text.now reader.old.line reader.new.at
+        (relator_at (drop reader.old.at reader.old.text.now)) result }
     ensures over { IfOk result (λ x. (p : Presented) → IsInsertOver p x) }
     ensures inside { reader.new.at ≤ length reader.old.text.now }
     ensures text { reader.new.text ≡ reader.old.text }
@@ -99,7 +105,8 @@ fn relator(reader: &mut WordReader) -> Result<Insert, ReadFault>
 #[tactic(auto, unfolding(crate::specs::Reading::double_at))]
 fn double(alloc: Global, reader: &mut WordReader, p: &Presentation) -> Result<Insert, ReadFault>
     requires { reader.old.at ≤ length reader.old.text.now }
-    ensures exact { GoesOn (λ x. x) reader.old.text.now reader.old.line reader.new.at (double_at (finding p.now.names) (drop reader.old.at reader.old.text.now)) result }
+    ensures exact { GoesOn (λ x. x) reader.old.text.now reader.old.line reader.new.at
+        (double_at (finding p.now.names) (drop reader.old.at reader.old.text.now)) result }
     ensures over { IfOk result (λ x. IsInsertOver p.now x) }
     ensures inside { reader.new.at ≤ length reader.old.text.now }
     ensures text { reader.new.text ≡ reader.old.text }
@@ -115,7 +122,8 @@ fn double(alloc: Global, reader: &mut WordReader, p: &Presentation) -> Result<In
 #[tactic(auto, unfolding(crate::specs::Reading::power_at))]
 fn power(alloc: Global, reader: &mut WordReader, p: &Presentation) -> Result<Insert, ReadFault>
     requires { reader.old.at ≤ length reader.old.text.now }
-    ensures exact { GoesOn (λ x. x) reader.old.text.now reader.old.line reader.new.at (power_at (finding p.now.names) (drop reader.old.at reader.old.text.now)) result }
+    ensures exact { GoesOn (λ x. x) reader.old.text.now reader.old.line reader.new.at
+        (power_at (finding p.now.names) (drop reader.old.at reader.old.text.now)) result }
     ensures over { IfOk result (λ x. IsInsertOver p.now x) }
     ensures inside { reader.new.at ≤ length reader.old.text.now }
     ensures text { reader.new.text ≡ reader.old.text }
@@ -129,7 +137,8 @@ fn power(alloc: Global, reader: &mut WordReader, p: &Presentation) -> Result<Ins
 #[tactic(auto, unfolding(crate::specs::Reading::insert_at))]
 fn insert(alloc: Global, reader: &mut WordReader, p: &Presentation) -> Result<Insert, ReadFault>
     requires { reader.old.at ≤ length reader.old.text.now }
-    ensures exact { GoesOn (λ x. x) reader.old.text.now reader.old.line reader.new.at (insert_at (finding p.now.names) (drop reader.old.at reader.old.text.now)) result }
+    ensures exact { GoesOn (λ x. x) reader.old.text.now reader.old.line reader.new.at
+        (insert_at (finding p.now.names) (drop reader.old.at reader.old.text.now)) result }
     ensures over { IfOk result (λ x. IsInsertOver p.now x) }
     ensures inside { reader.new.at ≤ length reader.old.text.now }
     ensures text { reader.new.text ≡ reader.old.text }
@@ -152,7 +161,8 @@ fn insert(alloc: Global, reader: &mut WordReader, p: &Presentation) -> Result<In
 #[tactic(auto, unfolding(crate::specs::Reading::ending_at))]
 fn ending(reader: &WordReader) -> Result<(), ReadFault>
     requires { reader.now.at ≤ length reader.now.text.now }
-    ensures { GoesOn (λ _. tt) reader.now.text.now reader.now.line reader.now.at (ending_at (drop reader.now.at reader.now.text.now)) result }
+    ensures { GoesOn (λ _. tt) reader.now.text.now reader.now.line reader.now.at
+        (ending_at (drop reader.now.at reader.now.text.now)) result }
 {
     if reader.is_at_end() {
         Ok(())
@@ -169,7 +179,8 @@ pub fn line_move(
     p: &Presentation,
 ) -> Result<Move, ReadFault>
     requires { reader.old.at ≤ length reader.old.text.now }
-    ensures exact { GoesOn (λ m. m) reader.old.text.now reader.old.line reader.new.at (move_at (finding p.now.names) (drop reader.old.at reader.old.text.now)) result }
+    ensures exact { GoesOn (λ m. m) reader.old.text.now reader.old.line reader.new.at
+        (move_at (finding p.now.names) (drop reader.old.at reader.old.text.now)) result }
     ensures over { IfOk result (λ m. IsInsertOver p.now m.what) }
 {
     let del = direction(reader)?;

@@ -1,6 +1,7 @@
 //! What one move puts in or takes out: first its length, then, where it is short enough, its letters.
 
-ghost use Rattle.std.specs.Prelude.{◌≡◌, ◌<◌, ◌≤◌, ◌+◌, ◌*◌, ◌^◌, ◌++◌, ◌∷◌, [], length, Ok, Err, OnOk, IfOk, MatchResult};
+ghost use Rattle.std.specs.Prelude.{◌≡◌, ◌<◌, ◌≤◌, ◌+◌, ◌*◌, ◌^◌, ◌++◌, ◌∷◌, [], length, Ok, Err, OnOk, IfOk};
+ghost use Rattle.std.specs.Prelude.{MatchResult};
 ghost use Rattle.free_words.specs.Words.{flipped, inverse, commutator, copies};
 ghost use Rattle.std.specs.Option.{option_copied};
 ghost use Rattle.derivation.specs.Making.{IsInsertOver, piece_of, relator_at};
@@ -33,7 +34,8 @@ fn find_relator(relators: &[Word], number: u32) -> Option<&Word>
 /// The piece that a move names, or why the presentation has none.
 pub fn find_piece<'a>(p: &'a Presentation, what: &'a Insert) -> Result<Piece<'a>, MoveReason>
     requires { IsInsertOver p.now what.now }
-    ensures piece { MatchResult result (λ x. piece_of p.now what.now ≡ Ok (letters_of x)) (λ e. piece_of p.now what.now ≡ Err e) }
+    ensures piece { MatchResult result (λ x. piece_of p.now what.now
+        ≡ Ok (letters_of x)) (λ e. piece_of p.now what.now ≡ Err e) }
     ensures countable { IfOk result IsCountable }
 {
     match what {

@@ -38,8 +38,10 @@ fn read_line(
     line: &[u8],
     moves: &mut Vec<Move>,
 ) -> Result<(), ReadFault>
-    ensures exact { ReadsLine moves.old.items moves.new.items (line_moves (finding p.now.names) number line.now) result }
-    ensures over { All (λ m. IsInsertOver p.now m.what) moves.old.items → OnOk result (All (λ m. IsInsertOver p.now m.what) moves.new.items) }
+    ensures exact { ReadsLine moves.old.items moves.new.items
+        (line_moves (finding p.now.names) number line.now) result }
+    ensures over { All (λ m. IsInsertOver p.now m.what) moves.old.items
+        → OnOk result (All (λ m. IsInsertOver p.now m.what) moves.new.items) }
 {
     let mut reader = WordReader {
         text: line,

@@ -50,7 +50,8 @@ module _ {K : Type 0} (eq : K → K → Bool) where
   split (t ∷ v) k = omega (arith, ints, split v k, sum_by-cons (λ u. down (here k u)) t v, sum_by-cons (λ u. up (here k u)) t v)
 
   pub Same-permutation : (v w : FormalSum K) → IsPermutation v w → Same eq v w
-  Same-permutation v w h k = same_in (coefficient eq v k) (coefficient eq w k) (omega (arith, split v k, split w k, sum_by-IsPermutation (λ t. down (here k t)) v w h, sum_by-IsPermutation (λ t. up (here k t)) v w h))
+  Same-permutation v w h k = same_in (coefficient eq v k) (coefficient eq w k)
+      (omega (arith, split v k, split w k, sum_by-IsPermutation (λ t. down (here k t)) v w h, sum_by-IsPermutation (λ t. up (here k t)) v w h))
 
 -- ---- a single term
 module _ {K : Type 0} {eq : K → K → Bool} (test : IsEqualityTest eq) where

@@ -1,5 +1,6 @@
 -- The universal property of formal sums: an additive map sees the coefficients alone.
-use Rattle.std.proofs.Common.{◌≡◌, ℕ, suc, zero, ◌+◌, ◌≤◌, Bool, true, false, cond, ℤ, pos, negsuc, ◌+ℤ◌, ◌*ℤ◌, [], ◌∷◌, ◌++◌, length, refl, sym, ap, subst, ◌∙◌, arith, append_assoc}
+use Rattle.std.proofs.Common.{◌≡◌, ℕ, suc, zero, ◌+◌, ◌≤◌, Bool, true, false, cond, ℤ, pos, negsuc, ◌+ℤ◌, ◌*ℤ◌, [], ◌∷◌, ◌++◌, length, refl, sym, ap, subst}
+use Rattle.std.proofs.Common.{◌∙◌, arith, append_assoc}
 use Rattle.std.proofs.Math.IntN.{+ℤ_assoc, +ℤ_comm, +ℤ_idl, zero-*ℤ, *ℤ_comm}
 use borrow.Author.Differences.{ints}
 use Rattle.formal_sums.specs.Evaluation.{Addition, IsAdditive, Extends, evaluate, integer_addition, sum_addition}
@@ -13,7 +14,8 @@ use Rattle.formal_sums.proofs.Keys.{eq-same}
 module _ {K C : Type 0} {addition : Addition C} {Alike : C → C → Type 0} (laws : IsAdditive addition Alike) (f : K → C) where
   pub evaluate-append : (v w : FormalSum K) → Alike (evaluate addition f (v ++ w)) (addition.plus (evaluate addition f v) (evaluate addition f w))
   evaluate-append [] w = laws.symmetric _ _ (laws.unit-plus _)
-  evaluate-append (t ∷ v) w = laws.transitive _ _ _ (laws.plus_congruent _ _ _ _ (laws.reflexive _) (evaluate-append v w)) (laws.symmetric _ _ (laws.plus_assoc _ _ _))
+  evaluate-append (t ∷ v) w = laws.transitive _ _ _ (laws.plus_congruent _ _ _ _ (laws.reflexive _) (evaluate-append v w))
+      (laws.symmetric _ _ (laws.plus_assoc _ _ _))
 
   pub evaluate_extends : Extends addition Alike f (evaluate addition f)
   evaluate_extends = record {
@@ -24,7 +26,8 @@ module _ {K C : Type 0} {addition : Addition C} {Alike : C → C → Type 0} (la
 
   pub evaluate_unique : (g : FormalSum K → C) → Extends addition Alike f g → (v : FormalSum K) → Alike (g v) (evaluate addition f v)
   evaluate_unique g extends [] = extends.empty
-  evaluate_unique g extends (t ∷ v) = laws.transitive _ _ _ (extends.append (t ∷ []) v) (laws.plus_congruent _ _ _ _ (extends.single t.0 t.1) (evaluate_unique g extends v))
+  evaluate_unique g extends (t ∷ v) = laws.transitive _ _ _ (extends.append (t ∷ []) v)
+      (laws.plus_congruent _ _ _ _ (extends.single t.0 t.1) (evaluate_unique g extends v))
 
 -- ---- the terms at other keys
 module _ {K : Type 0} {eq : K → K → Bool} (test : IsEqualityTest eq) where
@@ -51,7 +54,9 @@ module _ {K : Type 0} {eq : K → K → Bool} (test : IsEqualityTest eq) where
       by false = refl
   coefficient-others k (t ∷ v) m = by (coefficient-others k v m) (eq t.1 k) refl (eq k m) refl
     where
-      by : coefficient eq (others k v) m +ℤ cond (eq k m) (coefficient eq v k) (pos 0) ≡ coefficient eq v m → (b : Bool) → eq t.1 k ≡ b → (c : Bool) → eq k m ≡ c → coefficient eq (cond b (others k v) (t ∷ others k v)) m +ℤ cond c (cond b t.0 (pos 0) +ℤ coefficient eq v k) (pos 0) ≡ cond (eq t.1 m) t.0 (pos 0) +ℤ coefficient eq v m
+      by : coefficient eq (others k v) m +ℤ cond (eq k m) (coefficient eq v k) (pos 0) ≡ coefficient eq v m → (b : Bool) → eq t.1 k ≡ b → (c : Bool)
+          → eq k m ≡ c → coefficient eq (cond b (others k v) (t ∷ others k v)) m +ℤ cond c (cond b t.0 (pos 0) +ℤ coefficient eq v k) (pos 0)
+          ≡ cond (eq t.1 m) t.0 (pos 0) +ℤ coefficient eq v m
       by h true e true f =
           let h' : coefficient eq (others k v) m +ℤ coefficient eq v k ≡ coefficient eq v m = rw f at h in
           let g : eq t.1 m ≡ true = sym (eq-same test t.1 k m e) ∙ f in
@@ -70,7 +75,9 @@ module _ {K : Type 0} {eq : K → K → Bool} (test : IsEqualityTest eq) where
   Same-others : (k : K) (v w : FormalSum K) → Same eq v w → Same eq (others k v) (others k w)
   Same-others k v w z m = by (eq k m) (coefficient-others k v m) (coefficient-others k w m)
     where
-      by : (b : Bool) → coefficient eq (others k v) m +ℤ cond b (coefficient eq v k) (pos 0) ≡ coefficient eq v m → coefficient eq (others k w) m +ℤ cond b (coefficient eq w k) (pos 0) ≡ coefficient eq w m → coefficient eq (others k v) m ≡ coefficient eq (others k w) m
+      by : (b : Bool) → coefficient eq (others k v) m +ℤ cond b (coefficient eq v k) (pos 0) ≡ coefficient eq v m
+          → coefficient eq (others k w) m +ℤ cond b (coefficient eq w k) (pos 0) ≡ coefficient eq w m
+          → coefficient eq (others k v) m ≡ coefficient eq (others k w) m
       by true e f = omega (arith, ints, z k, z m)
       by false e f = omega (arith, ints, z m)
 
@@ -84,10 +91,13 @@ module _ {K : Type 0} {eq : K → K → Bool} (test : IsEqualityTest eq) where
 
     -- a value is its part at k and the rest
     evaluate-others : (k : K) (v : FormalSum K) → Alike (value v) (addition.plus (multiple (coefficient eq v k) k) (value (others k v)))
-    evaluate-others k [] = laws.symmetric _ _ (laws.transitive _ _ _ (laws.plus_congruent _ _ _ _ (laws.zero-times (f k)) (laws.reflexive _)) (laws.unit-plus _))
+    evaluate-others k [] = laws.symmetric _ _ (laws.transitive _ _ _ (laws.plus_congruent _ _ _ _ (laws.zero-times (f k)) (laws.reflexive _))
+        (laws.unit-plus _))
     evaluate-others k (t ∷ v) = by (evaluate-others k v) (eq t.1 k) refl
       where
-        by : Alike (value v) (addition.plus (multiple (coefficient eq v k) k) (value (others k v))) → (b : Bool) → eq t.1 k ≡ b → Alike (addition.plus (multiple t.0 t.1) (value v)) (addition.plus (multiple (cond b t.0 (pos 0) +ℤ coefficient eq v k) k) (value (cond b (others k v) (t ∷ others k v))))
+        by : Alike (value v) (addition.plus (multiple (coefficient eq v k) k) (value (others k v))) → (b : Bool) → eq t.1 k ≡ b
+            → Alike (addition.plus (multiple t.0 t.1) (value v)) (addition.plus (multiple (cond b t.0 (pos 0) +ℤ coefficient eq v k) k)
+            (value (cond b (others k v) (t ∷ others k v))))
         by ih true e =
             rw (test.sound t.1 k e)
             (laws.transitive _ _ _ (laws.plus_congruent _ _ _ _ (laws.reflexive _) ih)
@@ -103,14 +113,16 @@ module _ {K : Type 0} {eq : K → K → Bool} (test : IsEqualityTest eq) where
     at_key : (v w : FormalSum K) (k : K) → Same eq v w → Alike (value (others k v)) (value (others k w)) → Alike (value v) (value w)
     at_key v w k z h =
         laws.transitive _ _ _ (evaluate-others k v)
-        (laws.transitive _ _ _ (subst (λ (q : ℤ). Alike (addition.plus (multiple (coefficient eq v k) k) (value (others k v))) (addition.plus (multiple q k) (value (others k w)))) (z k) (laws.plus_congruent _ _ _ _ (laws.reflexive _) h))
+        (laws.transitive _ _ _ (subst (λ (q : ℤ). Alike (addition.plus (multiple (coefficient eq v k) k) (value (others k v)))
+        (addition.plus (multiple q k) (value (others k w)))) (z k) (laws.plus_congruent _ _ _ _ (laws.reflexive _) h))
         (laws.symmetric _ _ (evaluate-others k w)))
 
     same_to : (n : ℕ) (v w : FormalSum K) → length v + length w ≤ n → Same eq v w → Alike (value v) (value w)
     same_to n [] [] h z = laws.reflexive _
     same_to zero (t ∷ v) w h z = absurd (omega arith)
     same_to zero [] (t ∷ w) h z = absurd (omega arith)
-    same_to (suc n) (t ∷ v) w h z = at_key (t ∷ v) w t.1 z (same_to n (others t.1 (t ∷ v)) (others t.1 w) (omega (arith, fewer t v, length-others t.1 w)) (Same-others t.1 (t ∷ v) w z))
+    same_to (suc n) (t ∷ v) w h z = at_key (t ∷ v) w t.1 z (same_to n (others t.1 (t ∷ v)) (others t.1 w) (omega (arith, fewer t v, length-others t.1 w))
+        (Same-others t.1 (t ∷ v) w z))
     same_to (suc n) [] (t ∷ w) h z = at_key [] (t ∷ w) t.1 z (same_to n [] (others t.1 (t ∷ w)) (omega (arith, fewer t w)) (Same-others t.1 [] (t ∷ w) z))
 
     -- THE UNIVERSAL PROPERTY: sums with the same coefficients have the same value
@@ -119,7 +131,8 @@ module _ {K : Type 0} {eq : K → K → Bool} (test : IsEqualityTest eq) where
 
     -- a multiple of a sum with the value 0 has the value 0
     unit-append : (v w : FormalSum K) → Alike (value v) addition.unit → Alike (value (v ++ w)) (value w)
-    unit-append v w h = laws.transitive _ _ _ (evaluate-append laws f v w) (laws.transitive _ _ _ (laws.plus_congruent _ _ _ _ h (laws.reflexive _)) (laws.unit-plus _))
+    unit-append v w h = laws.transitive _ _ _ (evaluate-append laws f v w) (laws.transitive _ _ _ (laws.plus_congruent _ _ _ _ h (laws.reflexive _))
+        (laws.unit-plus _))
 
     more : (p q : ℤ) (v : FormalSum K) → q ≡ pos 1 +ℤ p → Same eq (scale q v) (v ++ scale p v)
     more p q v e m =
@@ -133,11 +146,15 @@ module _ {K : Type 0} {eq : K → K → Bool} (test : IsEqualityTest eq) where
     scale_none v = evaluate-same (scale (pos 0) v) [] (λ m. coefficient-scale eq (pos 0) v m ∙ zero-*ℤ (coefficient eq v m))
 
     -- one factor more or less, from p to q = 1 + p
-    scale_up : (p q : ℤ) (v : FormalSum K) → q ≡ pos 1 +ℤ p → Alike (value v) addition.unit → Alike (value (scale p v)) addition.unit → Alike (value (scale q v)) addition.unit
-    scale_up p q v e h g = laws.transitive _ _ _ (evaluate-same (scale q v) (v ++ scale p v) (more p q v e)) (laws.transitive _ _ _ (unit-append v (scale p v) h) g)
+    scale_up : (p q : ℤ) (v : FormalSum K) → q ≡ pos 1 +ℤ p → Alike (value v) addition.unit → Alike (value (scale p v)) addition.unit
+        → Alike (value (scale q v)) addition.unit
+    scale_up p q v e h g = laws.transitive _ _ _ (evaluate-same (scale q v) (v ++ scale p v) (more p q v e))
+        (laws.transitive _ _ _ (unit-append v (scale p v) h) g)
 
-    scale_down : (p q : ℤ) (v : FormalSum K) → q ≡ pos 1 +ℤ p → Alike (value v) addition.unit → Alike (value (scale q v)) addition.unit → Alike (value (scale p v)) addition.unit
-    scale_down p q v e h g = laws.transitive _ _ _ (laws.symmetric _ _ (unit-append v (scale p v) h)) (laws.transitive _ _ _ (laws.symmetric _ _ (evaluate-same (scale q v) (v ++ scale p v) (more p q v e))) g)
+    scale_down : (p q : ℤ) (v : FormalSum K) → q ≡ pos 1 +ℤ p → Alike (value v) addition.unit → Alike (value (scale q v)) addition.unit
+        → Alike (value (scale p v)) addition.unit
+    scale_down p q v e h g = laws.transitive _ _ _ (laws.symmetric _ _ (unit-append v (scale p v) h))
+        (laws.transitive _ _ _ (laws.symmetric _ _ (evaluate-same (scale q v) (v ++ scale p v) (more p q v e))) g)
 
     pub evaluate-scale_unit : (q : ℤ) (v : FormalSum K) → Alike (value v) addition.unit → Alike (value (scale q v)) addition.unit
     evaluate-scale_unit (pos zero) v h = scale_none v
@@ -192,19 +209,24 @@ module _ {K J : Type 0} (eq' : J → J → Bool) (f : K → J) where
       by q true = sym (*ℤ_comm q (pos 1) ∙ one-*ℤ q)
       by q false = omega (arith, ints)
 
-pub Same-rename : {K J : Type 0} {eq : K → K → Bool} (test : IsEqualityTest eq) (eq' : J → J → Bool) (f : K → J) (v w : FormalSum K) → Same eq v w → Same eq' (rename f v) (rename f w)
-Same-rename test eq' f v w h j = coefficient-rename eq' f v j ∙ evaluate-same test integers_additive (becomes eq' f j) v w h ∙ sym (coefficient-rename eq' f w j)
+pub Same-rename : {K J : Type 0} {eq : K → K → Bool} (test : IsEqualityTest eq) (eq' : J → J → Bool) (f : K → J) (v w : FormalSum K) → Same eq v w
+    → Same eq' (rename f v) (rename f w)
+Same-rename test eq' f v w h j = coefficient-rename eq' f v j ∙ evaluate-same test integers_additive (becomes eq' f j) v w h
+    ∙ sym (coefficient-rename eq' f w j)
 
-pub evaluate-rename : {K J C : Type 0} (addition : Addition C) (g : J → C) (f : K → J) (v : FormalSum K) → evaluate addition g (rename f v) ≡ evaluate addition (λ k. g (f k)) v
+pub evaluate-rename : {K J C : Type 0} (addition : Addition C) (g : J → C) (f : K → J) (v : FormalSum K)
+    → evaluate addition g (rename f v) ≡ evaluate addition (λ k. g (f k)) v
 evaluate-rename addition g f [] = refl
 evaluate-rename addition g f (t ∷ v) = ap (λ z. addition.plus (addition.times t.0 (g (f t.1))) z) (evaluate-rename addition g f v)
 
 -- keys that stay apart keep their coefficients
-pub coefficient-rename_apart : {K J : Type 0} (eq : K → K → Bool) (eq' : J → J → Bool) (f : K → J) → ((a b : K) → eq' (f a) (f b) ≡ eq a b) → (v : FormalSum K) (k : K) → coefficient eq' (rename f v) (f k) ≡ coefficient eq v k
+pub coefficient-rename_apart : {K J : Type 0} (eq : K → K → Bool) (eq' : J → J → Bool) (f : K → J) → ((a b : K) → eq' (f a) (f b) ≡ eq a b)
+    → (v : FormalSum K) (k : K) → coefficient eq' (rename f v) (f k) ≡ coefficient eq v k
 coefficient-rename_apart eq eq' f apart [] k = refl
 coefficient-rename_apart eq eq' f apart (t ∷ v) k = λ i. cond (apart t.1 k i) t.0 (pos 0) +ℤ coefficient-rename_apart eq eq' f apart v k i
 
 -- a key that no key becomes has the coefficient 0
-pub coefficient-rename_outside : {K J : Type 0} (eq' : J → J → Bool) (f : K → J) (j : J) → ((k : K) → eq' (f k) j ≡ false) → (v : FormalSum K) → coefficient eq' (rename f v) j ≡ pos 0
+pub coefficient-rename_outside : {K J : Type 0} (eq' : J → J → Bool) (f : K → J) (j : J) → ((k : K) → eq' (f k) j ≡ false) → (v : FormalSum K)
+    → coefficient eq' (rename f v) j ≡ pos 0
 coefficient-rename_outside eq' f j none [] = refl
 coefficient-rename_outside eq' f j none (t ∷ v) = rw (none t.1) (+ℤ_idl (coefficient eq' (rename f v) j) ∙ coefficient-rename_outside eq' f j none v)

@@ -93,7 +93,8 @@ module _ {K : Type 0} where
   NonZero-rename f (t ∷ v) n = (n.0, NonZero-rename f v n.1)
 
 -- a renaming that keeps the order among the keys that have the property In
-module _ {K J : Type 0} (Below : K → K → Type 0) (Below' : J → J → Type 0) (In : K → Type 0) (f : K → J) (kept : (a b : K) → In a → In b → Below a b → Below' (f a) (f b)) where
+module _ {K J : Type 0} (Below : K → K → Type 0) (Below' : J → J → Type 0) (In : K → Type 0) (f : K → J) (kept : (a b : K) → In a → In b → Below a b
+    → Below' (f a) (f b)) where
   pub AllBelow-rename : (p : K) (v : FormalSum K) → In p → AllByRecursion (λ t. In t.1) v → AllBelow Below p v → AllBelow Below' (f p) (rename f v)
   AllBelow-rename p [] i a below = tt
   AllBelow-rename p (t ∷ v) i a below = (kept t.1 p a.0 i below.0, AllBelow-rename p v i a.1 below.1)

@@ -65,7 +65,8 @@ floor-add_mul k l q h = by (floor_remainder k l h)
     regroup a b r = omega (arith, ints)
 
     by : (r : ℕ) × (k ≡ int_div_euclid k l *ℤ l +ℤ pos r) × (pos r <ℤ l) → int_div_euclid (k +ℤ q *ℤ l) l ≡ int_div_euclid k l +ℤ q
-    by (r, is, below) = floor_unique (k +ℤ q *ℤ l) l (int_div_euclid k l +ℤ q) r (ap (λ z. z +ℤ q *ℤ l) is ∙ regroup (int_div_euclid k l *ℤ l) (q *ℤ l) (pos r) ∙ ap (λ z. z +ℤ pos r) (sym (+ℤ-*ℤ (int_div_euclid k l) q l))) below
+    by (r, is, below) = floor_unique (k +ℤ q *ℤ l) l (int_div_euclid k l +ℤ q) r (ap (λ z. z +ℤ q *ℤ l) is ∙ regroup (int_div_euclid k l *ℤ l) (q *ℤ l) (pos r)
+        ∙ ap (λ z. z +ℤ pos r) (sym (+ℤ-*ℤ (int_div_euclid k l) q l))) below
 
 -- what is left when the floor is taken out has the floor 0
 pub floor_left : (k l : ℤ) → pos 0 <ℤ l → int_div_euclid (k +ℤ neg_ℤ (int_div_euclid k l *ℤ l)) l ≡ pos 0

@@ -26,9 +26,11 @@ and_parts true b e = (refl, e)
 and_parts false b e = absurd cc
 
 -- pairs are equal where both parts are
-pub pair_test : {K J : Type 0} {eq : K → K → Bool} {eq' : J → J → Bool} → IsEqualityTest eq → IsEqualityTest eq' → IsEqualityTest (λ (a b : K × J). eq a.0 b.0 && eq' a.1 b.1)
+pub pair_test : {K J : Type 0} {eq : K → K → Bool} {eq' : J → J → Bool} → IsEqualityTest eq → IsEqualityTest eq'
+    → IsEqualityTest (λ (a b : K × J). eq a.0 b.0 && eq' a.1 b.1)
 pair_test {K} {J} {eq} {eq'} test test' = record {
-  sound = λ a b e. let h : IsTrue (eq a.0 b.0) × IsTrue (eq' a.1 b.1) = and_parts (eq a.0 b.0) (eq' a.1 b.1) e in λ i. (test.sound a.0 b.0 h.0 i, test'.sound a.1 b.1 h.1 i);
+  sound = λ a b e. let h : IsTrue (eq a.0 b.0) × IsTrue (eq' a.1 b.1) = and_parts (eq a.0 b.0) (eq' a.1 b.1) e
+      in λ i. (test.sound a.0 b.0 h.0 i, test'.sound a.1 b.1 h.1 i);
   reflexive = λ a. rw (test.reflexive a.0) (test'.reflexive a.1);
 }
 
@@ -50,8 +52,13 @@ cmp_order {K} {cmp} laws exact = record {
     by a b Greater e = inr (inr (laws.antisymm b a ∙ ap ordering_reverse e))
 
 -- a strict order given by a test
-pub test_order : {K : Type 0} (lt : K → K → Bool) → ((a : K) → IsTrue (lt a a) → ⊥) → ((a b c : K) → IsTrue (lt a b) → IsTrue (lt b c) → IsTrue (lt a c)) → ((a b : K) → lt a b ≡ false → lt b a ≡ false → a ≡ b) → IsStrictOrder (λ a b. IsTrue (lt a b))
-test_order {K} lt irreflexive transitive total = record { irreflexive = irreflexive; transitive = transitive; total = λ a b. by a b (lt a b) refl (lt b a) refl }
+pub test_order : {K : Type 0} (lt : K → K → Bool) → ((a : K) → IsTrue (lt a a) → ⊥) → ((a b c : K) → IsTrue (lt a b) → IsTrue (lt b c) → IsTrue (lt a c))
+    → ((a b : K) → lt a b ≡ false → lt b a ≡ false → a ≡ b) → IsStrictOrder (λ a b. IsTrue (lt a b))
+test_order {K} lt irreflexive transitive total = record {
+  irreflexive = irreflexive;
+  transitive = transitive;
+  total = λ a b. by a b (lt a b) refl (lt b a) refl;
+}
   where
     by : (a b : K) (p : Bool) → lt a b ≡ p → (q : Bool) → lt b a ≡ q → (a ≡ b) ⊎ (IsTrue (lt a b) ⊎ IsTrue (lt b a))
     by a b true e q f = inr (inl e)
@@ -77,7 +84,8 @@ module _ {K : Type 0} {eq : K → K → Bool} (test : IsEqualityTest eq) where
   eq-above {Below} order a b h = eq-apart a b (λ e. order.irreflexive b (subst (λ z. Below b z) e h))
 
 -- a map that keeps keys apart carries the test over
-pub eq-injective : {K J : Type 0} {eq : K → K → Bool} {eq' : J → J → Bool} → IsEqualityTest eq → IsEqualityTest eq' → (f : K → J) → ((a b : K) → f a ≡ f b → a ≡ b) → (a b : K) → eq' (f a) (f b) ≡ eq a b
+pub eq-injective : {K J : Type 0} {eq : K → K → Bool} {eq' : J → J → Bool} → IsEqualityTest eq → IsEqualityTest eq' → (f : K → J)
+    → ((a b : K) → f a ≡ f b → a ≡ b) → (a b : K) → eq' (f a) (f b) ≡ eq a b
 eq-injective {K} {J} {eq} {eq'} test test' f injective a b = by (eq a b) refl
   where
     by : (r : Bool) → eq a b ≡ r → eq' (f a) (f b) ≡ r

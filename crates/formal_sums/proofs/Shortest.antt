@@ -1,5 +1,6 @@
 -- A strictly falling sum with no zero coefficient has no more terms than any sum that is the same, and no other keys.
-use Rattle.std.proofs.Common.{◌≡◌, ◌≢◌, ◌<◌, ◌≤◌, Bool, true, false, if◌then◌else◌, ℤ, pos, ◌+ℤ◌, List, [], ◌∷◌, length, IsTrue, refl, sym, ap, subst, ◌∙◌, arith}
+use Rattle.std.proofs.Common.{◌≡◌, ◌≢◌, ◌<◌, ◌≤◌, Bool, true, false, if◌then◌else◌, ℤ, pos, ◌+ℤ◌, List, [], ◌∷◌, length, IsTrue, refl, sym, ap, subst, ◌∙◌}
+use Rattle.std.proofs.Common.{arith}
 use Rattle.std.proofs.Math.IntN.{+ℤ_idl}
 use Rattle.std.specs.List.{AllByRecursion}
 use Rattle.formal_sums.specs.FormalSum.{FormalSum, coefficient, Same, Falling, NonZero}
@@ -86,7 +87,8 @@ module _ {K : Type 0} {eq : K → K → Bool} (test : IsEqualityTest eq) {Below 
       by : (b : Bool) → eq x t.1 ≡ b → coefficient eq v x ≡ coefficient eq (without test t.1 w) x
       by true c =
           let is : x ≡ t.1 = test.sound x t.1 c in
-          ap (coefficient eq v) is ∙ (coefficient-above test order t.1 v f.0 ∙ sym (ap (coefficient eq (without test t.1 w)) is ∙ coefficient-left_out test t.1 w))
+          ap (coefficient eq v) is ∙ (coefficient-above test order t.1 v f.0 ∙ sym (ap (coefficient eq (without test t.1 w)) is
+          ∙ coefficient-left_out test t.1 w))
       by false c =
           let other : x ≡ t.1 → ⊥ = unlike test x t.1 c in
           let other' : eq t.1 x ≡ false = unlike_back test t.1 x (λ p. other (sym p)) (eq t.1 x) refl in
@@ -104,7 +106,8 @@ module _ {K : Type 0} {eq : K → K → Bool} (test : IsEqualityTest eq) {Below 
       omega (arith, less, rest)
 
   -- its keys are keys of every sum that is the same
-  pub falling_keys : (P : K → Type 0) (v w : FormalSum K) → Falling Below v → NonZero v → Same eq v w → AllByRecursion (λ t. P t.1) w → AllByRecursion (λ t. P t.1) v
+  pub falling_keys : (P : K → Type 0) (v w : FormalSum K) → Falling Below v → NonZero v → Same eq v w → AllByRecursion (λ t. P t.1) w
+      → AllByRecursion (λ t. P t.1) v
   falling_keys P [] w f n e all = tt
   falling_keys P (t ∷ v) w f n e all = (
     key_found test P t.1 w (λ z. n.0 (sym (first_coefficient t v w f e) ∙ z)) all,

@@ -8,11 +8,13 @@ abbrev pub multiple : {K T : Type 0} → (T → K → K) → ℤ → T → Forma
 multiple move q t g = scale q (rename (move t) g)
 
 -- a finite sum of multiples of sums g with IsGenerator g, by elements t with Moves t
-pub data SumOfMultiples {K T : Type 0} (move : T → K → K) (Moves : T → Type 0) (IsGenerator : FormalSum K → Type 0) : FormalSum K → Type 0 where
+pub data SumOfMultiples {K T : Type 0} (move : T → K → K) (Moves : T → Type 0) (IsGenerator : FormalSum K
+    → Type 0) : FormalSum K → Type 0 where
   nothing : SumOfMultiples move Moves IsGenerator []
   more : (q : ℤ) (t : T) (g v : FormalSum K) → Moves t → IsGenerator g → SumOfMultiples move Moves IsGenerator v
       → SumOfMultiples move Moves IsGenerator (multiple move q t g ++ v)
 
 -- v is such a sum
-abbrev pub IsSpanned : {K T : Type 0} → (K → K → Bool) → (T → K → K) → (T → Type 0) → (FormalSum K → Type 0) → FormalSum K → Type 0
+abbrev pub IsSpanned : {K T : Type 0} → (K → K → Bool) → (T → K → K) → (T → Type 0) → (FormalSum K → Type 0)
+    → FormalSum K → Type 0
 IsSpanned {K} eq move Moves IsGenerator v = (w : FormalSum K) × SumOfMultiples move Moves IsGenerator w × Same eq v w

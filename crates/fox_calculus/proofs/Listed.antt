@@ -1,5 +1,6 @@
 -- The list of generators holds what the four kinds say, and nothing else.
-use Rattle.std.proofs.Common.{◌≡◌, ◌⊎◌, inl, inr, ℕ, zero, suc, ◌+◌, ◌<◌, ◌==◌, Bool, true, false, if◌then◌else◌, List, [], ◌∷◌, ◌++◌, length, map, Contains, refl, sym, ap, subst, arith}
+use Rattle.std.proofs.Common.{◌≡◌, ◌⊎◌, inl, inr, ℕ, zero, suc, ◌+◌, ◌<◌, ◌==◌, Bool, true, false, if◌then◌else◌, List, [], ◌∷◌, ◌++◌, length, map, Contains}
+use Rattle.std.proofs.Common.{refl, sym, ap, subst, arith}
 use Rattle.std.proofs.lemmas.Bool.Decides.{nat_tests}
 use Rattle.std.proofs.lemmas.List.Elements.{Contains-append_left, Contains-append_right}
 use Rattle.std.specs.List.{AllByRecursion, range_with_len, flat_map}
@@ -10,7 +11,8 @@ use Rattle.module_vec.specs.declared.places.Place.{Place}
 use Rattle.module_vec.specs.declared.places.Term.{Term}
 use Rattle.module_vec.specs.Modules.{vector_at}
 use Rattle.fox_calculus.specs.Fox.{fox, image}
-use Rattle.fox_calculus.specs.Generators.{binomial, unit_monomial, constant, components, relator_vectors, relator_binomials, unit_binomials, modulus_vectors, candidates, IsZero, IsWritten, AreWritten}
+use Rattle.fox_calculus.specs.Generators.{binomial, unit_monomial, constant, components, relator_vectors, relator_binomials, unit_binomials, modulus_vectors}
+use Rattle.fox_calculus.specs.Generators.{candidates, IsZero, IsWritten, AreWritten}
 use Rattle.fox_calculus.specs.Module.{IsGenerator}
 
 -- ---- elements of lists
@@ -28,7 +30,8 @@ all_map : {X Y : Type 0} (P : Y → Type 0) (f : X → Y) (xs : List X) → ((x 
 all_map P f [] h = tt
 all_map P f (x ∷ xs) h = (h x (contains_first x xs), all_map P f xs (λ y k. h y (contains_later x y xs k)))
 
-all_flat : {X Y : Type 0} (P : Y → Type 0) (f : X → List Y) (xs : List X) → ((x : X) → Contains xs x → AllByRecursion P (f x)) → AllByRecursion P (flat_map f xs)
+all_flat : {X Y : Type 0} (P : Y → Type 0) (f : X → List Y) (xs : List X) → ((x : X) → Contains xs x → AllByRecursion P (f x))
+    → AllByRecursion P (flat_map f xs)
 all_flat P f [] h = tt
 all_flat P f (x ∷ xs) h = all_append P (f x) (flat_map f xs) (h x (contains_first x xs)) (all_flat P f xs (λ y k. h y (contains_later x y xs k)))
 
@@ -137,5 +140,6 @@ pub written : (fs : List (FormalSum Place)) (gs : List (List Term)) → AreWritt
 written _ _ AreWritten.nothing f (k, lt, e) = absurd (omega (arith, lt))
 written _ _ (AreWritten.left_out x fs gs z h) f (zero, lt, e) = inl (subst IsZero e z)
 written _ _ (AreWritten.left_out x fs gs z h) f (suc k, lt, e) = written fs gs h f (k, omega (arith, lt), e)
-written _ _ (AreWritten.written x g fs gs n w h) f (zero, lt, e) = inr (record { number = 0; below = omega arith; is = subst (λ (y : FormalSum Place). IsWritten y g) e w })
+written _ _ (AreWritten.written x g fs gs n w h) f (zero, lt, e) =
+    inr (record { number = 0; below = omega arith; is = subst (λ (y : FormalSum Place). IsWritten y g) e w })
 written _ _ (AreWritten.written x g fs gs n w h) f (suc k, lt, e) = written_later f g gs (written fs gs h f (k, omega (arith, lt), e))

@@ -20,14 +20,16 @@ use Rattle.fox_calculus.specs.Module.{IsGenerator, HasVariables, IsMember}
 use Rattle.fox_calculus.proofs.Listed.{candidates_are, is_candidate, Origin, origin, Written, written}
 
 -- multiples of equal sums are equal
-same_multiple : (q : ℤ) (t : List ℕ) (f g : FormalSum Place) → Same same_place f g → Same same_place (scale q (rename (moved t) f)) (scale q (rename (moved t) g))
+same_multiple : (q : ℤ) (t : List ℕ) (f g : FormalSum Place) → Same same_place f g
+    → Same same_place (scale q (rename (moved t) f)) (scale q (rename (moved t) g))
 same_multiple q t f g e =
     Same-scale same_place q (rename (moved t) f) (rename (moved t) g) (Same-rename test same_place (moved t) f g e)
 
 abbrev Member : Presented → FormalSum Place → Type 0
 Member p v = IsSpanned same_place moved HasVariables (IsGenerator p) v
 
-steps_member : (p : Presented) (gens : List (List Term)) → ((i : ℕ) → i < length gens → Origin (IsGenerator p) (vector_at gens i)) → (ss : List Step) → AreSteps gens ss
+steps_member : (p : Presented) (gens : List (List Term)) → ((i : ℕ) → i < length gens → Origin (IsGenerator p) (vector_at gens i)) → (ss : List Step)
+    → AreSteps gens ss
     → Member p (sum_of_steps gens ss)
 steps_member p gens from [] are = spanned_nothing same_place moved HasVariables (IsGenerator p)
 steps_member p gens from (s ∷ ss) are =
@@ -38,7 +40,8 @@ steps_member p gens from (s ∷ ss) are =
     (spanned_multiple same_place moved HasVariables (IsGenerator p) s.q s.t o.from are.0.0 o.has))
     (steps_member p gens from ss are.1)
 
-pub listed_member : (p : Presented) (gens : List (List Term)) (v : FormalSum Place) → AreGenerators p gens → InModule gens (λ x. coefficient same_place v x) → IsMember p v
+pub listed_member : (p : Presented) (gens : List (List Term)) (v : FormalSum Place) → AreGenerators p gens → InModule gens (λ x. coefficient same_place v x)
+    → IsMember p v
 listed_member p gens v are sums =
     spanned_same same_place moved HasVariables (IsGenerator p) v (sum_of_steps gens sums.steps) sums.is
     (steps_member p gens (origin (IsGenerator p) (candidates p) gens are (candidates_are p)) sums.steps sums.are)
@@ -47,7 +50,8 @@ listed_member p gens v are sums =
 abbrev In : List (List Term) → FormalSum Place → Type 0
 In gens v = InModule gens (λ x. coefficient same_place v x)
 
-more_by : (gens : List (List Term)) (q : ℤ) (t : List ℕ) (g v : FormalSum Place) → HasVariables t → IsZero g ⊎ Written g gens → In gens v → In gens (span.multiple moved q t g ++ v)
+more_by : (gens : List (List Term)) (q : ℤ) (t : List ℕ) (g v : FormalSum Place) → HasVariables t → IsZero g ⊎ Written g gens → In gens v
+    → In gens (span.multiple moved q t g ++ v)
 more_by gens q t g v long (inl z) sums = record {
   steps = sums.steps;
   are = sums.are;
@@ -68,7 +72,8 @@ sum_listed : (p : Presented) (gens : List (List Term)) → ((g : FormalSum Place
 sum_listed p gens find _ SumOfMultiples.nothing = record { steps = []; are = tt; is = λ x. refl }
 sum_listed p gens find _ (SumOfMultiples.more q t g v long gen rest) = more_by gens q t g v long (find g gen) (sum_listed p gens find v rest)
 
-pub member_listed : (p : Presented) (gens : List (List Term)) (v : FormalSum Place) → AreGenerators p gens → IsMember p v → InModule gens (λ x. coefficient same_place v x)
+pub member_listed : (p : Presented) (gens : List (List Term)) (v : FormalSum Place) → AreGenerators p gens → IsMember p v
+    → InModule gens (λ x. coefficient same_place v x)
 member_listed p gens v are (w, total, same) =
     let sums = sum_listed p gens (λ g k. written (candidates p) gens are g (is_candidate p g k)) w total in
     record { steps = sums.steps; are = sums.are; is = λ x. same x ∙ sums.is x }

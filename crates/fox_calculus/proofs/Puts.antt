@@ -1,5 +1,6 @@
 -- Lists of sums, written as vectors, that grow at the end.
-use Rattle.std.proofs.Common.{◌≡◌, ◌≢◌, ℕ, zero, suc, ◌+◌, ◌<◌, ◌≤◌, ◌==◌, Bool, true, false, List, [], ◌∷◌, ◌++◌, length, take, map, get_or, sym, ap, subst, ◌∙◌, append_assoc, arith}
+use Rattle.std.proofs.Common.{◌≡◌, ◌≢◌, ℕ, zero, suc, ◌+◌, ◌<◌, ◌≤◌, ◌==◌, Bool, true, false, List, [], ◌∷◌, ◌++◌, length, take, map, get_or, sym, ap, subst}
+use Rattle.std.proofs.Common.{◌∙◌, append_assoc, arith}
 use Rattle.std.specs.List.{range_with_len, flat_map}
 use Rattle.std.proofs.lemmas.List.{take_all, take_more, map-append, append-nil}
 use Rattle.std.proofs.lemmas.Bool.Decides.{nat_tests}
@@ -11,7 +12,8 @@ use Rattle.module_vec.specs.declared.places.Term.{Term}
 use Rattle.fox_calculus.specs.Generators.{IsWritten, AreWritten, binomial}
 
 -- one more, which isn't zero
-pub written_more : (fs : List (FormalSum Place)) (gs : List (List Term)) (f : FormalSum Place) (g : List Term) → g ≢ [] → IsWritten f g → AreWritten fs gs → AreWritten (fs ++ f ∷ []) (gs ++ g ∷ [])
+pub written_more : (fs : List (FormalSum Place)) (gs : List (List Term)) (f : FormalSum Place) (g : List Term) → g ≢ [] → IsWritten f g → AreWritten fs gs
+    → AreWritten (fs ++ f ∷ []) (gs ++ g ∷ [])
 written_more _ _ f g n w AreWritten.nothing = AreWritten.written f g [] [] n w AreWritten.nothing
 written_more _ _ f g n w (AreWritten.left_out e fs gs z h) = AreWritten.left_out e (fs ++ f ∷ []) (gs ++ g ∷ []) z (written_more fs gs f g n w h)
 written_more _ _ f g n w (AreWritten.written e v fs gs m x h) = AreWritten.written e v (fs ++ f ∷ []) (gs ++ g ∷ []) m x (written_more fs gs f g n w h)
@@ -44,7 +46,8 @@ pub puts_lists : {X : Type 0} (f : X → List (FormalSum Place)) (xs : List X) (
     → Puts old (flat_map f (take i xs)) mid → Puts mid (f (get_or xs i d)) new → Puts old (flat_map f (take (i + 1) xs)) new
 puts_lists f xs i d old mid new lt a b =
     subst (λ (l : List (FormalSum Place)). Puts old l new)
-    (sym (ap (flat_map f) (take_more xs i d lt) ∙ (flat_map-append f (take i xs) (get_or xs i d ∷ []) ∙ ap (λ (l : List (FormalSum Place)). flat_map f (take i xs) ++ l) (append-nil (f (get_or xs i d))))))
+    (sym (ap (flat_map f) (take_more xs i d lt) ∙ (flat_map-append f (take i xs) (get_or xs i d ∷ [])
+    ∙ ap (λ (l : List (FormalSum Place)). flat_map f (take i xs) ++ l) (append-nil (f (get_or xs i d))))))
     (puts_both old mid new (flat_map f (take i xs)) (f (get_or xs i d)) a b)
 
 -- the same with the numbers from 0 on
@@ -74,7 +77,8 @@ put_one old new v (x ∷ now) is b e t pushed fs f w h =
 pub binomials_as : (m m' : List ℕ) (n n' : ℕ) (mid new : List (List Term)) → m ≡ m' → n ≡ n'
     → Puts mid (map (binomial m) (range_with_len 0 n)) new → Puts mid (map (binomial m') (range_with_len 0 n')) new
 binomials_as m m' n n' mid new e k h =
-    subst (λ (x : List ℕ). Puts mid (map (binomial x) (range_with_len 0 n')) new) e (subst (λ (x : ℕ). Puts mid (map (binomial m) (range_with_len 0 x)) new) k h)
+    subst (λ (x : List ℕ). Puts mid (map (binomial x) (range_with_len 0 n')) new) e
+    (subst (λ (x : ℕ). Puts mid (map (binomial m) (range_with_len 0 x)) new) k h)
 
 -- all of them have been put
 pub puts_all : {X : Type 0} (f : List X → List (FormalSum Place)) (xs ys : List X) (i : ℕ) (old new : List (List Term)) → xs ≡ ys → length xs ≤ i
@@ -96,7 +100,8 @@ pub lists_number : (f : ℕ → List (FormalSum Place)) (i : ℕ) (old mid new :
 lists_number f i old mid new a b =
     let more : range_with_len 0 (i + 1) ≡ range_with_len 0 i ++ i ∷ [] = next_range i in
     subst (λ (l : List (FormalSum Place)). Puts old l new)
-    (sym (ap (flat_map f) more ∙ (flat_map-append f (range_with_len 0 i) (i ∷ []) ∙ ap (λ (l : List (FormalSum Place)). flat_map f (range_with_len 0 i) ++ l) (append-nil (f i)))))
+    (sym (ap (flat_map f) more ∙ (flat_map-append f (range_with_len 0 i) (i ∷ [])
+    ∙ ap (λ (l : List (FormalSum Place)). flat_map f (range_with_len 0 i) ++ l) (append-nil (f i)))))
     (puts_both old mid new (flat_map f (range_with_len 0 i)) (f i) a b)
 
 -- the four kinds, one after another
@@ -111,6 +116,7 @@ pub puts_item : {X : Type 0} (f : X → FormalSum Place) (xs : List X) (i : ℕ)
     → Puts old (map f (take i xs)) mid → Puts mid (f x ∷ []) new → Puts old (map f (take (i + 1) xs)) new
 puts_item f xs i x d old mid new lt e a b = puts_next f xs i d old mid new lt a (subst (λ y. Puts mid (f y ∷ []) new) e b)
 
-pub puts_list_item : {X : Type 0} (f : X → List (FormalSum Place)) (xs : List X) (i : ℕ) (x d : X) (old mid new : List (List Term)) → i < length xs → x ≡ get_or xs i d
+pub puts_list_item : {X : Type 0} (f : X → List (FormalSum Place)) (xs : List X) (i : ℕ) (x d : X) (old mid new : List (List Term)) → i < length xs
+    → x ≡ get_or xs i d
     → Puts old (flat_map f (take i xs)) mid → Puts mid (f x) new → Puts old (flat_map f (take (i + 1) xs)) new
 puts_list_item f xs i x d old mid new lt e a b = puts_lists f xs i d old mid new lt a (subst (λ y. Puts mid (f y) new) e b)

@@ -1,5 +1,6 @@
 -- Sums of few small terms, as the Fox vector of a word that isn't too long, are within all limits.
-use Rattle.std.proofs.Common.{◌≡◌, ℕ, suc, ◌+◌, ◌≤◌, Bool, true, false, if◌then◌else◌, ℤ, pos, ◌+ℤ◌, unsigned_abs, List, [], ◌∷◌, ◌++◌, length, drop, sum_by, Err, refl, sym, subst, ap, ◌∙◌, arith}
+use Rattle.std.proofs.Common.{◌≡◌, ℕ, suc, ◌+◌, ◌≤◌, Bool, true, false, if◌then◌else◌, ℤ, pos, ◌+ℤ◌, unsigned_abs, List, [], ◌∷◌, ◌++◌, length, drop, sum_by}
+use Rattle.std.proofs.Common.{Err, refl, sym, subst, ap, ◌∙◌, arith}
 use borrow.Author.Differences.{ints}
 use Rattle.std.proofs.lemmas.List.{length-map}
 use Rattle.free_words.specs.declared.letter.Letter.{Letter}
@@ -59,7 +60,8 @@ fewer made v sparse is =
     omega (arith, le, a, b)
 
 -- few small terms pass no limit
-no_stop : (v : List Term) (s : Stop) → length v ≤ TERMS → sum_by (λ t. unsigned_abs t.k) v ≤ COEFFICIENT → StopsBy 0 (SumIsWide (coefficient_at v)) (coefficient_at v) s → ⊥
+no_stop : (v : List Term) (s : Stop) → length v ≤ TERMS → sum_by (λ t. unsigned_abs t.k) v ≤ COEFFICIENT
+    → StopsBy 0 (SumIsWide (coefficient_at v)) (coefficient_at v) s → ⊥
 no_stop v (Wide p n) few small stop = omega (arith, coefficient_small v p, small, stop.1.here)
 no_stop v (Long terms n) few small stop =
     let le : length stop.2.v ≤ length v = fewer v stop.2.v stop.2.sparse stop.2.is in

@@ -1,5 +1,6 @@
 -- The terms of a word that grows by a letter.
-use Rattle.std.proofs.Common.{◌≡◌, ℕ, ◌+◌, ◌<◌, ◌≤◌, Bool, true, false, ℤ, pos, negsuc, unsigned_abs, sum_by, replicate, arith, List, [], ◌∷◌, ◌++◌, length, take, get_or, refl, sym, ap, ◌∙◌, append_assoc, if◌then◌else◌}
+use Rattle.std.proofs.Common.{◌≡◌, ℕ, ◌+◌, ◌<◌, ◌≤◌, Bool, true, false, ℤ, pos, negsuc, unsigned_abs, sum_by, replicate, arith, List, [], ◌∷◌, ◌++◌, length}
+use Rattle.std.proofs.Common.{take, get_or, refl, sym, ap, ◌∙◌, append_assoc, if◌then◌else◌}
 use Rattle.std.proofs.lemmas.List.{take_more, map-append, append-nil}
 use Rattle.free_words.specs.declared.letter.Letter.{Letter}
 use Rattle.free_words.specs.Words.{IsOver, exponent_sum}
@@ -55,7 +56,8 @@ sums_begin sums e = e
 within : {a b i n : ℕ} → b ≤ i → i < n → n ≤ 32768 → a ≡ b → a < 60000
 within p q r e = omega (arith, p, q, r, e)
 
-pub sums_small : (sums : List ℤ) (w : List Letter) (i : ℕ) → IsOver 24 w → i < length w → length w ≤ 32768 → AreSums sums (take i w) → sum_by unsigned_abs sums < 60000
+pub sums_small : (sums : List ℤ) (w : List Letter) (i : ℕ) → IsOver 24 w → i < length w → length w ≤ 32768 → AreSums sums (take i w)
+    → sum_by unsigned_abs sums < 60000
 unfolding AreSums
 sums_small sums w i over lt short e = within (total_below w i over (omega (arith, lt))) lt short (ap (sum_by unsigned_abs) e)
 
@@ -65,7 +67,8 @@ unfolding AreSums
 sums_next sums next w i d lt known e k =
     k ∙ (ap (λ s. added s (get_or w i d)) e ∙ sym (ap exponent_sums (take_more w i d lt) ∙ sums_more (take i w) (get_or w i d) known))
 
-pub terms_next : (sums : List ℤ) (w : List Letter) (i : ℕ) (d : Letter) (made next : List Term) (t : Term) → i < length w → (get_or w i d).g < 24 → AreSums sums (take i w)
+pub terms_next : (sums : List ℤ) (w : List Letter) (i : ℕ) (d : Letter) (made next : List Term) (t : Term) → i < length w → (get_or w i d).g < 24
+    → AreSums sums (take i w)
     → sum_of made ≡ fox (take i w) → t ≡ running_term sums (get_or w i d) → next ≡ made ++ t ∷ [] → sum_of next ≡ fox (take (i + 1) w)
 unfolding AreSums
 terms_next sums w i d made next t lt known e so_far is pushed =

@@ -1,5 +1,5 @@
--- The Fox vector of a word: its free derivatives by the generators, as a formal sum of places. The derivative by x_g is the
--- coefficient of e_g, an element of the group ring of the free abelian group on the generators (Fox 1953).
+-- The Fox vector of a word: its free derivatives by the generators, as a formal sum of places. The derivative by x_g is
+-- the coefficient of e_g, an element of the group ring of the free abelian group on the generators (Fox 1953).
 use Rattle.std.specs.Prelude.{ℕ, ℤ, pos, negsuc, List, [], ◌∷◌, ◌++◌, map, if◌then◌else◌}
 use Rattle.std.specs.List.{range_with_len}
 use Rattle.free_words.specs.declared.letter.Letter.{Letter}

@@ -58,8 +58,10 @@ pub record IsWritten (f : FormalSum Place) (g : List Term) : Type 0 where
 -- the list has these sums in order, written as vectors, those that are zero left out
 pub data AreWritten : List (FormalSum Place) → List (List Term) → Type 0 where
   nothing : AreWritten [] []
-  left_out : (f : FormalSum Place) (fs : List (FormalSum Place)) (gs : List (List Term)) → IsZero f → AreWritten fs gs → AreWritten (f ∷ fs) gs
-  written : (f : FormalSum Place) (g : List Term) (fs : List (FormalSum Place)) (gs : List (List Term)) → g ≢ [] → IsWritten f g
+  left_out : (f : FormalSum Place) (fs : List (FormalSum Place)) (gs : List (List Term)) → IsZero f → AreWritten fs gs
+      → AreWritten (f ∷ fs) gs
+  written : (f : FormalSum Place) (g : List Term) (fs : List (FormalSum Place)) (gs : List (List Term)) → g ≢ []
+      → IsWritten f g
       → AreWritten fs gs → AreWritten (f ∷ fs) (g ∷ gs)
 
 -- the list of generators of the presentation

@@ -13,7 +13,8 @@ use Rattle.fox_calculus.specs.Generators.{binomial, unit_monomial, constant}
 -- one of the four kinds of generators
 pub data IsGenerator (p : Presented) : FormalSum Place → Type 0 where
   relator_vector : (r : List Letter) → Contains p.relators r → IsGenerator p (fox r)
-  relator_binomial : (r : List Letter) (c : ℕ) → Contains p.relators r → c < length p.names → IsGenerator p (binomial (image r) c)
+  relator_binomial : (r : List Letter) (c : ℕ) → Contains p.relators r → c < length p.names
+      → IsGenerator p (binomial (image r) c)
   unit_binomial : (g c : ℕ) → g < length p.names → c < length p.names → IsGenerator p (binomial (unit_monomial g) c)
   modulus_vector : (c : ℕ) → 0 < p.modulus → c < length p.names → IsGenerator p (constant p.modulus c)
 

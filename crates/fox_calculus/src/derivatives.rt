@@ -14,8 +14,8 @@ use presentation::Presentation;
 use std::alloc::{AllocError, Global};
 
 #[tactic(auto, using(crate::proofs::Over::written_over))]
-/// The Fox vector of a word over the presentation's generators: the sum of +[u]·e_g for each letter x_g after a prefix u,
-/// and of -[u x_g^-1]·e_g for each letter x_g^-1 (Fox 1953). It has at most as many terms as the word has letters.
+/// The Fox vector of a word over the presentation's generators: the sum of +[u]·e_g for each letter x_g after a prefix
+/// u, and of -[u x_g^-1]·e_g for each letter x_g^-1 (Fox 1953). It has at most as many terms as the word has letters.
 pub fn fox(alloc: Global, p: &Presentation, w: &Word) -> Result<ModVec, AllocError>
     requires over { IsOver (length p.now.names) w.now }
     requires short { length w.now ≤ COMPOSED }

@@ -1,10 +1,12 @@
 //! The generators of the module of a presentation.
 
-ghost use Rattle.std.specs.Prelude.{◌≡◌, ◌≢◌, ◌≤◌, ◌<◌, ◌*◌, ◌++◌, List, map, length, IfOk, OnOk, if◌then◌else◌, ◌==◌, [], ◌∷◌};
+ghost use Rattle.std.specs.Prelude.{◌≡◌, ◌≢◌, ◌≤◌, ◌<◌, ◌*◌, ◌++◌, List, map, length, IfOk, OnOk, if◌then◌else◌, ◌==◌};
+ghost use Rattle.std.specs.Prelude.{[], ◌∷◌};
 ghost use Rattle.std.specs.List.{range_with_len, flat_map};
 ghost use Rattle.formal_sums.specs.FormalSum.{FormalSum};
 ghost use Rattle.module_vec.specs.declared.places.Place.{Place};
-ghost use Rattle.fox_calculus.specs.Generators.{IsWritten, AreWritten, AreGenerators, binomial, relator_vectors, relator_binomials, unit_binomials, modulus_vectors};
+ghost use Rattle.fox_calculus.specs.Generators.{IsWritten, AreWritten, AreGenerators, binomial, relator_vectors};
+ghost use Rattle.fox_calculus.specs.Generators.{relator_binomials, unit_binomials, modulus_vectors};
 
 use crate::binomials::{binomial, constant, image, unit_monomial};
 use crate::derivatives::fox;
@@ -14,8 +16,8 @@ use presentation::Presentation;
 use std::alloc::{AllocError, Global};
 
 /// The generators of the presentation's module, in their order: the Fox vector of each relator; (x^a - 1)·e_c for each
-/// relator, where a are its exponent sums, and each component c; (x_g·y_g - 1)·e_c for each generator and each component;
-/// and with a modulus m also m·e_c for each component. Zero vectors are left out.
+/// relator, where a are its exponent sums, and each component c; (x_g·y_g - 1)·e_c for each generator and each
+/// component; and with a modulus m also m·e_c for each component. Zero vectors are left out.
 pub fn generators(alloc: Global, p: &Presentation) -> Result<Vec<ModVec>, AllocError>
     ensures { IfOk result (λ made. AreGenerators p.now made.items) }
 {
@@ -29,7 +31,8 @@ pub fn generators(alloc: Global, p: &Presentation) -> Result<Vec<ModVec>, AllocE
 
 // Puts the vector at the end, unless it is zero.
 fn put(made: &mut Vec<ModVec>, v: ModVec) -> Result<(), AllocError>
-    ensures { OnOk result ((fs : List (FormalSum Place)) (f : FormalSum Place) → IsWritten f v → AreWritten fs made.old.items → AreWritten (fs ++ f ∷ []) made.new.items) }
+    ensures { OnOk result ((fs : List (FormalSum Place)) (f : FormalSum Place) → IsWritten f v
+        → AreWritten fs made.old.items → AreWritten (fs ++ f ∷ []) made.new.items) }
 {
     if v.terms().is_empty() {
         return Ok(());
@@ -43,7 +46,8 @@ fn put_relator_vectors(
     made: &mut Vec<ModVec>,
     p: &Presentation,
 ) -> Result<(), AllocError>
-    ensures { OnOk result ((fs : List (FormalSum Place)) → AreWritten fs made.old.items → AreWritten (fs ++ relator_vectors p.now) made.new.items) }
+    ensures { OnOk result ((fs : List (FormalSum Place)) → AreWritten fs made.old.items
+        → AreWritten (fs ++ relator_vectors p.now) made.new.items) }
 {
     p.known();
     for r in p.relators() {
@@ -59,7 +63,8 @@ fn put_binomials(
     m: &Mono,
     count: u8,
 ) -> Result<(), AllocError>
-    ensures { OnOk result ((fs : List (FormalSum Place)) → AreWritten fs made.old.items → AreWritten (fs ++ map (binomial m.now) (range_with_len 0 count)) made.new.items) }
+    ensures { OnOk result ((fs : List (FormalSum Place)) → AreWritten fs made.old.items
+        → AreWritten (fs ++ map (binomial m.now) (range_with_len 0 count)) made.new.items) }
 {
     for c in 0..count {
         put(made, binomial(alloc, m, c)?)?;
@@ -72,7 +77,8 @@ fn put_relator_binomials(
     made: &mut Vec<ModVec>,
     p: &Presentation,
 ) -> Result<(), AllocError>
-    ensures { OnOk result ((fs : List (FormalSum Place)) → AreWritten fs made.old.items → AreWritten (fs ++ relator_binomials p.now) made.new.items) }
+    ensures { OnOk result ((fs : List (FormalSum Place)) → AreWritten fs made.old.items
+        → AreWritten (fs ++ relator_binomials p.now) made.new.items) }
 {
     p.known();
     for r in p.relators() {
@@ -86,7 +92,8 @@ fn put_unit_binomials(
     made: &mut Vec<ModVec>,
     p: &Presentation,
 ) -> Result<(), AllocError>
-    ensures { OnOk result ((fs : List (FormalSum Place)) → AreWritten fs made.old.items → AreWritten (fs ++ unit_binomials p.now) made.new.items) }
+    ensures { OnOk result ((fs : List (FormalSum Place)) → AreWritten fs made.old.items
+        → AreWritten (fs ++ unit_binomials p.now) made.new.items) }
 {
     p.known();
     for g in 0..p.count() {
@@ -100,7 +107,8 @@ fn put_modulus_vectors(
     made: &mut Vec<ModVec>,
     p: &Presentation,
 ) -> Result<(), AllocError>
-    ensures { OnOk result ((fs : List (FormalSum Place)) → AreWritten fs made.old.items → AreWritten (fs ++ modulus_vectors p.now) made.new.items) }
+    ensures { OnOk result ((fs : List (FormalSum Place)) → AreWritten fs made.old.items
+        → AreWritten (fs ++ modulus_vectors p.now) made.new.items) }
 {
     if p.modulus() == 0 {
         return Ok(());
@@ -110,7 +118,9 @@ fn put_modulus_vectors(
 
 // n·e_c for each of so many components c.
 fn put_constants(alloc: Global, made: &mut Vec<ModVec>, n: u32, count: u8) -> Result<(), AllocError>
-    ensures { OnOk result ((fs : List (FormalSum Place)) → AreWritten fs made.old.items → AreWritten (fs ++ map (Rattle.fox_calculus.specs.Generators.constant n) (range_with_len 0 count)) made.new.items) }
+    ensures { OnOk result ((fs : List (FormalSum Place)) → AreWritten fs made.old.items
+        → AreWritten (fs ++ map (Rattle.fox_calculus.specs.Generators.constant n) (range_with_len 0 count))
+        made.new.items) }
 {
     for c in 0..count {
         put(made, constant(alloc, n, c)?)?;

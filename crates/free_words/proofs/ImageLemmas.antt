@@ -1,5 +1,6 @@
 -- Substitution keeps products, inverses and what is made of them.
-use Rattle.std.proofs.Common.{◌≡◌, ℕ, zero, suc, ◌++◌, Bool, true, false, List, [], ◌∷◌, ℤ, pos, negsuc, not, if◌then◌else◌, refl, sym, ◌∙◌, ap, append_assoc, slice_index_or}
+use Rattle.std.proofs.Common.{◌≡◌, ℕ, zero, suc, ◌++◌, Bool, true, false, List, [], ◌∷◌, ℤ, pos, negsuc, not, if◌then◌else◌, refl, sym, ◌∙◌, ap, append_assoc}
+use Rattle.std.proofs.Common.{slice_index_or}
 use Rattle.std.proofs.lemmas.List.{append-nil}
 use Rattle.std.proofs.lemmas.Grind.{flat_map-append}
 use Rattle.free_words.specs.declared.letter.Letter.{Letter}
@@ -46,7 +47,8 @@ word_image-power images w (negsuc n) =
     word_image-copies images (suc n) (inverse w) ∙ ap (copies (suc n)) (word_image-inverse images w)
 
 -- the image of a commutator
-pub word_image-commutator : (images : List (List Letter)) (u v : List Letter) → word_image images (commutator u v) ≡ commutator (word_image images u) (word_image images v)
+pub word_image-commutator : (images : List (List Letter)) (u v : List Letter)
+    → word_image images (commutator u v) ≡ commutator (word_image images u) (word_image images v)
 word_image-commutator images u v =
     simp (word_image-append, word_image-inverse)
 
@@ -59,10 +61,12 @@ pub word_image-Cancels : (images : List (List Letter)) (w v : List Letter) → C
 word_image-Cancels images w v (Cancels.none _) = Cancels.none (word_image images w)
 word_image-Cancels images _ _ (Cancels.pair u v w x h) =
     let p : List Letter = letter_image images x in
-    let pair : Cancels (p ++ inverse p ++ word_image images v) (word_image images v) = Cancels-before (word_image images v) (p ++ inverse p) [] (Cancels-inverse p) in
+    let pair : Cancels (p ++ inverse p ++ word_image images v) (word_image images v) =
+    Cancels-before (word_image images v) (p ++ inverse p) [] (Cancels-inverse p) in
     let rest = word_image-Cancels images (u ++ v) w h in
     Cancels-trans _ (word_image images u ++ word_image images v) (word_image images w)
-    (rw (word_image-append images u (x ∷ flipped x ∷ v), letter_image-flipped images x, ← append_assoc p (inverse p) (word_image images v)) (Cancels-after (word_image images u) _ _ pair))
+    (rw (word_image-append images u (x ∷ flipped x ∷ v), letter_image-flipped images x, ← append_assoc p (inverse p) (word_image images v))
+    (Cancels-after (word_image images u) _ _ pair))
     (rw (← word_image-append images u v) rest)
 
 -- what the laws of substitution stand on

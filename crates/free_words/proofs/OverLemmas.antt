@@ -1,5 +1,6 @@
 -- Words over so many generators.
-use Rattle.std.proofs.Common.{◌≡◌, ℕ, zero, suc, ◌<◌, ◌≤◌, ◌++◌, Bool, true, false, List, [], ◌∷◌, length, slice_get, slice_index_or, Some, Contains, ℤ, pos, negsuc, if◌then◌else◌, sym, subst, arith}
+use Rattle.std.proofs.Common.{◌≡◌, ℕ, zero, suc, ◌<◌, ◌≤◌, ◌++◌, Bool, true, false, List, [], ◌∷◌, length, slice_get, slice_index_or, Some, Contains, ℤ, pos}
+use Rattle.std.proofs.Common.{negsuc, if◌then◌else◌, sym, subst, arith}
 use Rattle.std.specs.List.{AllByRecursion}
 use Rattle.std.proofs.lemmas.List.Elements.{All-from_recursion, recursion_from_All, All-contains, Contains-get_or}
 use Rattle.free_words.specs.declared.letter.Letter.{Letter}

@@ -1,5 +1,7 @@
 -- Exponent sums.
-use Rattle.std.proofs.Common.{◌≡◌, ℕ, ◌+◌, ◌<◌, ◌≤◌, ◌==◌, ◌&&◌, not, Bool, true, false, cond, List, [], ◌∷◌, ◌++◌, length, take, get_or, ℤ, pos, negsuc, ◌+ℤ◌, ◌-ℤ◌, neg_ℤ, ◌≤ℤ◌, if◌then◌else◌, refl, sym, ◌∙◌, ap, arith, FitsSigned, to_z, of_z, w32, length-take, set, get_or-set_same, get_or-set_other, ◌≢◌}
+use Rattle.std.proofs.Common.{◌≡◌, ℕ, ◌+◌, ◌<◌, ◌≤◌, ◌==◌, ◌&&◌, not, Bool, true, false, cond, List, [], ◌∷◌, ◌++◌, length, take, get_or, ℤ, pos, negsuc, ◌+ℤ◌}
+use Rattle.std.proofs.Common.{◌-ℤ◌, neg_ℤ, ◌≤ℤ◌, if◌then◌else◌, refl, sym, ◌∙◌, ap, arith, FitsSigned, to_z, of_z, w32, length-take, set, get_or-set_same}
+use Rattle.std.proofs.Common.{get_or-set_other, ◌≢◌}
 use Rattle.std.proofs.lemmas.Bool.Decides.{nat_tests}
 use Rattle.std.proofs.lemmas.Int.{ints, to_z-of_z}
 use Rattle.std.proofs.lemmas.List.{take_more}
@@ -29,7 +31,8 @@ exponent_sum-flipped : (g : ℕ) (x : Letter) → exponent_sum g (flipped x ∷ 
 unfolding exponent_sum
 exponent_sum-flipped g x = by (x.g == g) x.inv
   where
-    by : (same b : Bool) → pos (0 + cond (same && not (not b)) 1 0) -ℤ pos (0 + cond (same && not b) 1 0) ≡ neg_ℤ (pos (0 + cond (same && not b) 1 0) -ℤ pos (0 + cond (same && b) 1 0))
+    by : (same b : Bool) → pos (0 + cond (same && not (not b)) 1 0) -ℤ pos (0 + cond (same && not b) 1 0)
+        ≡ neg_ℤ (pos (0 + cond (same && not b) 1 0) -ℤ pos (0 + cond (same && b) 1 0))
     by true true = refl
     by true false = refl
     by false true = refl
@@ -41,13 +44,29 @@ unfolding exponent_sum
 exponent_sum-inverse g [] = refl
 exponent_sum-inverse g (x ∷ w) =
     ap (exponent_sum g) (inverse-cons x w)
-    ∙ omega (arith, ints, exponent_sum-append g (inverse w) (flipped x ∷ []), exponent_sum-append g (x ∷ []) w, exponent_sum-flipped g x, exponent_sum-inverse g w)
+    ∙ omega (
+      arith,
+      ints,
+      exponent_sum-append g (inverse w) (flipped x ∷ []),
+      exponent_sum-append g (x ∷ []) w,
+      exponent_sum-flipped g x,
+      exponent_sum-inverse g w,
+    )
 
 -- leaving out pairs changes no exponent sum
 pub exponent_sum-Cancels : (g : ℕ) (w v : List Letter) → Cancels w v → exponent_sum g w ≡ exponent_sum g v
 exponent_sum-Cancels g w v (Cancels.none _) = refl
 exponent_sum-Cancels g _ _ (Cancels.pair u v w x h) =
-    omega (arith, ints, exponent_sum-append g u (x ∷ flipped x ∷ v), exponent_sum-append g (x ∷ []) (flipped x ∷ v), exponent_sum-append g (flipped x ∷ []) v, exponent_sum-flipped g x, exponent_sum-append g u v, exponent_sum-Cancels g (u ++ v) w h)
+    omega (
+      arith,
+      ints,
+      exponent_sum-append g u (x ∷ flipped x ∷ v),
+      exponent_sum-append g (x ∷ []) (flipped x ∷ v),
+      exponent_sum-append g (flipped x ∷ []) v,
+      exponent_sum-flipped g x,
+      exponent_sum-append g u v,
+      exponent_sum-Cancels g (u ++ v) w h,
+    )
 
 -- an exponent sum is at most as large as the word is long
 pub exponent_sum-low : (g : ℕ) (w : List Letter) → neg_ℤ (pos (length w)) ≤ℤ exponent_sum g w
@@ -90,7 +109,15 @@ exponent_sum-outside n g (x ∷ w) over le =
 -- the exponent sum of a commutator
 pub exponent_sum-commutator : (g : ℕ) (u v : List Letter) → exponent_sum g (commutator u v) ≡ pos 0
 exponent_sum-commutator g u v =
-    omega (arith, ints, exponent_sum-append g (u ++ v ++ inverse u) (inverse v), exponent_sum-append g (u ++ v) (inverse u), exponent_sum-append g u v, exponent_sum-inverse g u, exponent_sum-inverse g v)
+    omega (
+      arith,
+      ints,
+      exponent_sum-append g (u ++ v ++ inverse u) (inverse v),
+      exponent_sum-append g (u ++ v) (inverse u),
+      exponent_sum-append g u v,
+      exponent_sum-inverse g u,
+      exponent_sum-inverse g v,
+    )
 
 -- one more letter
 pub exponent_sum-more : (g : ℕ) (w : List Letter) (i : ℕ) (d : Letter) → i < length w

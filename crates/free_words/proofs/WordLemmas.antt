@@ -1,5 +1,6 @@
 use Rattle.std.proofs.lemmas.List.{length-map, length-reverse, map-append, reverse-append, append-nil}
-use Rattle.std.proofs.Common.{◌+◌, ◌≡◌, ℕ, zero, suc, ◌*◌, Bool, true, false, not, List, [], ◌∷◌, ◌++◌, length, refl, sym, ◌∙◌, ap, subst, arith, append_assoc, length-append, take, ◌-◌, ℤ, pos, negsuc, neg_ℤ, reverse, int_lt, if◌then◌else◌}
+use Rattle.std.proofs.Common.{◌+◌, ◌≡◌, ℕ, zero, suc, ◌*◌, Bool, true, false, not, List, [], ◌∷◌, ◌++◌, length, refl, sym, ◌∙◌, ap, subst, arith, append_assoc}
+use Rattle.std.proofs.Common.{length-append, take, ◌-◌, ℤ, pos, negsuc, neg_ℤ, reverse, int_lt, if◌then◌else◌}
 use Rattle.std.proofs.lemmas.Bool.Decides.{nat_tests}
 use Rattle.std.proofs.Math.Seq.{take-append_seam}
 use Rattle.free_words.specs.declared.letter.Letter.{Letter}
@@ -64,7 +65,8 @@ inverse-cons x w = inverse-append (x ∷ []) w
 pub inverse-inverse : (w : List Letter) → inverse (inverse w) ≡ w
 inverse-inverse [] = refl
 inverse-inverse (x ∷ w) =
-    ap inverse (inverse-cons x w) ∙ inverse-append (inverse w) (flipped x ∷ []) ∙ ap (λ l. l ∷ inverse (inverse w)) (flipped-flipped x) ∙ ap (λ v. x ∷ v) (inverse-inverse w)
+    ap inverse (inverse-cons x w) ∙ inverse-append (inverse w) (flipped x ∷ []) ∙ ap (λ l. l ∷ inverse (inverse w)) (flipped-flipped x)
+    ∙ ap (λ v. x ∷ v) (inverse-inverse w)
 
 -- ---- copies and powers
 

@@ -1,5 +1,7 @@
 -- Words: lists of letters (g, +1 or -1), with product and inverse.
-use Rattle.std.specs.Prelude.{◌≡◌, ℕ, zero, suc, ◌<◌, ◌≤◌, not, ◌&&◌, ◌==◌, List, [], ◌∷◌, ◌++◌, map, reverse, length, count_by, slice_index_or, Result, Ok, Err, ℤ, pos, ◌-ℤ◌, unsigned_abs, int_lt, if◌then◌else◌}
+use Rattle.std.specs.Prelude.{◌≡◌, ℕ, zero, suc, ◌<◌, ◌≤◌, not, ◌&&◌, ◌==◌, List, [], ◌∷◌, ◌++◌, map, reverse, length}
+use Rattle.std.specs.Prelude.{count_by, slice_index_or, Result, Ok, Err, ℤ, pos, ◌-ℤ◌, unsigned_abs, int_lt}
+use Rattle.std.specs.Prelude.{if◌then◌else◌}
 use Rattle.std.specs.List.{AllByRecursion, flat_map}
 use Rattle.free_words.specs.declared.letter.Letter.{Letter}
 use Rattle.free_words.specs.declared.fault.WordFault.{WordFault}

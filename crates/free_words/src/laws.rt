@@ -3,7 +3,8 @@
 ghost use Rattle.std.specs.Prelude.{◌≡◌, ◌+◌, ◌*◌, ◌++◌, ◌∷◌, slice_index_or, false, ℕ, ℤ, pos, neg_ℤ, ◌+ℤ◌, List, []};
 ghost use Rattle.std.specs.List.{AllByRecursion};
 ghost use Rattle.free_words.specs.declared.letter.Letter.{Letter};
-ghost use Rattle.free_words.specs.Words.{IsOver, inverse, power, commutator, IsReduced, Cancels, word_image, exponent_sum};
+ghost use Rattle.free_words.specs.Words.{IsOver, inverse, power, commutator, IsReduced, Cancels, word_image};
+ghost use Rattle.free_words.specs.Words.{exponent_sum};
 
 /// A word has one freely reduced form: in whichever order pairs are left out, the same reduced word is left.
 #[tactic(auto, using(crate::proofs::ReductionLemmas::reductions))]
@@ -56,43 +57,50 @@ pub fn power_of_opposite()
 /// The image of a generator is the word that is put for it.
 #[tactic(auto, using(crate::proofs::ImageLemmas::images_of))]
 pub fn image_of_generator()
-    ensures { (images : List (List Letter)) (g : ℕ) → word_image images (record { g = g; inv = false } ∷ []) ≡ slice_index_or images g [] }
+    ensures { (images : List (List Letter)) (g : ℕ) → word_image images (record { g = g; inv = false } ∷ [])
+        ≡ slice_index_or images g [] }
 {}
 
 /// The image of a product is the product of the images.
 #[tactic(auto, using(crate::proofs::ImageLemmas::images_of))]
 pub fn image_of_product()
-    ensures { (images : List (List Letter)) (u v : List Letter) → word_image images (u ++ v) ≡ word_image images u ++ word_image images v }
+    ensures { (images : List (List Letter)) (u v : List Letter)
+        → word_image images (u ++ v) ≡ word_image images u ++ word_image images v }
 {}
 
 /// The image of an inverse is the inverse of the image.
 #[tactic(auto, using(crate::proofs::ImageLemmas::images_of))]
 pub fn image_of_inverse()
-    ensures { (images : List (List Letter)) (w : List Letter) → word_image images (inverse w) ≡ inverse (word_image images w) }
+    ensures { (images : List (List Letter)) (w : List Letter)
+        → word_image images (inverse w) ≡ inverse (word_image images w) }
 {}
 
 /// The image of a power is the power of the image.
 #[tactic(auto, using(crate::proofs::ImageLemmas::images_of))]
 pub fn image_of_power()
-    ensures { (images : List (List Letter)) (w : List Letter) (k : ℤ) → word_image images (power w k) ≡ power (word_image images w) k }
+    ensures { (images : List (List Letter)) (w : List Letter) (k : ℤ)
+        → word_image images (power w k) ≡ power (word_image images w) k }
 {}
 
 /// The image of a commutator is the commutator of the images.
 #[tactic(auto, using(crate::proofs::ImageLemmas::images_of))]
 pub fn image_of_commutator()
-    ensures { (images : List (List Letter)) (u v : List Letter) → word_image images (commutator u v) ≡ commutator (word_image images u) (word_image images v) }
+    ensures { (images : List (List Letter)) (u v : List Letter)
+        → word_image images (commutator u v) ≡ commutator (word_image images u) (word_image images v) }
 {}
 
 /// Leaving out pairs in a word leaves out pairs in its image.
 #[tactic(auto, using(crate::proofs::ImageLemmas::images_of))]
 pub fn image_of_cancelled()
-    ensures { (images : List (List Letter)) (w v : List Letter) → Cancels w v → Cancels (word_image images w) (word_image images v) }
+    ensures { (images : List (List Letter)) (w v : List Letter) → Cancels w v
+        → Cancels (word_image images w) (word_image images v) }
 {}
 
 /// The image of a word is over n generators where each of the images is.
 #[tactic(auto, using(crate::proofs::OverLemmas::over_images))]
 pub fn image_is_over()
-    ensures { (n : ℕ) (images : List (List Letter)) (w : List Letter) → AllByRecursion (IsOver n) images → IsOver n (word_image images w) }
+    ensures { (n : ℕ) (images : List (List Letter)) (w : List Letter) → AllByRecursion (IsOver n) images
+        → IsOver n (word_image images w) }
 {}
 
 /// The exponent sum of a product is the sum of the exponent sums.

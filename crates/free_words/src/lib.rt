@@ -1,8 +1,8 @@
 //! Words of a free group: lists of letters, each a generator or its inverse.
 //!
 //! A word is kept as it is written: nothing cancels before [`Word::reduce`] is called. A call that makes a longer word
-//! takes the greatest length that it may make, and answers [`WordFault::TooLong`] exactly where the result would pass it.
-//! The laws that hold of these words stand in [`laws`].
+//! takes the greatest length that it may make, and answers [`WordFault::TooLong`] exactly where the result would pass
+//! it. The laws that hold of these words stand in [`laws`].
 #![tactic(auto)]
 
 mod fault;

@@ -24,7 +24,8 @@ pub fn cancelled(alloc: Global, word: &[Letter]) -> Result<Vec<Letter>, AllocErr
 #[tactic(auto, using(crate::proofs::WordLemmas::IsReduced_push, crate::proofs::WordLemmas::IsReduced_pop, crate::proofs::WordLemmas::cancels_front, crate::proofs::WordLemmas::front_is_take))]
 fn put(letters: &mut Vec<Letter>, l: Letter) -> Result<(), AllocError>
     ensures reduced { OnOk result (IsReduced letters.old.items → IsReduced letters.new.items) }
-    ensures same { OnOk result ((t w : List Letter) → Cancels (letters.new.items ++ t) w → Cancels (letters.old.items ++ l ∷ t) w) }
+    ensures same { OnOk result ((t w : List Letter) → Cancels (letters.new.items ++ t) w
+        → Cancels (letters.old.items ++ l ∷ t) w) }
     ensures no_longer { OnOk result (length letters.new.items ≤ length letters.old.items + 1) }
 {
     if ends_with_inverse(letters, l) {

@@ -1,6 +1,7 @@
 //! Words of the free group, kept unreduced.
 
-ghost use Rattle.std.specs.Prelude.{◌≡◌, ◌+◌, ◌<◌, ◌≤◌, ◌^◌, [], ◌∷◌, ◌++◌, length, slice_get, slice_index_or, ℕ, pos, OnOk, OnErr, IfOk, IfErr, Some, IsErrOf, IsTrue, ◌↔◌};
+ghost use Rattle.std.specs.Prelude.{◌≡◌, ◌+◌, ◌<◌, ◌≤◌, ◌^◌, [], ◌∷◌, ◌++◌, length, slice_get, slice_index_or, ℕ, pos};
+ghost use Rattle.std.specs.Prelude.{OnOk, OnErr, IfOk, IfErr, Some, IsErrOf, IsTrue, ◌↔◌};
 
 use crate::fault::WordFault;
 use crate::images::{image_len, image_of};
@@ -30,7 +31,8 @@ impl Model for Word {
 }
 
 impl Word {
-    ghost use Rattle.free_words.specs.Words.{IsOver, inverse, commutator, copies, power, exponent_sum, word_image, MadeWithin, IsReduced, Cancels};
+    ghost use Rattle.free_words.specs.Words.{IsOver, inverse, commutator, copies, power, exponent_sum, word_image};
+    ghost use Rattle.free_words.specs.Words.{MadeWithin, IsReduced, Cancels};
 
     /// The empty word.
     pub fn new(alloc: Global) -> Word
@@ -84,7 +86,8 @@ impl Word {
         ensures ok { OnOk result (self.new ≡ self.old ++ l ∷ []) }
         ensures err { OnErr result (self.new ≡ self.old) }
         ensures within { OnOk result (length self.old + 1 ≤ limit) }
-        ensures too_long { (n : _) → IsErrOf result (WordFault.TooLong n) → (limit < length self.old + 1) × (n ≡ length self.old + 1) }
+        ensures too_long { (n : _) → IsErrOf result (WordFault.TooLong n)
+            → (limit < length self.old + 1) × (n ≡ length self.old + 1) }
     {
         within(self.letters.len() as u64 + 1, limit)?;
         self.letters.push(l)?;
@@ -125,7 +128,8 @@ impl Word {
         })
     }
 
-    /// The k-th power: so many copies of the word, or of its inverse where k is negative. The power 0 is the empty word.
+    /// The k-th power: so many copies of the word, or of its inverse where k is negative. The power 0 is the empty
+    /// word.
     pub fn power(&self, alloc: Global, k: i32, limit: u32) -> Result<Word, WordFault>
         ensures { MadeWithin limit (power self.now k) result }
     {

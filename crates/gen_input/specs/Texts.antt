@@ -12,7 +12,8 @@ abbrev pub numbered : List ℕ → ℕ → List ℕ
 numbered text n = text ++ decimal n
 
 abbrev pub relators : ℕ → ℕ → ℕ → List ℕ
-relators p q r = numbered (codes "<a, b, c | [a,b]^") p ++ (numbered (codes ", [a,c]^") q ++ (numbered (codes ", [b,c]^") r ++ (codes ">" ++ 10 ∷ [])))
+relators p q r = numbered (codes "<a, b, c | [a,b]^") p ++ (numbered (codes ", [a,c]^") q
+    ++ (numbered (codes ", [b,c]^") r ++ (codes ">" ++ 10 ∷ [])))
 
 -- from 2 to 13
 abbrev pub exponent : ℕ → ℕ
@@ -23,7 +24,8 @@ abbrev pub after_presentation : ℕ → ℕ
 after_presentation seed = next (next (next seed))
 
 abbrev pub presentation_text : ℕ → List ℕ
-presentation_text seed = relators (exponent (next seed)) (exponent (next (next seed))) (exponent (after_presentation seed))
+presentation_text seed = relators (exponent (next seed)) (exponent (next (next seed)))
+    (exponent (after_presentation seed))
 
 -- ---- a line of the session
 
@@ -39,9 +41,11 @@ commutator u v m = codes "[" ++ (u ++ (codes "," ++ (v ++ numbered (codes "]^") 
 
 abbrev pub form_text : Form → Line → List ℕ
 form_text Trivial l = codes "trivial " ++ commutator (power l.x l.i) (power l.y l.j) l.m
-form_text Equal l = codes "equal " ++ (product (power l.x l.i) (power l.y l.j) ++ (codes " = " ++ product (product (power l.y l.j) (power l.x l.i)) (commutator (l.x ∷ []) (l.y ∷ []) l.m)))
+form_text Equal l = codes "equal " ++ (product (power l.x l.i) (power l.y l.j)
+    ++ (codes " = " ++ product (product (power l.y l.j) (power l.x l.i)) (commutator (l.x ∷ []) (l.y ∷ []) l.m)))
 form_text Normal l = codes "normal " ++ commutator (power l.x l.i) (l.y ∷ []) l.m
-form_text Hom l = codes "hom <s,u | " ++ (commutator (codes "s") (codes "u") l.m ++ (codes "> -> " ++ (power l.x l.i ++ (codes ", " ++ power l.y l.j))))
+form_text Hom l = codes "hom <s,u | " ++ (commutator (codes "s") (codes "u") l.m
+    ++ (codes "> -> " ++ (power l.x l.i ++ (codes ", " ++ power l.y l.j))))
 
 abbrev pub line_text : Line → List ℕ
 line_text l = form_text l.form l

@@ -3,8 +3,8 @@
 ghost use Rattle.std.specs.Prelude.{◌≡◌, ◌<◌};
 ghost use Rattle.gen_input.specs.Draws.{next, drawn};
 
-/// A linear congruential generator of 64 bits, with the multiplier and the increment of Knuth's MMIX (The Art of Computer
-/// Programming 2, 3.3.4).
+/// A linear congruential generator of 64 bits, with the multiplier and the increment of Knuth's MMIX (The Art of
+/// Computer Programming 2, 3.3.4).
 #[derive(Clone, Copy)]
 pub struct Draws {
     state: u64,

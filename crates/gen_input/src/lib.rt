@@ -1,5 +1,5 @@
-//! Large inputs that a seed determines: a presentation of three generators whose commutators have small powers as relators,
-//! and a session of 2,000 questions about it. The same seed gives the same texts on every machine.
+//! Large inputs that a seed determines: a presentation of three generators whose commutators have small powers as
+//! relators, and a session of 2,000 questions about it. The same seed gives the same texts on every machine.
 #![tactic(auto)]
 
 mod draws;

@@ -3,7 +3,8 @@
 ghost use Rattle.std.specs.Prelude.{◌≡◌, ◌++◌, ◌∷◌, [], OnOk};
 ghost use Rattle.gen_input.specs.declared.lines.Form.TheVariants as forms;
 ghost use Rattle.gen_input.specs.Texts as Texts;
-ghost use Rattle.gen_input.specs.Texts.{numbered, power, product, commutator, form_text, line_text, first_of, second_of, line_from, after_line};
+ghost use Rattle.gen_input.specs.Texts.{numbered, power, product, commutator, form_text, line_text, first_of};
+ghost use Rattle.gen_input.specs.Texts.{second_of, line_from, after_line};
 
 use crate::draws::Draws;
 use spelling::write_number;

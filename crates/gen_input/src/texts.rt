@@ -10,8 +10,8 @@ use std::alloc::{AllocError, Global};
 
 /// The presentation and the session that the seed determines, as texts with line ends.
 ///
-/// The presentation is `<a, b, c | [a,b]^p, [a,c]^q, [b,c]^r>` with exponents from 2 to 13. The session has 2,000 lines,
-/// about powers of two of the generators.
+/// The presentation is `<a, b, c | [a,b]^p, [a,c]^q, [b,c]^r>` with exponents from 2 to 13. The session has 2,000
+/// lines, about powers of two of the generators.
 pub fn large(alloc: Global, seed: u64) -> Result<(Vec<u8>, Vec<u8>), AllocError>
     requires { seed < 1000000000 }
     ensures presentation { IfOk result (λ texts. texts.0.items ≡ presentation_text seed) }

@@ -20,7 +20,8 @@ use Rattle.hom_check.proofs.Fitting.{at_all}
 pub written_at : (w : List Letter) (v : List Term) → IsWritten (fox w) v → Path Coefficients (coefficient_at v) (fox_at w)
 written_at w v is = λ i x. is.same x i
 
-pub ends : (b : List (List Term)) (w : List Letter) (v rest : List Term) (steps : List Step) → IsWritten (fox w) v → IsRest b (coefficient_at v) rest steps → EndsIn b rest w
+pub ends : (b : List (List Term)) (w : List Letter) (v rest : List Term) (steps : List Step) → IsWritten (fox w) v → IsRest b (coefficient_at v) rest steps
+    → EndsIn b rest w
 ends b w v rest steps is chain = (steps, subst (λ (f : Coefficients). IsRest b f rest steps) (written_at w v is) chain)
 
 -- what is shown is a sum of multiples
@@ -46,7 +47,8 @@ one_more b q n before now i first last =
 pub all_shown : (b : List (List Term)) (q : Question) (n : ℕ) → AreShownTo b q n → length (subjects q) ≤ n → AllByRecursion (IsShown b) (subjects q)
 all_shown b q n before all = at_all (IsShown b) q (λ i first last. before i first (omega (arith, last, all)))
 
-pub is_first : (b : List (List Term)) (q : Question) (n : ℕ) (w : List Letter) (Goes : List Letter → Type 0) → n < length (subjects q) → AreShownTo b q n → w ≡ subject_at q (n + 1) → Goes w
+pub is_first : (b : List (List Term)) (q : Question) (n : ℕ) (w : List Letter) (Goes : List Letter → Type 0) → n < length (subjects q) → AreShownTo b q n
+    → w ≡ subject_at q (n + 1) → Goes w
     → IsFirstUnshown b q (n + 1) Goes
 is_first b q n w Goes within before is goes =
     record { number = omega arith; within = omega (arith, within); goes = subst Goes is goes; before = λ i first last. before i first (omega (arith, last)) }

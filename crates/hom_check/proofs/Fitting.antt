@@ -49,9 +49,11 @@ at_all P q each = recursion_from_All P (subjects q)
     (λ k d lt. let back : (k + 1) - 1 ≡ k = omega arith in
     subst P (ap (λ (i : ℕ). slice_index_or (subjects q) i []) back ∙ get_or_default (subjects q) k [] d lt) (each (k + 1) (omega arith) (omega (arith, lt))))
 
-pub subject_fits : (p : Presented) (q : Question) (j : ℕ) → IsWrittenQuestion p q → HasImages q → 1 ≤ j → j ≤ length (subjects q) → Fits (length p.names) (subject_at q j)
+pub subject_fits : (p : Presented) (q : Question) (j : ℕ) → IsWrittenQuestion p q → HasImages q → 1 ≤ j → j ≤ length (subjects q)
+    → Fits (length p.names) (subject_at q j)
 subject_fits p q j h images first last = all_at (Fits (length p.names)) q j (subjects_fit p q h images) first last
 
 -- the last subject of a question that has one
-pub last_fits : (p : Presented) (q : Question) (n : ℕ) → IsWrittenQuestion p q → HasImages q → n ≡ length (subjects q) → n ≢ 0 → length (subject_at q n) ≤ COMPOSED
+pub last_fits : (p : Presented) (q : Question) (n : ℕ) → IsWrittenQuestion p q → HasImages q → n ≡ length (subjects q) → n ≢ 0
+    → length (subject_at q n) ≤ COMPOSED
 last_fits p q n h images is some = let fits = subject_fits p q n h images (omega (arith, some)) (omega (arith, is)) in fits.1

@@ -28,7 +28,8 @@ pub fn first_unshown<L: VecList>(
     requires front { front ≤ length (L.vectors list.now) }
     ensures is { IfOk result (λ shown. Shows (take front (L.vectors list.now)) q.now shown) }
     // Where all are shown, each subject's Fox vector is a sum of multiples of entries below `front`.
-    ensures sums { IfOk result (λ shown. shown ≡ All → AllByRecursion (IsSum (take front (L.vectors list.now))) (subjects q.now)) }
+    ensures sums { IfOk result (λ shown. shown ≡ All
+        → AllByRecursion (IsSum (take front (L.vectors list.now))) (subjects q.now)) }
 {
     for place in 0..subject_count(q) {
         let number = place + 1;

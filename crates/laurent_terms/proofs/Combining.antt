@@ -1,5 +1,6 @@
 -- Lists of exponents given variable by variable.
-use Rattle.std.proofs.Common.{◌≡◌, ℕ, zero, suc, ◌+◌, ◌-◌, ◌<◌, ◌≤◌, max, Bool, true, false, ◌&&◌, nat_le, List, [], ◌∷◌, sum, length, slice_index, IsTrue, ◌↔◌, refl, sym, arith}
+use Rattle.std.proofs.Common.{◌≡◌, ℕ, zero, suc, ◌+◌, ◌-◌, ◌<◌, ◌≤◌, max, Bool, true, false, ◌&&◌, nat_le, List, [], ◌∷◌, sum, length, slice_index, IsTrue, ◌↔◌}
+use Rattle.std.proofs.Common.{refl, sym, arith}
 use Rattle.std.proofs.lemmas.List.Sums.{sum_by-cons}
 use Rattle.laurent_terms.specs.Monomials.{degree, combined, product, quotient, common_multiple, divides}
 
@@ -85,5 +86,6 @@ is_product s t u n a b c h = combined_at (λ x y. x + y) s t u n a b c h
 pub is_quotient : (s t u : List ℕ) (n : ℕ) → length s ≡ n → length t ≡ n → length u ≡ n → CombinedBelow (λ a b. a - b) s t u n → u ≡ quotient s t
 is_quotient s t u n a b c h = combined_at (λ x y. x - y) s t u n a b c h
 
-pub is_common_multiple : (s t u : List ℕ) (n : ℕ) → length s ≡ n → length t ≡ n → length u ≡ n → CombinedBelow (λ a b. max a b) s t u n → u ≡ common_multiple s t
+pub is_common_multiple : (s t u : List ℕ) (n : ℕ) → length s ≡ n → length t ≡ n → length u ≡ n → CombinedBelow (λ a b. max a b) s t u n
+    → u ≡ common_multiple s t
 is_common_multiple s t u n a b c h = combined_at (λ x y. max x y) s t u n a b c h

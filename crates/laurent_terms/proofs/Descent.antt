@@ -21,7 +21,8 @@ head_cases a b r e = by (nat_lt a b) refl (a == b) refl
     by false h true k = inr (grind arith, rw (h, k) at e)
     by false h false k = let wrong : Greater ≡ Less = rw (h, k) at e in absurd cc
 
-below_pair : (n a : ℕ) (s : List ℕ) → ((b : ℕ) → b < a → (t : List ℕ) → length t ≡ n → Acc (Earlier (suc n)) (b ∷ t)) → ((t : List ℕ) → Earlier n t s → Acc (Earlier (suc n)) (a ∷ t)) → (y : List ℕ) → Earlier (suc n) y (a ∷ s) → Acc (Earlier (suc n)) y
+below_pair : (n a : ℕ) (s : List ℕ) → ((b : ℕ) → b < a → (t : List ℕ) → length t ≡ n → Acc (Earlier (suc n)) (b ∷ t))
+    → ((t : List ℕ) → Earlier n t s → Acc (Earlier (suc n)) (a ∷ t)) → (y : List ℕ) → Earlier (suc n) y (a ∷ s) → Acc (Earlier (suc n)) y
 below_pair n a s f h [] (p, q, r) = absurd (omega (arith, p))
 below_pair n a s f h (b ∷ t) (p, q, r) = by (head_cases b a (slice_cmp nat_cmp t s) r)
   where
@@ -30,7 +31,8 @@ below_pair n a s f h (b ∷ t) (p, q, r) = by (head_cases b a (slice_cmp nat_cmp
     by (inr (e, k)) = subst (λ z. Acc (Earlier (suc n)) (z ∷ t)) (sym e) (h t (omega (arith, p), omega (arith, q), k))
 
 -- by the rest
-inner : (n a : ℕ) → ((b : ℕ) → b < a → (t : List ℕ) → length t ≡ n → Acc (Earlier (suc n)) (b ∷ t)) → (s : List ℕ) → Acc (Earlier n) s → Acc (Earlier (suc n)) (a ∷ s)
+inner : (n a : ℕ) → ((b : ℕ) → b < a → (t : List ℕ) → length t ≡ n → Acc (Earlier (suc n)) (b ∷ t)) → (s : List ℕ) → Acc (Earlier n) s
+    → Acc (Earlier (suc n)) (a ∷ s)
 inner n a f s (Acc.intro s' hs) = Acc.intro (a ∷ s) (λ y l. below_pair n a s f (λ t k. inner n a f t (hs t k)) y l)
 
 -- by the head
@@ -49,7 +51,8 @@ earlier_acc (suc n) (a ∷ s) e = outer n (λ t h. earlier_acc n t h) a (lt-wf_r
 
 -- with the degree in front, the order of monomials is that of lists
 with_degree : (n : ℕ) (k : List ℕ) → Acc (Earlier (suc n)) k → (s : List ℕ) → degree s ∷ s ≡ k → Acc (Below n) s
-with_degree n k (Acc.intro k' h) s e = Acc.intro s (λ t l. with_degree n (degree t ∷ t) (h (degree t ∷ t) (subst (Earlier (suc n) (degree t ∷ t)) e (ap suc l.0, ap suc l.1, l.2))) t refl)
+with_degree n k (Acc.intro k' h) s e = Acc.intro s (λ t l. with_degree n (degree t ∷ t)
+    (h (degree t ∷ t) (subst (Earlier (suc n) (degree t ∷ t)) e (ap suc l.0, ap suc l.1, l.2))) t refl)
 
 below_acc : (n : ℕ) (s : List ℕ) → length s ≡ n → Acc (Below n) s
 below_acc n s e = with_degree n (degree s ∷ s) (earlier_acc (suc n) (degree s ∷ s) (ap suc e)) s refl

@@ -1,5 +1,6 @@
 -- Products, quotients and common multiples, exponent by exponent.
-use Rattle.std.proofs.Common.{◌≡◌, ℕ, zero, suc, ◌+◌, ◌-◌, ◌<◌, ◌≤◌, max, Bool, true, false, nat_le, ◌&&◌, List, [], ◌∷◌, length, replicate, ◌↔◌, refl, sym, ap, ◌∙◌, arith, zero-add, add_comm, add_assoc}
+use Rattle.std.proofs.Common.{◌≡◌, ℕ, zero, suc, ◌+◌, ◌-◌, ◌<◌, ◌≤◌, max, Bool, true, false, nat_le, ◌&&◌, List, [], ◌∷◌, length, replicate, ◌↔◌, refl, sym, ap}
+use Rattle.std.proofs.Common.{◌∙◌, arith, zero-add, add_comm, add_assoc}
 use Rattle.std.proofs.lemmas.List.Sums.{sum_by-cons}
 use Rattle.laurent_terms.specs.declared.TheConstants.{VARIABLES}
 use Rattle.laurent_terms.specs.Monomials.{degree, combined, product, quotient, common_multiple, divides, one}
@@ -31,7 +32,8 @@ pub divides_trans : (r s t : List ℕ) → divides r s ≡ true → divides s t 
 divides_trans [] s t e f = refl
 divides_trans (x ∷ r) [] t e f = absurd cc
 divides_trans (x ∷ r) (y ∷ s) [] e f = absurd cc
-divides_trans (x ∷ r) (y ∷ s) (z ∷ t) e f = both x z r t (omega (arith, first_le x y r s e, first_le y z s t f)) (divides_trans r s t (others x y r s e) (others y z s t f))
+divides_trans (x ∷ r) (y ∷ s) (z ∷ t) e f = both x z r t (omega (arith, first_le x y r s e, first_le y z s t f))
+    (divides_trans r s t (others x y r s e) (others y z s t f))
 
 pub divides_antisym : (s t : List ℕ) → divides s t ≡ true → divides t s ≡ true → s ≡ t
 divides_antisym [] [] e f = refl
@@ -104,10 +106,17 @@ divides-common_multiple (x ∷ s) (y ∷ t) (z ∷ u) e =
           let low : max x y ≤ z = first_le (max x y) z (common_multiple s t) u h in
           let more : (divides s u ≡ true) × (divides t u ≡ true) = rest.0 (others (max x y) z (common_multiple s t) u h) in
           (both x z s u (omega (arith, low)) more.0, both y z t u (omega (arith, low)) more.1),
-      λ h. both (max x y) z (common_multiple s t) u (omega (arith, first_le x z s u h.0, first_le y z t u h.1)) (rest.1 (others x z s u h.0, others y z t u h.1)),
+      λ h. both (max x y) z (common_multiple s t) u (omega (arith, first_le x z s u h.0, first_le y z t u h.1))
+          (rest.1 (others x z s u h.0, others y z t u h.1)),
     )
 
 pub degree-common_multiple : (s t : List ℕ) → length s ≡ length t → degree (common_multiple s t) ≤ degree s + degree t
 degree-common_multiple [] t e = omega arith
 degree-common_multiple (x ∷ s) [] e = absurd (omega (arith, e))
-degree-common_multiple (x ∷ s) (y ∷ t) e = omega (arith, degree-common_multiple s t (omega (arith, e)), sum_by-cons (λ v. v) x s, sum_by-cons (λ v. v) y t, sum_by-cons (λ v. v) (max x y) (common_multiple s t))
+degree-common_multiple (x ∷ s) (y ∷ t) e = omega (
+  arith,
+  degree-common_multiple s t (omega (arith, e)),
+  sum_by-cons (λ v. v) x s,
+  sum_by-cons (λ v. v) y t,
+  sum_by-cons (λ v. v) (max x y) (common_multiple s t),
+)

@@ -48,7 +48,8 @@ module _ (a b d u w : ℕ) (some : 0 < b) (inner : IsFactors b (a % b) d u w) wh
       let v : first + w ≡ b / d = omega (arith, first_room) in
       let x : left + u ≡ (a % b) / d = omega (arith, second_room) in
       let whole : a ≡ (a / b) * b + a % b = omega arith in
-      let sum : first * ((a / b) * b + a % b) ≡ d + (a / b * first + left) * b = sum_up (a / b) (a % b) b d (b / d) ((a % b) / d) u w y z inner.sum first left v x in
+      let sum : first * ((a / b) * b + a % b) ≡ d + (a / b * first + left) * b =
+      sum_up (a / b) (a % b) b d (b / d) ((a % b) / d) u w y z inner.sum first left v x in
       record {
         divisor = IsGcd-from_mod a b d inner.divisor;
         positive = inner.positive;

@@ -1,5 +1,6 @@
 -- The monomial of an integer vector, number by number.
-use Rattle.std.proofs.Common.{◌≡◌, ℕ, zero, suc, ◌+◌, ◌-◌, ◌-ℤ◌, ◌⊎◌, inl, inr, slice_index, ◌*◌, ◌<◌, ◌≤◌, true, false, List, [], ◌∷◌, ◌++◌, length, take, replicate, slice_set, slice_index_or, sum_by, ℤ, pos, negsuc, refl, sym, ap, ◌∙◌, arith, append_assoc}
+use Rattle.std.proofs.Common.{◌≡◌, ℕ, zero, suc, ◌+◌, ◌-◌, ◌-ℤ◌, ◌⊎◌, inl, inr, slice_index, ◌*◌, ◌<◌, ◌≤◌, true, false, List, [], ◌∷◌, ◌++◌, length, take}
+use Rattle.std.proofs.Common.{replicate, slice_set, slice_index_or, sum_by, ℤ, pos, negsuc, refl, sym, ap, ◌∙◌, arith, append_assoc}
 use Rattle.std.specs.Prelude.{unsigned_abs, int_lt, nat_lt}
 use borrow.Author.Differences.{ints}
 use Rattle.std.proofs.lemmas.List.{set-append_right, length-append, length-replicate, length-take-le, take_more}
@@ -17,7 +18,13 @@ both_parts-append [] q = refl
 both_parts-append (z ∷ p) q = ap (λ t. positive_part z ∷ negative_part z ∷ t) (both_parts-append p q)
 
 pub length-monomial_of : (p : List ℤ) → 2 * length p ≤ VARIABLES → length (monomial_of p) ≡ VARIABLES
-length-monomial_of p h = omega (arith, length-append (both_parts p) (replicate (VARIABLES - 2 * length p) 0), length-both_parts p, length-replicate {A = ℕ} (VARIABLES - 2 * length p) 0)
+length-monomial_of p h = omega (
+  arith,
+  length-append (both_parts p) (replicate (VARIABLES - 2 * length p) 0),
+  length-both_parts p,
+  length-replicate {A =
+      ℕ} (VARIABLES - 2 * length p) 0,
+)
 
 parts_add_up : (z : ℤ) → positive_part z + negative_part z ≡ unsigned_abs z
 parts_add_up (pos n) = omega arith
@@ -27,7 +34,14 @@ degree-both_parts : (p : List ℤ) → degree (both_parts p) ≡ sum_by unsigned
 degree-both_parts [] = refl
 degree-both_parts (z ∷ p) =
     let rest = both_parts p in
-    omega (arith, parts_add_up z, degree-both_parts p, sum_by-cons unsigned_abs z p, sum_by-cons (λ v. v) (positive_part z) (negative_part z ∷ rest), sum_by-cons (λ v. v) (negative_part z) rest)
+    omega (
+      arith,
+      parts_add_up z,
+      degree-both_parts p,
+      sum_by-cons unsigned_abs z p,
+      sum_by-cons (λ v. v) (positive_part z) (negative_part z ∷ rest),
+      sum_by-cons (λ v. v) (negative_part z) rest,
+    )
 
 pub degree-monomial_of : (p : List ℤ) → degree (monomial_of p) ≡ sum_by unsigned_abs p
 degree-monomial_of p =
@@ -47,13 +61,16 @@ module _ (p : List ℤ) (m : ℕ) (room : VARIABLES - 2 * length p ≡ suc (suc 
   written : (at k a : ℕ) → at ≡ 2 * length p + k → slice_set (monomial_of p) at a ≡ both_parts p ++ slice_set (0 ∷ 0 ∷ replicate m 0) k a
   written at k a e =
       let off : at - 2 * length p ≡ k = omega arith in
-      rw before (set-append_right (both_parts p) (0 ∷ 0 ∷ replicate m 0) (2 * length p) at a (length-both_parts p) (omega arith) ∙ ap (λ n. both_parts p ++ slice_set (0 ∷ 0 ∷ replicate m 0) n a) off)
+      rw before (set-append_right (both_parts p) (0 ∷ 0 ∷ replicate m 0) (2 * length p) at a (length-both_parts p) (omega arith)
+      ∙ ap (λ n. both_parts p ++ slice_set (0 ∷ 0 ∷ replicate m 0) n a) off)
 
-  pub positive_next : (z : ℤ) (at : ℕ) → int_lt z (pos 0) ≡ false → at ≡ 2 * length p → slice_set (monomial_of p) at (unsigned_abs z) ≡ monomial_of (p ++ z ∷ [])
+  pub positive_next : (z : ℤ) (at : ℕ) → int_lt z (pos 0) ≡ false → at ≡ 2 * length p
+      → slice_set (monomial_of p) at (unsigned_abs z) ≡ monomial_of (p ++ z ∷ [])
   positive_next (pos n) at s e = written at 0 n (omega arith) ∙ sym (after (pos n))
   positive_next (negsuc n) at s e = absurd cc
 
-  pub negative_next : (z : ℤ) (at : ℕ) → int_lt z (pos 0) ≡ true → at ≡ 2 * length p + 1 → slice_set (monomial_of p) at (unsigned_abs z) ≡ monomial_of (p ++ z ∷ [])
+  pub negative_next : (z : ℤ) (at : ℕ) → int_lt z (pos 0) ≡ true → at ≡ 2 * length p + 1
+      → slice_set (monomial_of p) at (unsigned_abs z) ≡ monomial_of (p ++ z ∷ [])
   negative_next (pos n) at s e = let none : nat_lt n 0 ≡ false = grind arith in absurd cc
   negative_next (negsuc n) at s e = written at 1 (suc n) e ∙ sym (after (negsuc n))
 
@@ -65,11 +82,15 @@ module _ (p : List ℤ) (g : ℕ) (short : 2 * length p ≤ VARIABLES) (h : g < 
   room : VARIABLES - 2 * length done ≡ suc (suc (VARIABLES - 2 * length done - 2))
   room = omega (arith, length-take-le g p (omega arith))
 
-  pub positive_turn : (at : ℕ) → int_lt (slice_index_or p g (pos 0)) (pos 0) ≡ false → at ≡ 2 * g → slice_set (monomial_of (take g p)) at (unsigned_abs (slice_index_or p g (pos 0))) ≡ monomial_of (take (g + 1) p)
-  positive_turn at s e = rw (take_more p g (pos 0) h) (positive_next done (VARIABLES - 2 * length done - 2) room (slice_index_or p g (pos 0)) at s (omega (arith, length-take-le g p (omega arith))))
+  pub positive_turn : (at : ℕ) → int_lt (slice_index_or p g (pos 0)) (pos 0) ≡ false → at ≡ 2 * g
+      → slice_set (monomial_of (take g p)) at (unsigned_abs (slice_index_or p g (pos 0))) ≡ monomial_of (take (g + 1) p)
+  positive_turn at s e = rw (take_more p g (pos 0) h) (positive_next done (VARIABLES - 2 * length done - 2) room (slice_index_or p g (pos 0)) at s
+      (omega (arith, length-take-le g p (omega arith))))
 
-  pub negative_turn : (at : ℕ) → int_lt (slice_index_or p g (pos 0)) (pos 0) ≡ true → at ≡ 2 * g + 1 → slice_set (monomial_of (take g p)) at (unsigned_abs (slice_index_or p g (pos 0))) ≡ monomial_of (take (g + 1) p)
-  negative_turn at s e = rw (take_more p g (pos 0) h) (negative_next done (VARIABLES - 2 * length done - 2) room (slice_index_or p g (pos 0)) at s (omega (arith, length-take-le g p (omega arith))))
+  pub negative_turn : (at : ℕ) → int_lt (slice_index_or p g (pos 0)) (pos 0) ≡ true → at ≡ 2 * g + 1
+      → slice_set (monomial_of (take g p)) at (unsigned_abs (slice_index_or p g (pos 0))) ≡ monomial_of (take (g + 1) p)
+  negative_turn at s e = rw (take_more p g (pos 0) h) (negative_next done (VARIABLES - 2 * length done - 2) room (slice_index_or p g (pos 0)) at s
+      (omega (arith, length-take-le g p (omega arith))))
 
 pub monomial_of_is : (p : List ℤ) → 2 * length p ≤ VARIABLES → sum_by unsigned_abs p ≤ DEGREE → IsMonomial (monomial_of p)
 monomial_of_is p short small = record { variables = length-monomial_of p short; most = omega (arith, degree-monomial_of p) }

@@ -1,5 +1,6 @@
 -- From the factors of two natural numbers to those of two positive integers, the first as small as can be.
-use Rattle.std.proofs.Common.{◌≡◌, ℕ, zero, suc, Bool, true, false, ◌+◌, ◌-◌, ◌*◌, ◌/◌, ◌^◌, ◌<◌, ◌≤◌, ◌⊎◌, inl, inr, refl, sym, ap, subst, ◌∙◌, arith, ℤ, pos, negsuc, neg_ℤ, ◌+ℤ◌, ◌*ℤ◌, ◌-ℤ◌, ◌<ℤ◌, ◌≤ℤ◌, to_z, of_z}
+use Rattle.std.proofs.Common.{◌≡◌, ℕ, zero, suc, Bool, true, false, ◌+◌, ◌-◌, ◌*◌, ◌/◌, ◌^◌, ◌<◌, ◌≤◌, ◌⊎◌, inl, inr, refl, sym, ap, subst, ◌∙◌, arith, ℤ, pos}
+use Rattle.std.proofs.Common.{negsuc, neg_ℤ, ◌+ℤ◌, ◌*ℤ◌, ◌-ℤ◌, ◌<ℤ◌, ◌≤ℤ◌, to_z, of_z}
 use borrow.Author.Differences.{up, down, ints}
 use Rattle.std.specs.Prelude.{unsigned_abs, nat_lt, FitsSigned}
 use Rattle.std.specs.Int.{IsGcd, w128}
@@ -150,7 +151,8 @@ module _ (a b d u w : ℕ) (some : 0 < a) (f : IsFactors a b d u w) where
   }
 
 -- as the code has them, with the absolute values of positive integers for a and b
-module _ (c1 c2 : ℤ) (fits_c1 : FitsSigned w128 c1) (fits_c2 : FitsSigned w128 c2) (first : pos 0 <ℤ c1) (second : pos 0 <ℤ c2) (a b : ℕ) (is_a : a ≡ unsigned_abs (to_z w128 (of_z w128 c1))) (is_b : b ≡ unsigned_abs (to_z w128 (of_z w128 c2))) (d u w : ℕ) (f : IsFactors a b d u w) where
+module _ (c1 c2 : ℤ) (fits_c1 : FitsSigned w128 c1) (fits_c2 : FitsSigned w128 c2) (first : pos 0 <ℤ c1) (second : pos 0 <ℤ c2) (a b : ℕ) (is_a : a
+    ≡ unsigned_abs (to_z w128 (of_z w128 c1))) (is_b : b ≡ unsigned_abs (to_z w128 (of_z w128 c2))) (d u w : ℕ) (f : IsFactors a b d u w) where
   at_a : c1 ≡ pos a
   at_a = positive_is c1 first ∙ ap pos (sym (simp to_z-of_z at is_a))
 

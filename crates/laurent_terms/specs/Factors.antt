@@ -14,7 +14,8 @@ pub record IsBezout (a b d u v : ℤ) : Type 0 where
   pub below : (u *ℤ d) <ℤ b
   pub within : unsigned_abs v * unsigned_abs d ≤ unsigned_abs a
 
--- u times a less w times b is d, the greatest common divisor of a and b, and neither factor is greater than it has to be
+-- u times a less w times b is d, the greatest common divisor of a and b, and neither factor is greater than it has to
+-- be
 pub record IsFactors (a b d u w : ℕ) : Type 0 where
   pub divisor : IsGcd a b d
   pub positive : 0 < d

@@ -1,9 +1,10 @@
--- Monomials as lists of exponents. The generator numbered g has two variables, each with its own exponent: x_g at 2g, and y_g, which
--- stands for the inverse of x_g, at 2g + 1.
+-- Monomials as lists of exponents. The generator numbered g has two variables, each with its own exponent: x_g at 2g,
+-- and y_g, which stands for the inverse of x_g, at 2g + 1.
 use Rattle.std.specs.declared.cmp.Ordering.{Ordering}
 use Rattle.std.specs.Ordering.{nat_cmp, ordering_then}
 use Rattle.std.specs.Cmp.Lexicographic.{slice_cmp}
-use Rattle.std.specs.Prelude.{◌≡◌, ℕ, suc, ℤ, pos, negsuc, ◌+◌, ◌-◌, ◌*◌, ◌<◌, ◌≤◌, max, Bool, true, false, ◌&&◌, nat_le, List, [], ◌∷◌, ◌++◌, sum, length, replicate, slice_set, Option, Some, None}
+use Rattle.std.specs.Prelude.{◌≡◌, ℕ, suc, ℤ, pos, negsuc, ◌+◌, ◌-◌, ◌*◌, ◌<◌, ◌≤◌, max, Bool, true, false, ◌&&◌}
+use Rattle.std.specs.Prelude.{nat_le, List, [], ◌∷◌, ◌++◌, sum, length, replicate, slice_set, Option, Some, None}
 use Rattle.laurent_terms.specs.declared.TheConstants.{VARIABLES, DEGREE}
 
 -- the sum of the exponents

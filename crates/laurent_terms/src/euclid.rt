@@ -12,8 +12,8 @@ struct Factors {
     second: u128,
 }
 
-/// The greatest common divisor d of both numbers, and u and v with u·c1 + v·c2 = d, where u is the least number from 0 on
-/// for which there is such a v.
+/// The greatest common divisor d of both numbers, and u and v with u·c1 + v·c2 = d, where u is the least number from 0
+/// on for which there is such a v.
 pub fn bezout(c1: i128, c2: i128) -> (i128, i128, i128)
     requires c1 { pos 0 <ℤ c1 }
     requires c2 { pos 0 <ℤ c2 }

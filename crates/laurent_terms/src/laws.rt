@@ -2,11 +2,13 @@
 //! be an order, a division and a product. Lists of exponents stand for monomials. A law that wants lists of one length
 //! says so.
 
-ghost use Rattle.std.specs.Prelude.{◌≡◌, ℕ, ◌+◌, ◌*◌, ◌<◌, ◌≤◌, ◌⊎◌, ◌↔◌, true, List, length, ℤ, pos, ◌-ℤ◌, slice_index, slice_index_or, sum_by, unsigned_abs};
+ghost use Rattle.std.specs.Prelude.{◌≡◌, ℕ, ◌+◌, ◌*◌, ◌<◌, ◌≤◌, ◌⊎◌, ◌↔◌, true, List, length, ℤ, pos, ◌-ℤ◌};
+ghost use Rattle.std.specs.Prelude.{slice_index, slice_index_or, sum_by, unsigned_abs};
 ghost use Rattle.std.specs.Cmp.{IsTotalOrder};
 ghost use Rattle.std.specs.declared.cmp.Ordering.TheVariants.{Less, Equal};
 ghost use mathlib.Core.WellFounded.{WellFounded};
-ghost use Rattle.laurent_terms.specs.Monomials.{one, degree, product, quotient, common_multiple, divides, mono_cmp, monomial_of, positive_part, negative_part};
+ghost use Rattle.laurent_terms.specs.Monomials.{one, degree, product, quotient, common_multiple, divides, mono_cmp};
+ghost use Rattle.laurent_terms.specs.Monomials.{monomial_of, positive_part, negative_part};
 ghost use Rattle.laurent_terms.specs.Orders.{Below};
 
 use crate::VARIABLES;

@@ -1,7 +1,8 @@
 //! `Mono`: a monomial in 48 variables, with its degree beside the exponents.
 
 ghost use Rattle.std.specs.Prelude.{◌≡◌, ◌<◌, ◌≤◌, ◌+◌, ◌*◌, length, slice_index, true, sum_by, unsigned_abs, IfSome};
-ghost use Rattle.laurent_terms.specs.Monomials.{one, variable, variable_of, degree, product, quotient, common_multiple, divides, mono_cmp, MadeWithin, IsMonomial, monomial_of};
+ghost use Rattle.laurent_terms.specs.Monomials.{one, variable, variable_of, degree, product, quotient, common_multiple};
+ghost use Rattle.laurent_terms.specs.Monomials.{divides, mono_cmp, MadeWithin, IsMonomial, monomial_of};
 
 use crate::exponents::{differences, every_at_most, greater, sums, total};
 use crate::integers::{absolute_total, both_parts};
@@ -61,8 +62,8 @@ impl Mono {
         }
     }
 
-    /// The monomial of an integer vector of at most 24 numbers: positive ones stand with x_g, and the absolute values of
-    /// negative ones with y_g. `None` where the absolute values add up past [`DEGREE`].
+    /// The monomial of an integer vector of at most 24 numbers: positive ones stand with x_g, and the absolute values
+    /// of negative ones with y_g. `None` where the absolute values add up past [`DEGREE`].
     pub fn of_exponents(p: &[i32]) -> Option<Mono>
         requires { 2 * length p.now ≤ VARIABLES }
         ensures made { MadeWithin (sum_by unsigned_abs p.now) (monomial_of p.now) result }

@@ -1,6 +1,7 @@
 -- The fundamental formula of the free differential calculus (Fox 1953), seen through representatives and modulo the modulus: the
 -- ends of two words whose Fox vectors differ by an element of the module have one representative.
-use Rattle.std.proofs.Common.{◌≡◌, ℕ, suc, zero, ◌*◌, Bool, true, false, cond, ℤ, pos, negsuc, ◌+ℤ◌, ◌*ℤ◌, neg_ℤ, List, [], ◌∷◌, ◌++◌, refl, sym, ap, ◌∙◌, arith}
+use Rattle.std.proofs.Common.{◌≡◌, ℕ, suc, zero, ◌*◌, Bool, true, false, cond, ℤ, pos, negsuc, ◌+ℤ◌, ◌*ℤ◌, neg_ℤ, List, [], ◌∷◌, ◌++◌, refl, sym, ap, ◌∙◌}
+use Rattle.std.proofs.Common.{arith}
 use Rattle.std.proofs.Math.IntN.{+ℤ_assoc, +ℤ_comm, +ℤ_idl, zero-*ℤ}
 use borrow.Author.Differences.{ints}
 use Rattle.free_words.specs.declared.letter.Letter.{Letter}
@@ -11,13 +12,16 @@ use Rattle.formal_sums.specs.Span.SumOfMultiples.{nothing, more}
 use Rattle.formal_sums.proofs.Evaluation.{evaluate-append, evaluate-same, evaluate-scale_unit}
 use Rattle.formal_sums.proofs.Integers.{*ℤ-+ℤ, +ℤ-*ℤ}
 use Rattle.magnus_laws.proofs.Lattices.{Lattice, plus-none, less_and_more}
-use Rattle.magnus_laws.proofs.LatticeFox.{Point, same_point, shift, step_by, step, exponents, term_by, fox_from, fox_in, point_test, at-append, at-scale, fox_from-at}
+use Rattle.magnus_laws.proofs.LatticeFox.{Point, same_point, shift, step_by, step, exponents, term_by, fox_from, fox_in, point_test, at-append, at-scale}
+use Rattle.magnus_laws.proofs.LatticeFox.{fox_from-at}
 use Rattle.magnus_laws.proofs.LatticeModule.{IsLatticeGenerator, relator_vector, relator_binomial, modulus_vector, binomial, InModule}
 use Rattle.magnus_laws.proofs.Representatives.{representative, Joins, representative_joins, joins_first, joins_rest, generator_pairs, IsSum, sum_pairs}
 
 -- ---- additive maps that vanish on the multiples of generators
-module _ (L : Lattice) (p : Presented) {C : Type 0} {addition : Addition C} {Alike : C → C → Type 0} (laws : IsAdditive addition Alike) (f : Point L → C) (r : L.Z → L.Z)
-    (vanishes : (t : L.Z) (g : FormalSum (Point L)) (is : IsLatticeGenerator L p g) → Joins L r (generator_pairs L p t g is) → Alike (evaluate addition f (shift L t g)) addition.unit) where
+module _ (L : Lattice) (p : Presented) {C : Type 0} {addition : Addition C} {Alike : C → C → Type 0} (laws : IsAdditive addition Alike) (f : Point L
+    → C) (r : L.Z → L.Z)
+    (vanishes : (t : L.Z) (g : FormalSum (Point L)) (is : IsLatticeGenerator L p g) → Joins L r (generator_pairs L p t g is)
+    → Alike (evaluate addition f (shift L t g)) addition.unit) where
   sum_vanishes : (s : FormalSum (Point L)) (sum : IsSum L p s) → Joins L r (sum_pairs L p s sum) → Alike (evaluate addition f s) addition.unit
   unfolding sum_pairs
   sum_vanishes _ (nothing) joins = laws.reflexive _
@@ -25,7 +29,8 @@ module _ (L : Lattice) (p : Presented) {C : Type 0} {addition : Addition C} {Ali
       laws.transitive _ _ _ (evaluate-append laws f (scale q (shift L t g)) rest)
       (laws.transitive _ _ _
       (laws.plus_congruent _ _ _ _
-      (evaluate-scale_unit (point_test L) laws f q (shift L t g) (vanishes t g is (joins_first L r (generator_pairs L p t g is) (sum_pairs L p rest sum) joins)))
+      (evaluate-scale_unit (point_test L) laws f q (shift L t g) (vanishes t g is
+      (joins_first L r (generator_pairs L p t g is) (sum_pairs L p rest sum) joins)))
       (sum_vanishes rest sum (joins_rest L r (generator_pairs L p t g is) (sum_pairs L p rest sum) joins)))
       (laws.unit-plus _))
 
@@ -34,7 +39,14 @@ module _ (L : Lattice) (p : Presented) {C : Type 0} {addition : Addition C} {Ali
       → Alike (evaluate addition f v) (evaluate addition f w)
   values_agree v w s same sum joins =
       laws.transitive _ _ _
-      (evaluate-same (point_test L) laws f v (s ++ w) (λ m. omega (arith, ints, same m, at-append L v (scale (negsuc 0) w) m, at-scale L (negsuc 0) w m, at-append L s w m)))
+      (evaluate-same (point_test L) laws f v (s ++ w) (λ m. omega (
+        arith,
+        ints,
+        same m,
+        at-append L v (scale (negsuc 0) w) m,
+        at-scale L (negsuc 0) w m,
+        at-append L s w m,
+      )))
       (laws.transitive _ _ _ (evaluate-append laws f s w)
       (laws.transitive _ _ _ (laws.plus_congruent _ _ _ _ (sum_vanishes s sum joins) (laws.reflexive _)) (laws.unit-plus _)))
 
@@ -136,7 +148,8 @@ abbrev pub represented : (L : Lattice) (p : Presented) (v : FormalSum (Point L))
 represented L p v is = representative L (sum_pairs L p is.0 is.1)
 
 -- what the values at the ends say of the indicators
-ends : (m : ℕ) (q x y start at_end at_other : ℤ) → x ≡ y +ℤ pos m *ℤ q → x ≡ at_end +ℤ neg_ℤ start → y ≡ at_other +ℤ neg_ℤ start → at_end ≡ pos 0 → at_other ≡ pos 1
+ends : (m : ℕ) (q x y start at_end at_other : ℤ) → x ≡ y +ℤ pos m *ℤ q → x ≡ at_end +ℤ neg_ℤ start → y ≡ at_other +ℤ neg_ℤ start → at_end ≡ pos 0
+    → at_other ≡ pos 1
     → pos 0 ≡ pos 1 +ℤ pos m *ℤ q
 ends m q x y start at_end at_other e f g h k = solve (pos m *ℤ q) e
   where
@@ -144,7 +157,8 @@ ends m q x y start at_end at_other e f g h k = solve (pos m *ℤ q) e
     solve z d = omega (arith, ints, d, f, g, h, k)
 
 pub ends_meet : (L : Lattice) (p : Presented) → (p.modulus ≡ 1 → ⊥) → (u v : List Letter) (is : InModule L p (fox_in L u ++ scale (negsuc 0) (fox_in L v)))
-    → represented L p (fox_in L u ++ scale (negsuc 0) (fox_in L v)) is (exponents L u) ≡ represented L p (fox_in L u ++ scale (negsuc 0) (fox_in L v)) is (exponents L v)
+    → represented L p (fox_in L u ++ scale (negsuc 0) (fox_in L v)) is (exponents L u)
+    ≡ represented L p (fox_in L u ++ scale (negsuc 0) (fox_in L v)) is (exponents L v)
 ends_meet L p proper u v (s, sum, same) = decide (L.same (r (exponents L u)) z) refl
   where
     r : L.Z → L.Z
@@ -157,7 +171,8 @@ ends_meet L p proper u v (s, sum, same) = decide (L.same (r (exponents L u)) z) 
     value w = evaluate integer_addition (bump L r z) w
 
     agree : Modulo p.modulus (value (fox_in L u)) (value (fox_in L v))
-    agree = values_agree L p (modulo_additive p.modulus) (bump L r z) r (generator_boundary L r z p) (fox_in L u) (fox_in L v) s same sum (representative_joins L (sum_pairs L p s sum))
+    agree = values_agree L p (modulo_additive p.modulus) (bump L r z) r (generator_boundary L r z p) (fox_in L u) (fox_in L v) s same sum
+        (representative_joins L (sum_pairs L p s sum))
 
     at_end : (w : List Letter) → value (fox_in L w) ≡ indicator L r z (exponents L w) +ℤ neg_ℤ (indicator L r z L.none)
     at_end w = boundary L r z L.none w ∙ ap (λ a. indicator L r z a +ℤ neg_ℤ (indicator L r z L.none)) (L.none-plus (exponents L w))
@@ -166,5 +181,6 @@ ends_meet L p proper u v (s, sum, same) = decide (L.same (r (exponents L u)) z) 
     decide true test = L.test.sound (r (exponents L u)) z test
     decide false test =
         absurd (proper (divides_one p.modulus agree.0
-        (ends p.modulus agree.0 (value (fox_in L u)) (value (fox_in L v)) (indicator L r z L.none) (indicator L r z (exponents L u)) (indicator L r z (exponents L v)) agree.1 (at_end u) (at_end v)
+        (ends p.modulus agree.0 (value (fox_in L u)) (value (fox_in L v)) (indicator L r z L.none) (indicator L r z (exponents L u))
+        (indicator L r z (exponents L v)) agree.1 (at_end u) (at_end v)
         (ap (λ b. cond b (pos 1) (pos 0)) test) (ap (λ b. cond b (pos 1) (pos 0)) (L.test.reflexive z)))))

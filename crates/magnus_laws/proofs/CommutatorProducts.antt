@@ -1,6 +1,7 @@
 -- Up to moves, a word whose exponent sums are 0 is a product of commutators; such products commute, and where there is a
 -- modulus m their m-th powers are trivial.
-use Rattle.std.proofs.Common.{◌≡◌, ℕ, suc, zero, ◌<◌, ◌≤◌, ◌==◌, Bool, true, false, not, if◌then◌else◌, ℤ, pos, negsuc, ◌+ℤ◌, neg_ℤ, List, [], ◌∷◌, ◌++◌, length, refl, sym, ap, subst, ◌∙◌, arith, append_assoc, append-nil, length-append, ◌⊎◌, inl, inr}
+use Rattle.std.proofs.Common.{◌≡◌, ℕ, suc, zero, ◌<◌, ◌≤◌, ◌==◌, Bool, true, false, not, if◌then◌else◌, ℤ, pos, negsuc, ◌+ℤ◌, neg_ℤ, List, [], ◌∷◌, ◌++◌}
+use Rattle.std.proofs.Common.{length, refl, sym, ap, subst, ◌∙◌, arith, append_assoc, append-nil, length-append, ◌⊎◌, inl, inr}
 use Rattle.std.proofs.lemmas.Bool.Decides.{nat_tests}
 use borrow.Author.Differences.{ints}
 use Rattle.free_words.specs.declared.letter.Letter.{Letter}
@@ -79,7 +80,15 @@ pair_sum g l = by (l.g == g) l.inv
 
 sum_without : (g : ℕ) (l : Letter) (a b : List Letter) → exponent_sum g (l ∷ (a ++ flipped l ∷ b)) ≡ exponent_sum g (a ++ b)
 sum_without g l a b =
-    omega (arith, ints, exponent_sum-cons g l (a ++ flipped l ∷ b), exponent_sum-append g a (flipped l ∷ b), exponent_sum-cons g (flipped l) b, exponent_sum-append g a b, pair_sum g l)
+    omega (
+      arith,
+      ints,
+      exponent_sum-cons g l (a ++ flipped l ∷ b),
+      exponent_sum-append g a (flipped l ∷ b),
+      exponent_sum-cons g (flipped l) b,
+      exponent_sum-append g a b,
+      pair_sum g l,
+    )
 
 module _ (p : Presented) where
   pub reaches_same : (u u' v v' : List Letter) → u ≡ u' → v ≡ v' → Reaches p u v → Reaches p u' v'
@@ -98,7 +107,8 @@ module _ (p : Presented) where
   pull l a b over =
       let front : List Letter = l ∷ (a ++ flipped l ∷ []) in
       reaches_back p (commutator (l ∷ []) a ++ (a ++ b)) (l ∷ (a ++ flipped l ∷ b))
-      (reaches_same (front ++ ((inverse a ++ a) ++ b)) (commutator (l ∷ []) a ++ (a ++ b)) (front ++ b) (l ∷ (a ++ flipped l ∷ b)) (simp append_assoc) (simp append_assoc)
+      (reaches_same (front ++ ((inverse a ++ a) ++ b)) (commutator (l ∷ []) a ++ (a ++ b)) (front ++ b) (l ∷ (a ++ flipped l ∷ b)) (simp append_assoc)
+      (simp append_assoc)
       (reaches_between p front b (inverse a ++ a) [] (trivial_cancel_back p a over)))
 
   gather_next : (k : ℕ) (l : Letter) (w : List Letter) → Split l w → length (l ∷ w) ≤ suc k → IsWordOver p (l ∷ w) → ((g : ℕ) → exponent_sum g (l ∷ w) ≡ pos 0)
@@ -106,7 +116,8 @@ module _ (p : Presented) where
   gather_next k l w (a, b, e) short over sums rest =
       let parts = IsOver-parts (length p.names) a (flipped l ∷ b) (subst (IsWordOver p) e over.1) in
       let gathered : Gathers (a ++ b) =
-      rest (a ++ b) (omega (arith, short, length-append a b, length-append a (flipped l ∷ b), ap length e)) (IsOver-append (length p.names) a b parts.0 parts.1.1)
+      rest (a ++ b) (omega (arith, short, length-append a b, length-append a (flipped l ∷ b), ap length e))
+      (IsOver-append (length p.names) a b parts.0 parts.1.1)
       (λ g. sym (sum_without g l a b) ∙ ap (λ z. exponent_sum g (l ∷ z)) (sym e) ∙ sums g) in (
         commutator (l ∷ []) a ++ gathered.0,
         next (l ∷ []) a gathered.0 (over.0, tt) parts.0 gathered.1,
@@ -135,7 +146,8 @@ module _ (p : Presented) where
   commute-append : (u v w : List Letter) → Commute u v → Commute u w → Commute u (v ++ w)
   commute-append u v w first second =
       reaches_on p (u ++ (v ++ w)) (v ++ (u ++ w)) ((v ++ w) ++ u)
-      (reaches_same ((u ++ v) ++ w) (u ++ (v ++ w)) ((v ++ u) ++ w) (v ++ (u ++ w)) (append_assoc u v w) (append_assoc v u w) (reaches_before p w (u ++ v) (v ++ u) first))
+      (reaches_same ((u ++ v) ++ w) (u ++ (v ++ w)) ((v ++ u) ++ w) (v ++ (u ++ w)) (append_assoc u v w) (append_assoc v u w)
+      (reaches_before p w (u ++ v) (v ++ u) first))
       (subst (Reaches p (v ++ (u ++ w))) (sym (append_assoc v w u)) (reaches_behind p v (u ++ w) (w ++ u) second))
 
   trivial_commutator : (u v : List Letter) → IsWordOver p u → IsWordOver p v → Trivial p (commutator u v) → Commute u v
@@ -155,7 +167,8 @@ module _ (p : Presented) where
   products_commute c d (nothing) second = subst (Reaches p d) (sym (append-nil d)) (reaches_self p d)
   products_commute c d (next a b w oa ob rest) second =
       commute_back d (commutator a b ++ w)
-      (commute-append d (commutator a b) w (commute_back (commutator a b) d (one_commutator a b oa ob d second)) (commute_back w d (products_commute w d rest second)))
+      (commute-append d (commutator a b) w (commute_back (commutator a b) d (one_commutator a b oa ob d second))
+      (commute_back w d (products_commute w d rest second)))
 
   -- ---- powers
   pub copies_reach : (k : ℕ) (u v : List Letter) → Reaches p u v → Reaches p (copies k u) (copies k v)
@@ -187,4 +200,5 @@ module _ (p : Presented) where
   power_of_product some c (next a b w oa ob rest) =
       reaches_on p (copies p.modulus (commutator a b ++ w)) (copies p.modulus (commutator a b) ++ copies p.modulus w) []
       (copies_split p.modulus (commutator a b) w (one_commutator a b oa ob w rest))
-      (trivial_product p (copies p.modulus (commutator a b)) (copies p.modulus w) (trivial_piece p (copies p.modulus (commutator a b)) (power a b some oa ob)) (power_of_product some w rest))
+      (trivial_product p (copies p.modulus (commutator a b)) (copies p.modulus w) (trivial_piece p (copies p.modulus (commutator a b)) (power a b some oa ob))
+      (power_of_product some w rest))

@@ -56,7 +56,14 @@ long_unit : (g : ℕ) → g < GENERATORS → HasVariables (unit_monomial g)
 long_unit g below =
     let m : ℕ = VARIABLES - 2 * g - 2 in
     ap length (unit_monomial-is g m (omega (arith, below)))
-    ∙ omega (arith, below, length-append {A = ℕ} (replicate (2 * g) 0) (1 ∷ 1 ∷ replicate m 0), length-replicate {A = ℕ} (2 * g) 0, length-replicate {A = ℕ} m 0)
+    ∙ omega (
+      arith,
+      below,
+      length-append {A = ℕ} (replicate (2 * g) 0) (1 ∷ 1 ∷ replicate m 0),
+      length-replicate {A =
+          ℕ} (2 * g) 0,
+      length-replicate {A = ℕ} m 0,
+    )
 
 module _ (p : Presented) (known : IsPresented p) where
   abbrev pub n : ℕ
@@ -82,7 +89,8 @@ module _ (p : Presented) (known : IsPresented p) where
 
   generator-down : (g : FormalSum Place) → IsGenerator p g → InModule (tuples n) p (rename (down n) g)
   generator-down _ (relator_vector r listed) =
-      subst (InModule (tuples n) p) (sym (fox-down r (relator_over p known r listed))) (in_generator (tuples n) p (fox_in (tuples n) r) (IsLatticeGenerator.relator_vector r listed))
+      subst (InModule (tuples n) p) (sym (fox-down r (relator_over p known r listed)))
+      (in_generator (tuples n) p (fox_in (tuples n) r) (IsLatticeGenerator.relator_vector r listed))
   generator-down _ (relator_binomial r c listed below) =
       let e : IntegerTuple n = exponents (tuples n) r in
       subst (InModule (tuples n) p) (sym (binomial-down (image r) c e (ap (read n) (image-written n r few (relator_over p known r listed)) ∙ read-written n e)))

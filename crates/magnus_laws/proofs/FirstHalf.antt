@@ -12,14 +12,18 @@ use Rattle.derivation.proofs.Staying.{reaches_over}
 use Rattle.formal_sums.specs.FormalSum.{FormalSum, scale}
 use Rattle.formal_sums.proofs.Spans.{spanned_zero_difference, spanned_difference_back, spanned_difference_on}
 use Rattle.magnus_laws.proofs.Lattices.{Lattice, back, plus-none, plus-minus, minus-minus}
-use Rattle.magnus_laws.proofs.LatticeFox.{Point, same_point, shifted, shift, step, exponents, fox_in, at, at-append, at-scale, at-shift, step-flipped, exponents-inverse, exponents-commutator, exponents-copies, fox_in-append, fox_from-pair, fox_in-inverse, fox_in-copies, fox_in-commutator}
-use Rattle.magnus_laws.proofs.LatticeModule.{IsLatticeGenerator, relator_vector, Anywhere, InModule, in_same, in_nothing, in_append, in_multiple, in_generator, components-fox_from, Passes, passes_none, passes_relator, passes_minus, passes_all, modulus_times}
+use Rattle.magnus_laws.proofs.LatticeFox.{Point, same_point, shifted, shift, step, exponents, fox_in, at, at-append, at-scale, at-shift, step-flipped}
+use Rattle.magnus_laws.proofs.LatticeFox.{exponents-inverse, exponents-commutator, exponents-copies, fox_in-append, fox_from-pair, fox_in-inverse}
+use Rattle.magnus_laws.proofs.LatticeFox.{fox_in-copies, fox_in-commutator}
+use Rattle.magnus_laws.proofs.LatticeModule.{IsLatticeGenerator, relator_vector, Anywhere, InModule, in_same, in_nothing, in_append, in_multiple, in_generator}
+use Rattle.magnus_laws.proofs.LatticeModule.{components-fox_from, Passes, passes_none, passes_relator, passes_minus, passes_all, modulus_times}
 
 module _ (L : Lattice) (p : Presented) where
   -- ---- pieces
   passes_piece : (s : List Letter) → IsPiece p s → Passes L p (exponents L s)
   passes_piece _ (pair x over) =
-      passes_none L p (exponents L (x ∷ flipped x ∷ [])) (ap (L.plus (step L x)) (plus-none L (step L (flipped x)) ∙ step-flipped L x) ∙ plus-minus L (step L x))
+      passes_none L p (exponents L (x ∷ flipped x ∷ [])) (ap (L.plus (step L x)) (plus-none L (step L (flipped x)) ∙ step-flipped L x)
+      ∙ plus-minus L (step L x))
   passes_piece _ (relator r listed) = passes_relator L p r listed
   passes_piece _ (inverse_relator r listed) = subst (Passes L p) (sym (exponents-inverse L r)) (passes_minus L p (exponents L r) (passes_relator L p r listed))
   passes_piece _ (double a b c d oa ob oc od) =
@@ -83,7 +87,8 @@ module _ (L : Lattice) (p : Presented) where
       let four : at L (shift L a d) m ≡ at L (shift L e (fox_in L v)) back +ℤ at L (scale (negsuc 0) (fox_in L v)) back =
       at-shift L a d m ∙ at-append L (shift L e (fox_in L v)) (scale (negsuc 0) (fox_in L v)) back in
       let five : at L (scale (negsuc 0) (fox_in L v)) back ≡ negsuc 0 *ℤ at L (fox_in L v) back = at-scale L (negsuc 0) (fox_in L v) back in
-      let left : at L (longer ++ scale (negsuc 0) shorter) m ≡ at L longer m +ℤ at L (scale (negsuc 0) shorter) m = at-append L longer (scale (negsuc 0) shorter) m in
+      let left : at L (longer ++ scale (negsuc 0) shorter) m ≡ at L longer m +ℤ at L (scale (negsuc 0) shorter) m =
+      at-append L longer (scale (negsuc 0) shorter) m in
       let less : at L (scale (negsuc 0) shorter) m ≡ negsuc 0 *ℤ at L shorter m = at-scale L (negsuc 0) shorter m in
       let right : at L (own ++ moved) m ≡ at L own m +ℤ at L moved m = at-append L own moved m in
       omega (arith, ints, long, tail, short, rest, one, two, three, four, five, left, less, right))
@@ -96,7 +101,8 @@ module _ (L : Lattice) (p : Presented) where
   puts_in : (a b : List Letter) → (puts : PutsIn p a b) → IsWordOver p puts.back → Congruent (fox_in L b) (fox_in L a)
   puts_in a b puts over =
       subst (λ z. Congruent (fox_in L z) (fox_in L a)) (sym puts.with)
-      (subst (λ z. Congruent (fox_in L (puts.front ++ (puts.piece ++ puts.back))) (fox_in L z)) (sym puts.without) (put_in puts.front puts.piece puts.back puts.is_piece over))
+      (subst (λ z. Congruent (fox_in L (puts.front ++ (puts.piece ++ puts.back))) (fox_in L z)) (sym puts.without)
+      (put_in puts.front puts.piece puts.back puts.is_piece over))
 
   one_move : (a b : List Letter) → Moves p a b → IsWordOver p a → Congruent (fox_in L a) (fox_in L b)
   one_move a b (inl puts) over =
@@ -105,7 +111,8 @@ module _ (L : Lattice) (p : Presented) where
       let rest = (IsOver-parts (length p.names) puts.front (puts.piece ++ puts.back) (subst (IsWordOver p) puts.with over)).1 in
       puts_in b a puts (IsOver-parts (length p.names) puts.piece puts.back rest).1
 
-  leads_congruent : IsPresented p → (u : List Letter) (ws : List (List Letter)) (v : List Letter) → Leads p u ws v → IsWordOver p u → Congruent (fox_in L u) (fox_in L v)
+  leads_congruent : IsPresented p → (u : List Letter) (ws : List (List Letter)) (v : List Letter) → Leads p u ws v → IsWordOver p u
+      → Congruent (fox_in L u) (fox_in L v)
   leads_congruent known u [] v same over =
       subst (λ z. Congruent (fox_in L u) (fox_in L z)) same
       (spanned_zero_difference (same_point L) (shifted L) (Anywhere L p) (IsLatticeGenerator L p) (fox_in L u) (fox_in L u) (λ m. refl))

@@ -1,6 +1,7 @@
 -- The rules of the free differential calculus over monomials: of a product and of an inverse up to the module, and of a word with pairs
 -- left out exactly.
-use Rattle.std.proofs.Common.{◌≡◌, ℕ, Bool, true, false, cond, if◌then◌else◌, ℤ, pos, negsuc, ◌+ℤ◌, List, [], ◌∷◌, ◌++◌, map, length, refl, sym, ap, subst, ◌∙◌, arith, append_assoc, append-nil}
+use Rattle.std.proofs.Common.{◌≡◌, ℕ, Bool, true, false, cond, if◌then◌else◌, ℤ, pos, negsuc, ◌+ℤ◌, List, [], ◌∷◌, ◌++◌, map, length, refl, sym, ap, subst, ◌∙◌}
+use Rattle.std.proofs.Common.{arith, append_assoc, append-nil}
 use Rattle.std.specs.List.{range_with_len}
 use borrow.Author.Differences.{ints}
 use Rattle.free_words.specs.declared.letter.Letter.{Letter}
@@ -53,7 +54,13 @@ sums_on : (u v w : List Letter) → ((g : ℕ) → exponent_sum g u ≡ exponent
 sums_on u v w e g = exponent_sum-append g u w ∙ ap (λ z. z +ℤ exponent_sum g w) (e g) ∙ sym (exponent_sum-append g v w)
 
 letter_term_same : (u v : List Letter) (l : Letter) → ((g : ℕ) → exponent_sum g u ≡ exponent_sum g v) → letter_term u l ≡ letter_term v l
-letter_term_same u v l e = λ i. if l.inv then (negsuc 0, record { m = image_same (u ++ l ∷ []) (v ++ l ∷ []) (sums_on u v (l ∷ []) e) i; c = l.g }) else (pos 1, record { m = image_same u v e i; c = l.g })
+letter_term_same u v l e = λ i. if l.inv then (
+  negsuc 0,
+  record {
+    m = image_same (u ++ l ∷ []) (v ++ l ∷ []) (sums_on u v (l ∷ []) e) i;
+    c = l.g;
+  },
+) else (pos 1, record { m = image_same u v e i; c = l.g })
 
 -- what stands before counts by its exponent sums
 fox_after_same : (u v w : List Letter) → ((g : ℕ) → exponent_sum g u ≡ exponent_sum g v) → fox_after u w ≡ fox_after v w
@@ -96,8 +103,10 @@ pair_left_out u v x y =
     let one : ℤ × Place = letter_term u x in
     let two : ℤ × Place = letter_term (u ++ x ∷ []) (flipped x) in
     let behind : List Letter = (u ++ x ∷ []) ++ flipped x ∷ [] in
-    let rest : fox_after behind v ≡ fox_after u v = fox_after_same behind u v (λ g. ap (exponent_sum g) (append_assoc u (x ∷ []) (flipped x ∷ [])) ∙ pair_sums u x g) in
-    let left : coefficient same_place (fox (u ++ x ∷ flipped x ∷ v)) y ≡ coefficient same_place (fox u) y +ℤ coefficient same_place (one ∷ two ∷ fox_after u v) y =
+    let rest : fox_after behind v ≡ fox_after u v = fox_after_same behind u v (λ g. ap (exponent_sum g) (append_assoc u (x ∷ []) (flipped x ∷ []))
+    ∙ pair_sums u x g) in
+    let left : coefficient same_place (fox (u ++ x ∷ flipped x ∷ v)) y ≡ coefficient same_place (fox u) y
+    +ℤ coefficient same_place (one ∷ two ∷ fox_after u v) y =
     ap (λ z. coefficient same_place z y) (fox_after-append [] u (x ∷ flipped x ∷ v) ∙ ap (λ z. fox u ++ one ∷ two ∷ z) rest)
     ∙ coefficient-append same_place (fox u) (one ∷ two ∷ fox_after u v) y in
     let right : coefficient same_place (fox (u ++ v)) y ≡ coefficient same_place (fox u) y +ℤ coefficient same_place (fox_after u v) y =

@@ -23,13 +23,15 @@ module _ (q p : Presented) (images : List (List Letter)) (plain : q.modulus ≡ 
   image_piece : (s : List Letter) → IsPiece q s → Trivial p (image s)
   unfolding image
   image_piece _ (pair x over) =
-      subst (Trivial p) (sym (word_image-append images (x ∷ []) (flipped x ∷ []) ∙ ap (λ z. word_image images (x ∷ []) ++ z) (word_image-inverse images (x ∷ []))))
+      subst (Trivial p) (sym (word_image-append images (x ∷ []) (flipped x ∷ [])
+      ∙ ap (λ z. word_image images (x ∷ []) ++ z) (word_image-inverse images (x ∷ []))))
       (trivial_cancel p (word_image images (x ∷ [])) (image_over (x ∷ [])))
   image_piece _ (relator r listed) = keeps r listed
   image_piece _ (inverse_relator r listed) = subst (Trivial p) (sym (word_image-inverse images r)) (trivial_inverse p (word_image images r) (keeps r listed))
   image_piece _ (double a b c d oa ob oc od) =
       subst (Trivial p)
-      (sym (word_image-commutator images (commutator a b) (commutator c d) ∙ λ i. commutator (word_image-commutator images a b i) (word_image-commutator images c d i)))
+      (sym (word_image-commutator images (commutator a b) (commutator c d)
+      ∙ λ i. commutator (word_image-commutator images a b i) (word_image-commutator images c d i)))
       (trivial_piece p _ (double (image a) (image b) (image c) (image d) (image_over a) (image_over b) (image_over c) (image_over d)))
   image_piece _ (power a b some oa ob) = absurd (omega (arith, plain, some))
 
@@ -59,7 +61,8 @@ module _ (q p : Presented) (images : List (List Letter)) (plain : q.modulus ≡ 
   unfolding image
   keepers_extend w over way = image_leads w way.0 [] way.1
 
-pub kept_relators_suffice : (q p : Presented) (images : List (List Letter)) → q.modulus ≡ 0 → AreImages q images p → KeepsRelators q images p → Extends q images p
+pub kept_relators_suffice : (q p : Presented) (images : List (List Letter)) → q.modulus ≡ 0 → AreImages q images p → KeepsRelators q images p
+    → Extends q images p
 kept_relators_suffice q p images plain are keeps = keepers_extend q p images plain are keeps
 
 pub homomorphisms_keep_relators : (q p : Presented) (images : List (List Letter)) → IsPresented q → Extends q images p → KeepsRelators q images p

@@ -1,5 +1,6 @@
 -- Fox vectors with exponents in a lattice, where the product rule is an equation of lists (Fox 1953).
-use Rattle.std.proofs.Common.{◌≡◌, ℕ, zero, suc, Bool, true, false, not, cond, ◌&&◌, nat_eq, ℤ, pos, negsuc, ◌+ℤ◌, ◌*ℤ◌, List, [], ◌∷◌, ◌++◌, refl, sym, ap, ◌∙◌, arith, append_assoc}
+use Rattle.std.proofs.Common.{◌≡◌, ℕ, zero, suc, Bool, true, false, not, cond, ◌&&◌, nat_eq, ℤ, pos, negsuc, ◌+ℤ◌, ◌*ℤ◌, List, [], ◌∷◌, ◌++◌, refl, sym, ap}
+use Rattle.std.proofs.Common.{◌∙◌, arith, append_assoc}
 use borrow.Author.Differences.{ints}
 use Rattle.free_words.specs.declared.letter.Letter.{Letter}
 use Rattle.free_words.specs.Words.{flipped, inverse, commutator, copies}
@@ -90,12 +91,15 @@ module _ (L : Lattice) where
       let a : L.Z = exponents u in
       let b : L.Z = exponents v in
       exponents-append (u ++ v ++ inverse u) (inverse v)
-      ∙ ap (λ z. L.plus z (exponents (inverse v))) (exponents-append (u ++ v) (inverse u) ∙ ap (λ z. L.plus z (exponents (inverse u))) (exponents-append u v ∙ L.plus_comm a b) ∙ ap (L.plus (L.plus b a)) (exponents-inverse u) ∙ L.plus_assoc b a (L.minus a) ∙ ap (L.plus b) (plus-minus L a) ∙ plus-none L b)
+      ∙ ap (λ z. L.plus z (exponents (inverse v))) (exponents-append (u ++ v) (inverse u)
+      ∙ ap (λ z. L.plus z (exponents (inverse u))) (exponents-append u v ∙ L.plus_comm a b) ∙ ap (L.plus (L.plus b a)) (exponents-inverse u)
+      ∙ L.plus_assoc b a (L.minus a) ∙ ap (L.plus b) (plus-minus L a) ∙ plus-none L b)
       ∙ ap (L.plus b) (exponents-inverse v) ∙ plus-minus L b
 
   pub exponents-copies : (k : ℕ) (w : List Letter) → exponents w ≡ L.none → exponents (copies k w) ≡ L.none
   exponents-copies zero w e = refl
-  exponents-copies (suc k) w e = exponents-append (copies k w) w ∙ ap (L.plus (exponents (copies k w))) e ∙ plus-none L (exponents (copies k w)) ∙ exponents-copies k w e
+  exponents-copies (suc k) w e = exponents-append (copies k w) w ∙ ap (L.plus (exponents (copies k w))) e ∙ plus-none L (exponents (copies k w))
+      ∙ exponents-copies k w e
 
   -- ---- coefficients
   pub at-append : (v w : FormalSum Point) (m : Point) → at (v ++ w) m ≡ at v m +ℤ at w m
@@ -169,19 +173,22 @@ module _ (L : Lattice) where
   fox_from-cancel a (l ∷ w) m =
       let b : L.Z = L.plus a (step l) in
       let inner : FormalSum Point = fox_from b (w ++ inverse w) in
-      let regroup : w ++ inverse (l ∷ w) ≡ (w ++ inverse w) ++ flipped l ∷ [] = ap (λ z. w ++ z) (inverse-cons l w) ∙ sym (append_assoc w (inverse w) (flipped l ∷ [])) in
+      let regroup : w ++ inverse (l ∷ w) ≡ (w ++ inverse w) ++ flipped l ∷ [] = ap (λ z. w ++ z) (inverse-cons l w)
+      ∙ sym (append_assoc w (inverse w) (flipped l ∷ [])) in
       let split : fox_from b (w ++ inverse (l ∷ w)) ≡ inner ++ fox_from b (flipped l ∷ []) =
       ap (fox_from b) regroup ∙ fox_from-append b (w ++ inverse w) (flipped l ∷ [])
       ∙ ap (λ z. inner ++ fox_from z (flipped l ∷ [])) (ap (L.plus b) (exponents-cancel w) ∙ plus-none L b) in
       let rest : at (fox_from b (w ++ inverse (l ∷ w))) m ≡ at inner m +ℤ at (fox_from b (flipped l ∷ [])) m =
       ap (λ v. at v m) split ∙ at-append inner (fox_from b (flipped l ∷ [])) m in
       let gone : at inner m ≡ pos 0 = fox_from-cancel b w m in
-      let pair : cond (same_point (term_by l.inv a l.g).1 m) (term_by l.inv a l.g).0 (pos 0) +ℤ at (fox_from b (flipped l ∷ [])) m ≡ pos 0 = fox_from-pair a l m in
+      let pair : cond (same_point (term_by l.inv a l.g).1 m) (term_by l.inv a l.g).0 (pos 0) +ℤ at (fox_from b (flipped l ∷ [])) m ≡ pos 0 =
+      fox_from-pair a l m in
       omega (arith, ints, rest, gone, pair)
 
   pub fox_in-inverse : (w : List Letter) (m : Point) → at (fox_in w) m +ℤ at (shift (exponents w) (fox_in (inverse w))) m ≡ pos 0
   fox_in-inverse w m =
-      sym (at-append (fox_in w) (shift (exponents w) (fox_in (inverse w))) m) ∙ ap (λ v. at v m) (sym (fox_in-append w (inverse w))) ∙ fox_from-cancel L.none w m
+      sym (at-append (fox_in w) (shift (exponents w) (fox_in (inverse w))) m) ∙ ap (λ v. at v m) (sym (fox_in-append w (inverse w)))
+      ∙ fox_from-cancel L.none w m
 
   -- ---- where exponents are 0, Fox vectors add up
   fox_in-level : (u w : List Letter) → exponents u ≡ L.none → (m : Point) → at (fox_in (u ++ w)) m ≡ at (fox_in u) m +ℤ at (fox_in w) m
@@ -206,6 +213,15 @@ module _ (L : Lattice) where
   fox_in-commutator u v e f m =
       let uv : exponents (u ++ v) ≡ L.none = exponents-append u v ∙ ap (λ z. L.plus z (exponents v)) e ∙ L.none-plus (exponents v) ∙ f in
       let uvu : exponents (u ++ v ++ inverse u) ≡ L.none =
-      exponents-append (u ++ v) (inverse u) ∙ ap (λ z. L.plus z (exponents (inverse u))) uv ∙ L.none-plus (exponents (inverse u)) ∙ exponents-inverse u ∙ ap L.minus e
+      exponents-append (u ++ v) (inverse u) ∙ ap (λ z. L.plus z (exponents (inverse u))) uv ∙ L.none-plus (exponents (inverse u)) ∙ exponents-inverse u
+      ∙ ap L.minus e
       ∙ minus-none L in
-      omega (arith, ints, fox_in-level (u ++ v ++ inverse u) (inverse v) uvu m, fox_in-level (u ++ v) (inverse u) uv m, fox_in-level u v e m, fox_in-inverse_level u e m, fox_in-inverse_level v f m)
+      omega (
+        arith,
+        ints,
+        fox_in-level (u ++ v ++ inverse u) (inverse v) uvu m,
+        fox_in-level (u ++ v) (inverse u) uv m,
+        fox_in-level u v e m,
+        fox_in-inverse_level u e m,
+        fox_in-inverse_level v f m,
+      )

@@ -11,7 +11,8 @@ use Rattle.formal_sums.specs.FormalSum.{FormalSum, scale}
 use Rattle.formal_sums.specs.Span.{IsSpanned}
 use Rattle.formal_sums.proofs.Spans.{scale-one, spanned_same, spanned_nothing, spanned-append, spanned_multiple, spanned-multiple}
 use Rattle.magnus_laws.proofs.Lattices.{Lattice, plus-none}
-use Rattle.magnus_laws.proofs.LatticeFox.{Point, same_point, shifted, shift, step, exponents, term_by, fox_from, fox_in, at, Alike, point_test, at-append, shift-none}
+use Rattle.magnus_laws.proofs.LatticeFox.{Point, same_point, shifted, shift, step, exponents, term_by, fox_from, fox_in, at, Alike, point_test, at-append}
+use Rattle.magnus_laws.proofs.LatticeFox.{shift-none}
 
 module _ (L : Lattice) where
   -- x^e - 1, in the component c
@@ -51,7 +52,8 @@ module _ (L : Lattice) (p : Presented) where
 
   pub in_generator : (g : FormalSum (Point L)) → IsLatticeGenerator g → InModule g
   in_generator g is =
-      subst InModule (scale-one (shift L L.none g) ∙ shift-none L g) (spanned_multiple (same_point L) (shifted L) Anywhere IsLatticeGenerator (pos 1) L.none g tt is)
+      subst InModule (scale-one (shift L L.none g) ∙ shift-none L g) (spanned_multiple (same_point L) (shifted L) Anywhere IsLatticeGenerator (pos 1)
+      L.none g tt is)
 
   -- ---- components
   abbrev pub HasComponents : FormalSum (Point L) → Type 0
@@ -93,7 +95,8 @@ module _ (L : Lattice) (p : Presented) where
       in_same (binomial L (L.minus e) c) (scale (negsuc 0) (shift L (L.minus e) (binomial L e c)))
       (λ m.
       turned (same_point L (L.minus e, c) m) (same_point L (L.none, c) m)
-      ∙ (λ i. cond (same_point L (sym (L.minus-plus e) i, c) m) (negsuc 0 *ℤ pos 1) (pos 0) +ℤ (cond (same_point L (sym (plus-none L (L.minus e)) i, c) m) (negsuc 0 *ℤ negsuc 0) (pos 0) +ℤ pos 0)))
+      ∙ (λ i. cond (same_point L (sym (L.minus-plus e) i, c) m) (negsuc 0 *ℤ pos 1) (pos 0)
+      +ℤ (cond (same_point L (sym (plus-none L (L.minus e)) i, c) m) (negsuc 0 *ℤ negsuc 0) (pos 0) +ℤ pos 0)))
       (in_multiple (negsuc 0) (L.minus e) (binomial L e c) (h c below))
 
   passed : (q : ℤ) (b d : Bool) (x y s t : ℤ) → s ≡ x +ℤ (cond d (negsuc 0 *ℤ q) (pos 0) +ℤ y) → t ≡ x +ℤ y
@@ -111,9 +114,11 @@ module _ (L : Lattice) (p : Presented) where
       let this : FormalSum (Point L) = scale q (shift L a (binomial L e c)) in
       in_same (shift L e ((q, (a, c)) ∷ v) ++ scale (negsuc 0) ((q, (a, c)) ∷ v)) (this ++ less)
       (λ m.
-      passed q (same_point L (L.plus e a, c) m) (same_point L (a, c) m) (at L (shift L e v) m) (at L (scale (negsuc 0) v) m) (at L (shift L e v ++ ((negsuc 0 *ℤ q, (a, c)) ∷ scale (negsuc 0) v)) m) (at L less m)
+      passed q (same_point L (L.plus e a, c) m) (same_point L (a, c) m) (at L (shift L e v) m) (at L (scale (negsuc 0) v) m)
+      (at L (shift L e v ++ ((negsuc 0 *ℤ q, (a, c)) ∷ scale (negsuc 0) v)) m) (at L less m)
       (at-append L (shift L e v) ((negsuc 0 *ℤ q, (a, c)) ∷ scale (negsuc 0) v) m) (at-append L (shift L e v) (scale (negsuc 0) v) m)
-      ∙ (λ i. cond (same_point L (L.plus_comm e a i, c) m) (q *ℤ pos 1) (pos 0) +ℤ (cond (same_point L (sym (plus-none L a) i, c) m) (q *ℤ negsuc 0) (pos 0) +ℤ at L less m)))
+      ∙ (λ i. cond (same_point L (L.plus_comm e a i, c) m) (q *ℤ pos 1) (pos 0) +ℤ (cond (same_point L (sym (plus-none L a) i, c) m) (q *ℤ negsuc 0) (pos 0)
+      +ℤ at L less m)))
       (in_append this less (in_multiple q a (binomial L e c) (h c over.0)) (passes_all e h v over.1))
 
   -- where there is a modulus m, m times a vector lies in the module

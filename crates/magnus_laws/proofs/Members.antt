@@ -3,7 +3,8 @@ use Rattle.std.proofs.Common.{ℕ, ℤ, List, [], ◌++◌, sym}
 use Rattle.presentation.specs.Presented.{Presented}
 use Rattle.formal_sums.specs.FormalSum.{FormalSum, Same, scale}
 use Rattle.formal_sums.specs.Span.{multiple}
-use Rattle.formal_sums.proofs.Spans.{spanned_same, spanned_nothing, spanned-append, spanned_multiple, spanned-scale, spanned-multiple, spanned_zero_difference, spanned_difference_back, spanned_difference_on, spanned_difference-append, spanned_by_difference}
+use Rattle.formal_sums.proofs.Spans.{spanned_same, spanned_nothing, spanned-append, spanned_multiple, spanned-scale, spanned-multiple, spanned_zero_difference}
+use Rattle.formal_sums.proofs.Spans.{spanned_difference_back, spanned_difference_on, spanned_difference-append, spanned_by_difference}
 use Rattle.laurent_terms.specs.declared.TheConstants.{VARIABLES}
 use Rattle.laurent_terms.specs.Monomials.{product}
 use Rattle.laurent_terms.proofs.Division.{product_assoc}

@@ -1,6 +1,7 @@
 -- Tuples of n integers as monomials, and back: a tuple is written with one exponent for each generator's two variables, and a
 -- monomial is read as the difference of the two.
-use Rattle.std.proofs.Common.{◌≡◌, ℕ, zero, suc, ◌+◌, ◌-◌, ◌*◌, ◌<◌, ◌≤◌, ℤ, pos, negsuc, ◌+ℤ◌, neg_ℤ, List, [], ◌∷◌, ◌++◌, map, replicate, length, slice_set, refl, sym, ap, ◌∙◌, arith, append_assoc}
+use Rattle.std.proofs.Common.{◌≡◌, ℕ, zero, suc, ◌+◌, ◌-◌, ◌*◌, ◌<◌, ◌≤◌, ℤ, pos, negsuc, ◌+ℤ◌, neg_ℤ, List, [], ◌∷◌, ◌++◌, map, replicate, length, slice_set}
+use Rattle.std.proofs.Common.{refl, sym, ap, ◌∙◌, arith, append_assoc}
 use Rattle.std.specs.List.{range_with_len}
 use Rattle.std.proofs.lemmas.List.{length-append, length-replicate, replicate-append-replicate, set-append_right}
 use borrow.Author.Differences.{ints}
@@ -44,7 +45,8 @@ length-product (suc k) (a ∷ s) (b ∷ t) e f = omega (arith, length-product k 
 
 both_parts-zeros : (k : ℕ) → both_parts (replicate k (pos 0)) ≡ replicate (2 * k) 0
 both_parts-zeros zero = refl
-both_parts-zeros (suc k) = let more : 2 * suc k ≡ suc (suc (2 * k)) = omega arith in ap (λ z. 0 ∷ 0 ∷ z) (both_parts-zeros k) ∙ ap (λ z. replicate z 0) (sym more)
+both_parts-zeros (suc k) = let more : 2 * suc k ≡ suc (suc (2 * k)) = omega arith
+    in ap (λ z. 0 ∷ 0 ∷ z) (both_parts-zeros k) ∙ ap (λ z. replicate z 0) (sym more)
 
 zeros_together : (j k all : ℕ) (s t : List ℕ) → t ≡ s ++ replicate j 0 → j + k ≡ all → t ++ replicate k 0 ≡ s ++ replicate all 0
 zeros_together j k all s t e count =

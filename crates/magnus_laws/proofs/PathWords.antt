@@ -1,7 +1,8 @@
 -- Words as values of Fox vectors. Each place (a, g) gets the word s(a) x_g s(a + x_g)^-1, where s(a) writes the representative of
 -- a. The exponents of such a word lie in the lattice of the relators, so up to moves these words add up like vectors; the Fox vector of
 -- a word u from a on has the value s(a) u s(a + [u])^-1, and each multiple of a generator the value 1.
-use Rattle.std.proofs.Common.{◌≡◌, ℕ, suc, ◌<◌, Bool, true, false, ltb, ℤ, pos, negsuc, List, [], ◌∷◌, ◌++◌, length, refl, sym, ap, subst, ◌∙◌, arith, append_assoc, append-nil}
+use Rattle.std.proofs.Common.{◌≡◌, ℕ, suc, ◌<◌, Bool, true, false, ltb, ℤ, pos, negsuc, List, [], ◌∷◌, ◌++◌, length, refl, sym, ap, subst, ◌∙◌, arith}
+use Rattle.std.proofs.Common.{append_assoc, append-nil}
 use Rattle.std.proofs.lemmas.Bool.Decides.{nat_tests}
 use Rattle.free_words.specs.declared.letter.Letter.{Letter}
 use Rattle.free_words.specs.Words.{flipped, inverse, copies, exponent_sum}
@@ -17,7 +18,8 @@ use Rattle.magnus_laws.proofs.Lattices.{Lattice, plus-none, forth, less_and_more
 use Rattle.magnus_laws.proofs.LatticeFox.{Point, shift, step_by, step, exponents, term_by, fox_from, exponents-append, exponents-inverse, fox_from-at}
 use Rattle.magnus_laws.proofs.LatticeModule.{IsLatticeGenerator, relator_vector, relator_binomial, modulus_vector}
 use Rattle.magnus_laws.proofs.CommutatorProducts.{reaches_same}
-use Rattle.magnus_laws.proofs.RelatorLattice.{InRelatorLattice, nothing, lattice_plus, lattice_minus, lattice_product, lattice_inverse, lattice_copies, Near, lattice_words_commute, lattice_word_power}
+use Rattle.magnus_laws.proofs.RelatorLattice.{InRelatorLattice, nothing, lattice_plus, lattice_minus, lattice_product, lattice_inverse, lattice_copies, Near}
+use Rattle.magnus_laws.proofs.RelatorLattice.{lattice_words_commute, lattice_word_power}
 use Rattle.magnus_laws.proofs.Representatives.{Joins, generator_pairs}
 use Rattle.magnus_laws.proofs.Powers.{raised, over-raised, raised-add}
 use Rattle.magnus_laws.proofs.Upward.{relator_over}
@@ -39,7 +41,11 @@ module _ (L : Lattice) (p : Presented) where
 
   abbrev pub word_addition : Addition LatticeWord
   word_addition = record {
-    plus = λ a b. record { word = a.word ++ b.word; over = IsOver-append (length p.names) a.word b.word a.over b.over; level = lattice_product L p a.word b.word a.level b.level };
+    plus = λ a b. record {
+      word = a.word ++ b.word;
+      over = IsOver-append (length p.names) a.word b.word a.over b.over;
+      level = lattice_product L p a.word b.word a.level b.level;
+    };
     unit = record { word = []; over = tt; level = nothing };
     times = λ q a. record { word = raised q a.word; over = over-raised p q a.word a.over; level = level-raised q a.word a.level };
   }
@@ -51,7 +57,8 @@ module _ (L : Lattice) (p : Presented) where
       symmetric = λ a b way. reaches_back p a.word b.word way;
       transitive = λ a b c first second. reaches_on p a.word b.word c.word first second;
       plus_congruent = λ a b c d first second. reaches_both p a.word b.word c.word d.word first second;
-      plus_assoc = λ a b c. subst (Reaches p ((a.word ++ b.word) ++ c.word)) (append_assoc a.word b.word c.word) (reaches_self p ((a.word ++ b.word) ++ c.word));
+      plus_assoc = λ a b c. subst (Reaches p ((a.word ++ b.word) ++ c.word)) (append_assoc a.word b.word c.word)
+          (reaches_self p ((a.word ++ b.word) ++ c.word));
       plus_comm = λ a b. lattice_words_commute L p known sums a.word b.word a.over b.over a.level b.level;
       unit-plus = λ a. reaches_self p a.word;
       zero-times = λ a. trivial_nothing p;
@@ -77,7 +84,10 @@ module _ (L : Lattice) (p : Presented) where
       edge_over : (a : L.Z) (g : ℕ) → g < length p.names → IsWordOver p (edge_word a g)
       edge_over a g below =
           let b : L.Z = L.plus a (L.one_at g) in
-          IsOver-append (length p.names) (s a) (generator g ∷ inverse (s b)) (write_over (r a)) (below, IsOver-inverse (length p.names) (s b) (write_over (r b)))
+          IsOver-append (length p.names) (s a) (generator g ∷ inverse (s b)) (write_over (r a)) (
+            below,
+            IsOver-inverse (length p.names) (s b) (write_over (r b)),
+          )
 
       -- the exponents are (d + a) + x + (-(d' + (a + x))) = d - d'
       edge_level : (a : L.Z) (g : ℕ) → InRelatorLattice L p (exponents L (edge_word a g))
@@ -116,7 +126,8 @@ module _ (L : Lattice) (p : Presented) where
 
       -- ---- the value of a Fox vector
       term_walk : (b : Bool) (a : L.Z) (g : ℕ) → g < length p.names
-          → raised (term_by L b a g).0 (edge (term_by L b a g).1).word ≡ walk a (let l : Letter = record { g = g; inv = b } in l ∷ []) (L.plus a (step_by L b g))
+          → raised (term_by L b a g).0 (edge (term_by L b a g).1).word ≡ walk a (let l : Letter = record { g = g; inv = b }
+          in l ∷ []) (L.plus a (step_by L b g))
       term_walk false a g below = edge-word a g below
       term_walk true a g below =
           let b : L.Z = L.plus a (L.minus (L.one_at g)) in
@@ -130,7 +141,8 @@ module _ (L : Lattice) (p : Presented) where
       join : (a b c : L.Z) (u v : List Letter) → Reaches p (walk a u b ++ walk b v c) (walk a (u ++ v) c)
       join a b c u v =
           let end : List Letter = v ++ inverse (s c) in
-          reaches_same p ((s a ++ u) ++ ((inverse (s b) ++ s b) ++ end)) (walk a u b ++ walk b v c) ((s a ++ u) ++ end) (walk a (u ++ v) c) (simp append_assoc) (simp append_assoc)
+          reaches_same p ((s a ++ u) ++ ((inverse (s b) ++ s b) ++ end)) (walk a u b ++ walk b v c) ((s a ++ u) ++ end) (walk a (u ++ v) c) (simp append_assoc)
+          (simp append_assoc)
           (reaches_between p (s a ++ u) end (inverse (s b) ++ s b) [] (trivial_cancel_back p (s b) (write_over (r b))))
 
       pub path : (a : L.Z) (u : List Letter) → IsWordOver p u → Reaches p (value (fox_from L a u)) (walk a u (L.plus a (exponents L u)))
@@ -151,7 +163,8 @@ module _ (L : Lattice) (p : Presented) where
           reaches_on p (walk a u b) (s a ++ inverse (s b)) [] (reaches_between p (s a) (inverse (s b)) u [] way)
           (subst (λ z. Trivial p (s a ++ inverse (write z))) same (trivial_cancel p (s a) (write_over (r a))))
 
-      pub generator_value : (t : L.Z) (g : FormalSum (Point L)) (is : IsLatticeGenerator L p g) → Joins L r (generator_pairs L p t g is) → Trivial p (value (shift L t g))
+      pub generator_value : (t : L.Z) (g : FormalSum (Point L)) (is : IsLatticeGenerator L p g) → Joins L r (generator_pairs L p t g is)
+          → Trivial p (value (shift L t g))
       unfolding generator_pairs
       generator_value t _ (relator_vector w listed) joins =
           subst (λ v. Trivial p (value v)) (fox_from-at L t w)
@@ -162,7 +175,8 @@ module _ (L : Lattice) (p : Presented) where
           let b : L.Z = L.plus t L.none in
           let one : List Letter = (edge (a, c)).word in
           let other : List Letter = (edge (b, c)).word in
-          let same : one ≡ other = edge-word a c below ∙ (λ i. write (joins.0 i) ++ (generator c ∷ inverse (write (joins.1.0 i)))) ∙ sym (edge-word b c below) in
+          let same : one ≡ other = edge-word a c below ∙ (λ i. write (joins.0 i) ++ (generator c ∷ inverse (write (joins.1.0 i))))
+          ∙ sym (edge-word b c below) in
           subst (λ z. Trivial p (z ++ (inverse other ++ []))) (sym same)
           (subst (λ z. Trivial p (other ++ z)) (sym (append-nil (inverse other))) (trivial_cancel p other (edge (b, c)).over))
       generator_value t _ (modulus_vector c some below) joins =

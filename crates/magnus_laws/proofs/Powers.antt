@@ -38,7 +38,8 @@ module _ (p : Presented) where
       reaches_back p (inverse w ++ copies (suc k) w) (copies k w)
       (subst (λ z. Reaches p (inverse w ++ z) (copies k w)) (copies-suc k w) (front_gone (inverse w) w (copies k w) (trivial_cancel_back p w over)))
   raised_down (negsuc k) w over =
-      subst (λ z. Reaches p z (inverse w ++ copies (suc k) (inverse w))) (copies-suc (suc k) (inverse w)) (reaches_self p (inverse w ++ copies (suc k) (inverse w)))
+      subst (λ z. Reaches p z (inverse w ++ copies (suc k) (inverse w))) (copies-suc (suc k) (inverse w))
+      (reaches_self p (inverse w ++ copies (suc k) (inverse w)))
 
   -- one more factor x in front of both sides
   step_on : (x a b c d : List Letter) → Reaches p a (x ++ b) → Reaches p b (c ++ d) → Reaches p a ((x ++ c) ++ d)
@@ -50,7 +51,8 @@ module _ (p : Presented) where
   raised-add (pos (suc k)) s w over =
       subst (λ z. Reaches p (raised z w) ((copies k w ++ w) ++ raised s w)) (sym (suc_ℤ-+ℤ (pos k) s))
       (subst (λ z. Reaches p (raised (suc_ℤ (pos k +ℤ s)) w) (z ++ raised s w)) (copies-suc k w)
-      (step_on w (raised (suc_ℤ (pos k +ℤ s)) w) (raised (pos k +ℤ s) w) (copies k w) (raised s w) (raised_up (pos k +ℤ s) w over) (raised-add (pos k) s w over)))
+      (step_on w (raised (suc_ℤ (pos k +ℤ s)) w) (raised (pos k +ℤ s) w) (copies k w) (raised s w) (raised_up (pos k +ℤ s) w over)
+      (raised-add (pos k) s w over)))
   raised-add (negsuc zero) s w over =
       subst (λ z. Reaches p (raised z w) (inverse w ++ raised s w)) (sym (pred_ℤ-+ℤ (pos 0) s))
       (subst (λ z. Reaches p (raised (pred_ℤ z) w) (inverse w ++ raised s w)) (sym (+ℤ_idl s)) (raised_down s w over))
@@ -58,4 +60,5 @@ module _ (p : Presented) where
       let v : List Letter = inverse w in
       subst (λ z. Reaches p (raised z w) ((copies (suc k) v ++ v) ++ raised s w)) (sym (pred_ℤ-+ℤ (negsuc k) s))
       (subst (λ z. Reaches p (raised (pred_ℤ (negsuc k +ℤ s)) w) (z ++ raised s w)) (copies-suc (suc k) v)
-      (step_on v (raised (pred_ℤ (negsuc k +ℤ s)) w) (raised (negsuc k +ℤ s) w) (copies (suc k) v) (raised s w) (raised_down (negsuc k +ℤ s) w over) (raised-add (negsuc k) s w over)))
+      (step_on v (raised (pred_ℤ (negsuc k +ℤ s)) w) (raised (negsuc k +ℤ s) w) (copies (suc k) v) (raised s w) (raised_down (negsuc k +ℤ s) w over)
+      (raised-add (negsuc k) s w over)))

@@ -110,7 +110,8 @@ module _ (L : Lattice) (p : Presented) where
         let a : Gathers p u = gathers u ou iu in
         let b : Gathers p v = gathers v ov iv in
         reaches_on p (u ++ v) (a.0 ++ b.0) (v ++ u) (reaches_both p u a.0 v b.0 a.2 b.2)
-        (reaches_on p (a.0 ++ b.0) (b.0 ++ a.0) (v ++ u) (products_commute p a.0 b.0 a.1 b.1) (reaches_back p (v ++ u) (b.0 ++ a.0) (reaches_both p v b.0 u a.0 b.2 a.2)))
+        (reaches_on p (a.0 ++ b.0) (b.0 ++ a.0) (v ++ u) (products_commute p a.0 b.0 a.1 b.1)
+        (reaches_back p (v ++ u) (b.0 ++ a.0) (reaches_both p v b.0 u a.0 b.2 a.2)))
 
     pub lattice_word_power : 0 < p.modulus → (u : List Letter) → IsWordOver p u → InRelatorLattice (exponents L u) → Trivial p (copies p.modulus u)
     lattice_word_power some u over is =

@@ -30,11 +30,13 @@ module _ (L : Lattice) where
   pub representative_joins : (pairs : List (L.Z × L.Z)) → Joins (representative pairs) pairs
   representative_joins [] = tt
   representative_joins (e ∷ pairs) = (
-    both (L.same (representative pairs e.0) (representative pairs e.1)) (L.same (representative pairs e.1) (representative pairs e.1)) (L.test.reflexive (representative pairs e.1)),
+    both (L.same (representative pairs e.0) (representative pairs e.1)) (L.same (representative pairs e.1) (representative pairs e.1))
+        (L.test.reflexive (representative pairs e.1)),
     joins_later e pairs pairs (representative_joins pairs),
   )
     where
-      both : (b c : Bool) → c ≡ true → cond b (representative pairs e.0) (representative pairs e.0) ≡ cond c (representative pairs e.0) (representative pairs e.1)
+      both : (b c : Bool) → c ≡ true → cond b (representative pairs e.0) (representative pairs e.0)
+          ≡ cond c (representative pairs e.0) (representative pairs e.1)
       both true true h = refl
       both false true h = refl
       both b false h = absurd cc
@@ -60,9 +62,11 @@ module _ (L : Lattice) where
     pub representative_near : (pairs : List (L.Z × L.Z)) → AreNear pairs → (a : L.Z) → Near L p (representative pairs a) a
     representative_near [] are a = near_itself L p a
     representative_near (e ∷ pairs) are a =
-        by (L.same (representative pairs a) (representative pairs e.1)) refl (representative_near pairs are.1 a) (representative_near pairs are.1 e.0) (representative_near pairs are.1 e.1)
+        by (L.same (representative pairs a) (representative pairs e.1)) refl (representative_near pairs are.1 a) (representative_near pairs are.1 e.0)
+        (representative_near pairs are.1 e.1)
       where
-        by : (b : Bool) → L.same (representative pairs a) (representative pairs e.1) ≡ b → Near L p (representative pairs a) a → Near L p (representative pairs e.0) e.0
+        by : (b : Bool) → L.same (representative pairs a) (representative pairs e.1) ≡ b → Near L p (representative pairs a) a
+            → Near L p (representative pairs e.0) e.0
             → Near L p (representative pairs e.1) e.1
             → Near L p (cond b (representative pairs e.0) (representative pairs a)) a
         by false test own first second = own

@@ -37,12 +37,14 @@ module _ (p : Presented) (known : IsPresented p) where
       let a : FormalSum (Point (tuples n)) = fox_in (tuples n) u in
       let b : FormalSum (Point (tuples n)) = fox_in (tuples n) v in
       subst (IsMember p)
-      (rename_difference (up n) a b ∙ λ i. fox-up p known.few_names u over i ++ scale (negsuc 0) (fox-up p known.few_names v (reaches_over p u v known way over) i))
+      (rename_difference (up n) a b ∙ λ i. fox-up p known.few_names u over i ++ scale (negsuc 0)
+      (fox-up p known.few_names v (reaches_over p u v known way over) i))
       (module-up p known.few_names known (a ++ scale (negsuc 0) b) (reaches_congruent (tuples n) p known u v way over))
 
   pub fox_reaches : (u v : List Letter) → IsWordOver p u → IsWordOver p v → AreCongruent p (fox u) (fox v) → Reaches p u v
   fox_reaches u v ou ov is =
-      congruent_reaches (tuples n) p known (λ w over e. sums_at_none n w over e) (write n) (write_over n) (write_exponents n) (not_one p.modulus known.modulus) u v ou ov
+      congruent_reaches (tuples n) p known (λ w over e. sums_at_none n w over e) (write n) (write_over n) (write_exponents n)
+      (not_one p.modulus known.modulus) u v ou ov
       (subst (InModule (tuples n) p)
       (rename_difference (down n) (fox u) (fox v) ∙ λ i. fox-down p known u ou i ++ scale (negsuc 0) (fox-down p known v ov i))
       (module-down p known (fox u ++ scale (negsuc 0) (fox v)) is))

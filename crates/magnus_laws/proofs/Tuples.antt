@@ -1,12 +1,14 @@
 -- Tuples of n integers are a lattice, in which the exponents of a word over n generators are its exponent sums.
-use Rattle.std.proofs.Common.{◌≡◌, ℕ, zero, suc, ◌+◌, ◌<◌, ◌≤◌, ◌==◌, Bool, true, false, cond, nat_eq, if◌then◌else◌, ℤ, pos, negsuc, ◌+ℤ◌, neg_ℤ, List, [], ◌∷◌, ◌++◌, map, replicate, length, refl, sym, ap, ◌∙◌, arith}
+use Rattle.std.proofs.Common.{◌≡◌, ℕ, zero, suc, ◌+◌, ◌<◌, ◌≤◌, ◌==◌, Bool, true, false, cond, nat_eq, if◌then◌else◌, ℤ, pos, negsuc, ◌+ℤ◌, neg_ℤ, List, []}
+use Rattle.std.proofs.Common.{◌∷◌, ◌++◌, map, replicate, length, refl, sym, ap, ◌∙◌, arith}
 use Rattle.std.proofs.lemmas.Bool.Decides.{nat_tests}
 use Rattle.std.specs.List.{range_with_len}
 use Rattle.free_words.specs.declared.letter.Letter.{Letter}
 use Rattle.free_words.specs.Words.{IsOver, exponent_sum}
 use Rattle.free_words.proofs.SumLemmas.{exponent_sum-cons, exponent_sum-outside}
 use Rattle.formal_sums.specs.IntegerTuple.{IntegerTuple, plus, none, minus, one_at, entry, tuple_eq}
-use Rattle.formal_sums.proofs.IntegerTuples.{plus_assoc, plus_comm, none-plus, minus-plus, tuple_test, entry-plus, entry-none, entry-minus, entry-one_at, same_entries}
+use Rattle.formal_sums.proofs.IntegerTuples.{plus_assoc, plus_comm, none-plus, minus-plus, tuple_test, entry-plus, entry-none, entry-minus, entry-one_at}
+use Rattle.formal_sums.proofs.IntegerTuples.{same_entries}
 use Rattle.magnus_laws.proofs.Lattices.{Lattice}
 use Rattle.magnus_laws.proofs.LatticeFox.{step_by, step, exponents}
 
@@ -29,7 +31,8 @@ one_test : (a b : ℕ) → nat_eq a b ≡ (a == b)
 one_test a b = grind (arith, nat_tests)
 
 entry-step_by : (n : ℕ) (b : Bool) (h g : ℕ) → h < n → entry n (step_by (tuples n) b h) g ≡ (if h == g then (if b then negsuc 0 else pos 1) else pos 0)
-entry-step_by n true h g below = entry-minus n (one_at n h) g ∙ ap neg_ℤ (entry-one_at n h g below ∙ ap (λ b. cond b (pos 1) (pos 0)) (one_test h g)) ∙ by (h == g)
+entry-step_by n true h g below = entry-minus n (one_at n h) g ∙ ap neg_ℤ (entry-one_at n h g below
+    ∙ ap (λ b. cond b (pos 1) (pos 0)) (one_test h g)) ∙ by (h == g)
   where
     by : (t : Bool) → neg_ℤ (cond t (pos 1) (pos 0)) ≡ cond t (negsuc 0) (pos 0)
     by true = refl
@@ -68,12 +71,14 @@ given_from j zero (suc r) f a within past =
     let count : 0 + suc r ≡ suc r = omega arith in
     let less : 0 + r ≡ r = omega arith in
     ap (λ k. map f (range_with_len j k)) count
-    ∙ (λ i. past j (omega arith) i ∷ (ap (λ k. map f (range_with_len (j + 1) k)) (sym less) ∙ given_from (j + 1) zero r f a (λ g below. absurd (omega arith)) (λ g h. past g (omega (arith, h)))) i)
+    ∙ (λ i. past j (omega arith) i ∷ (ap (λ k. map f (range_with_len (j + 1) k)) (sym less)
+    ∙ given_from (j + 1) zero r f a (λ g below. absurd (omega arith)) (λ g h. past g (omega (arith, h)))) i)
 given_from j (suc n) r f a within past =
     let count : suc n + r ≡ suc (n + r) = omega arith in
     let here : j + 0 ≡ j = omega arith in
     ap (λ k. map f (range_with_len j k)) count
-    ∙ (λ i. (ap f (sym here) ∙ within 0 (omega arith)) i ∷ given_from (j + 1) n r f a.1 (λ g below. let next : j + 1 + g ≡ j + suc g = omega arith in ap f next ∙ within (suc g) (omega (arith, below))) (λ g h. past g (omega (arith, h))) i)
+    ∙ (λ i. (ap f (sym here) ∙ within 0 (omega arith)) i ∷ given_from (j + 1) n r f a.1 (λ g below. let next : j + 1 + g ≡ j + suc g = omega arith
+    in ap f next ∙ within (suc g) (omega (arith, below))) (λ g h. past g (omega (arith, h))) i)
 
 -- the exponent sums of a word over n generators, of n + r in all
 pub sums_given : (n r : ℕ) (w : List Letter) → IsOver n w

@@ -1,5 +1,6 @@
 -- Modulo the unit binomials x_g y_g - 1 a monomial counts by the differences of its exponents alone.
-use Rattle.std.proofs.Common.{◌≡◌, ℕ, zero, suc, ◌+◌, ◌-◌, ◌*◌, ◌<◌, ◌≤◌, Bool, true, false, cond, ℤ, pos, negsuc, ◌+ℤ◌, ◌*ℤ◌, neg_ℤ, List, [], ◌∷◌, ◌++◌, replicate, length, refl, sym, ap, subst, ◌∙◌, arith, append_assoc, append-nil}
+use Rattle.std.proofs.Common.{◌≡◌, ℕ, zero, suc, ◌+◌, ◌-◌, ◌*◌, ◌<◌, ◌≤◌, Bool, true, false, cond, ℤ, pos, negsuc, ◌+ℤ◌, ◌*ℤ◌, neg_ℤ, List, [], ◌∷◌, ◌++◌}
+use Rattle.std.proofs.Common.{replicate, length, refl, sym, ap, subst, ◌∙◌, arith, append_assoc, append-nil}
 use Rattle.std.proofs.lemmas.List.{length-append, length-replicate}
 use borrow.Author.Differences.{ints}
 use Rattle.free_words.specs.declared.TheConstants.{GENERATORS}
@@ -15,7 +16,8 @@ use Rattle.fox_calculus.specs.Generators.{binomial, unit_monomial}
 use Rattle.fox_calculus.specs.Module.{HasVariables, IsMember}
 use Rattle.fox_calculus.specs.Module.IsGenerator.{unit_binomial}
 use Rattle.magnus_laws.proofs.Members.{member_same, member_nothing, member_sum, member_scale, member_of_generator}
-use Rattle.magnus_laws.proofs.Monomials.{product-append, product-zeros, length-product, parts, written, length-parts, written-parts, length-written, read, read-parts, read-product, unit_monomial-is}
+use Rattle.magnus_laws.proofs.Monomials.{product-append, product-zeros, length-product, parts, written, length-parts, written-parts, length-written, read}
+use Rattle.magnus_laws.proofs.Monomials.{read-parts, read-product, unit_monomial-is}
 
 -- (s - t)·e_c
 abbrev pub difference : List ℕ → List ℕ → ℕ → FormalSum Place
@@ -46,7 +48,8 @@ module _ (p : Presented) (few : length p.names ≤ GENERATORS) where
   CountAlike s t = (c : ℕ) → c < n → IsMember p (difference s t c)
 
   between : (a b d : Bool)
-      → cond a (pos 1) (pos 0) +ℤ (cond d (negsuc 0) (pos 0) +ℤ pos 0) ≡ cond a (pos 1) (pos 0) +ℤ (cond b (negsuc 0) (pos 0) +ℤ (cond b (pos 1) (pos 0) +ℤ (cond d (negsuc 0) (pos 0) +ℤ pos 0)))
+      → cond a (pos 1) (pos 0) +ℤ (cond d (negsuc 0) (pos 0) +ℤ pos 0) ≡ cond a (pos 1) (pos 0)
+      +ℤ (cond b (negsuc 0) (pos 0) +ℤ (cond b (pos 1) (pos 0) +ℤ (cond d (negsuc 0) (pos 0) +ℤ pos 0)))
   between true true true = refl
   between true true false = refl
   between true false true = refl
@@ -70,7 +73,8 @@ module _ (p : Presented) (few : length p.names ≤ GENERATORS) where
 
   alike_back : (s t : List ℕ) → CountAlike s t → CountAlike t s
   alike_back s t h c below =
-      member_same p (difference t s c) (scale (negsuc 0) (difference s t c)) (λ x. swapped (here t c x) (here s c x)) (member_scale p (negsuc 0) (difference s t c) (h c below))
+      member_same p (difference t s c) (scale (negsuc 0) (difference s t c)) (λ x. swapped (here t c x) (here s c x))
+      (member_scale p (negsuc 0) (difference s t c) (h c below))
 
   cancelled : (b : Bool) → cond b (pos 1) (pos 0) +ℤ (cond b (negsuc 0) (pos 0) +ℤ pos 0) ≡ pos 0
   cancelled true = refl
@@ -91,7 +95,8 @@ module _ (p : Presented) (few : length p.names ≤ GENERATORS) where
       member_same p (difference (product t (unit_monomial g)) t c) (multiple moved (pos 1) t (binomial (unit_monomial g) c))
       (λ x.
       times_one (here (product t (unit_monomial g)) c x) (here t c x)
-      ∙ (λ i. cond (here (product t (unit_monomial g)) c x) (pos 1 *ℤ pos 1) (pos 0) +ℤ (cond (here (sym (product-zeros VARIABLES t long) i) c x) (pos 1 *ℤ negsuc 0) (pos 0) +ℤ pos 0)))
+      ∙ (λ i. cond (here (product t (unit_monomial g)) c x) (pos 1 *ℤ pos 1) (pos 0)
+      +ℤ (cond (here (sym (product-zeros VARIABLES t long) i) c x) (pos 1 *ℤ negsuc 0) (pos 0) +ℤ pos 0)))
       (member_of_generator p (pos 1) t (binomial (unit_monomial g) c) long (unit_binomial g c small below))
 
   -- the two exponents of a generator, of which one becomes 0
@@ -108,7 +113,8 @@ module _ (p : Presented) (few : length p.names ≤ GENERATORS) where
       let less : List ℕ = front ++ a ∷ b ∷ back in
       let z : pos (suc a) +ℤ neg_ℤ (pos (suc b)) ≡ pos a +ℤ neg_ℤ (pos b) = omega (arith, ints) in
       let length_less : HasVariables less = omega (arith, long, length-append front (a ∷ b ∷ back), length-append front (suc a ∷ suc b ∷ back)) in
-      alike_on (front ++ suc a ∷ suc b ∷ back) less (front ++ positive_part (pos (suc a) +ℤ neg_ℤ (pos (suc b))) ∷ negative_part (pos (suc a) +ℤ neg_ℤ (pos (suc b))) ∷ back)
+      alike_on (front ++ suc a ∷ suc b ∷ back) less (front ++ positive_part (pos (suc a) +ℤ neg_ℤ (pos (suc b)))
+      ∷ negative_part (pos (suc a) +ℤ neg_ℤ (pos (suc b))) ∷ back)
       (subst (λ y. CountAlike y less) (product-unit g front a b back e length_less) (alike_unit less g length_less small))
       (subst (λ y. CountAlike less (front ++ positive_part y ∷ negative_part y ∷ back)) (sym z) (alike_pair g small front a b back e length_less))
 
@@ -154,4 +160,5 @@ module _ (p : Presented) (few : length p.names ≤ GENERATORS) where
       let to : CountAlike (s ++ back) (parts n (read n s) ++ back) =
       alike_parts 0 n (omega arith) [] s back refl (length-product (2 * n) (parts n a) (parts n b) (length-parts n a) (length-parts n b)) long in
       subst (λ z. CountAlike (written n (plus n a b)) z) (sym split)
-      (subst (λ z. CountAlike z (s ++ back)) (ap (λ z. parts n z ++ back) (read_product_of_parts a b) ∙ sym (written-parts n (plus n a b))) (alike_back (s ++ back) (parts n (read n s) ++ back) to))
+      (subst (λ z. CountAlike z (s ++ back)) (ap (λ z. parts n z ++ back) (read_product_of_parts a b)
+      ∙ sym (written-parts n (plus n a b))) (alike_back (s ++ back) (parts n (read n s) ++ back) to))

@@ -1,5 +1,6 @@
 -- From Fox vectors over tuples to those over monomials: what lies in the module there lies in the module here.
-use Rattle.std.proofs.Common.{◌≡◌, ℕ, ◌<◌, ◌≤◌, Bool, true, false, cond, ℤ, pos, negsuc, ◌+ℤ◌, ◌*ℤ◌, List, [], ◌∷◌, ◌++◌, length, refl, sym, ap, subst, ◌∙◌, arith}
+use Rattle.std.proofs.Common.{◌≡◌, ℕ, ◌<◌, ◌≤◌, Bool, true, false, cond, ℤ, pos, negsuc, ◌+ℤ◌, ◌*ℤ◌, List, [], ◌∷◌, ◌++◌, length, refl, sym, ap, subst, ◌∙◌}
+use Rattle.std.proofs.Common.{arith}
 use borrow.Author.Differences.{ints}
 use Rattle.free_words.specs.declared.letter.Letter.{Letter}
 use Rattle.free_words.specs.declared.TheConstants.{GENERATORS}
@@ -23,7 +24,8 @@ use Rattle.fox_calculus.specs.Module.{IsGenerator, IsMember}
 use Rattle.magnus_laws.specs.Congruence.{AreCongruent}
 use Rattle.magnus_laws.proofs.Lattices.{plus-none}
 use Rattle.magnus_laws.proofs.LatticeFox.{Point, shifted, shift, step, exponents, term_by, fox_from, fox_in, point_test, exponents-append}
-use Rattle.magnus_laws.proofs.LatticeModule.{IsLatticeGenerator, relator_vector, relator_binomial, modulus_vector, Anywhere, InModule, HasComponents, components-fox_from}
+use Rattle.magnus_laws.proofs.LatticeModule.{IsLatticeGenerator, relator_vector, relator_binomial, modulus_vector, Anywhere, InModule, HasComponents}
+use Rattle.magnus_laws.proofs.LatticeModule.{components-fox_from}
 use Rattle.magnus_laws.proofs.Tuples.{tuples}
 use Rattle.magnus_laws.proofs.Monomials.{written, written-none, length-written, image-written}
 use Rattle.magnus_laws.proofs.Members.{member_same, member_nothing, member_sum, member_scale, member_of_generator, congruent_member}
@@ -94,7 +96,8 @@ module _ (p : Presented) (few : length p.names ≤ GENERATORS) where
       → AreCongruent p (rename (up n) (shift (tuples n) t v)) (rename (moved (written n t)) (rename (up n) v))
   shift-up t [] over = member_nothing p
   shift-up t ((q, (a, c)) ∷ v) over =
-      congruent_next q (written n (plus n t a)) (product (written n t) (written n a)) c (rename (up n) (shift (tuples n) t v)) (rename (moved (written n t)) (rename (up n) v))
+      congruent_next q (written n (plus n t a)) (product (written n t) (written n a)) c (rename (up n) (shift (tuples n) t v))
+      (rename (moved (written n t)) (rename (up n) v))
       (alike_product p few t a c over.0) (shift-up t v over.1)
 
   -- ---- the module
@@ -108,13 +111,20 @@ module _ (p : Presented) (few : length p.names ≤ GENERATORS) where
     generator-up _ (relator_vector r listed) = subst (IsGenerator p) (sym (fox-up r (relator_over p known r listed))) (IsGenerator.relator_vector r listed)
     generator-up _ (relator_binomial r c listed below) =
         subst (IsGenerator p)
-        (λ i. (pos 1, record { m = image-written n r few (relator_over p known r listed) i; c = c }) ∷ (negsuc 0, record { m = sym (written-none n few) i; c = c }) ∷ [])
+        (λ i. (pos 1, record { m = image-written n r few (relator_over p known r listed) i; c = c }) ∷ (
+          negsuc 0,
+          record {
+            m = sym (written-none n few) i;
+            c = c;
+          },
+        ) ∷ [])
         (IsGenerator.relator_binomial r c listed below)
     generator-up _ (modulus_vector c some below) =
         subst (IsGenerator p) (λ i. (pos p.modulus, record { m = sym (written-none n few) i; c = c }) ∷ []) (IsGenerator.modulus_vector c some below)
 
     -- t·g for a generator g
-    shifted_generator : (t : IntegerTuple n) (g : FormalSum (Point (tuples n))) → IsLatticeGenerator (tuples n) p g → IsMember p (rename (up n) (shift (tuples n) t g))
+    shifted_generator : (t : IntegerTuple n) (g : FormalSum (Point (tuples n))) → IsLatticeGenerator (tuples n) p g
+        → IsMember p (rename (up n) (shift (tuples n) t g))
     shifted_generator t g is =
         let there : FormalSum Place = rename (moved (written n t)) (rename (up n) g) in
         congruent_member p (rename (up n) (shift (tuples n) t g)) there (shift-up t g (components_of g is))
@@ -129,4 +139,5 @@ module _ (p : Presented) (few : length p.names ≤ GENERATORS) where
         (member_sum p (scale q (rename (up n) this)) (rename (up n) rest) (member_scale p q (rename (up n) this) (shifted_generator t g is)) (sum-up rest sum))
 
     pub module-up : (v : FormalSum (Point (tuples n))) → InModule (tuples n) p v → IsMember p (rename (up n) v)
-    module-up v (w, sum, same) = member_same p (rename (up n) v) (rename (up n) w) (Same-rename (point_test (tuples n)) same_place (up n) v w same) (sum-up w sum)
+    module-up v (w, sum, same) = member_same p (rename (up n) v) (rename (up n) w) (Same-rename (point_test (tuples n)) same_place (up n) v w same)
+        (sum-up w sum)

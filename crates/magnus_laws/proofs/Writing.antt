@@ -1,5 +1,6 @@
 -- The word that writes a tuple: each generator to the power of its entry, in order.
-use Rattle.std.proofs.Common.{◌≡◌, ◌≢◌, ℕ, suc, zero, ◌+◌, ◌<◌, ◌≤◌, ◌==◌, Bool, true, false, if◌then◌else◌, ℤ, pos, negsuc, ◌+ℤ◌, List, [], ◌∷◌, ◌++◌, refl, ap, ◌∙◌, arith}
+use Rattle.std.proofs.Common.{◌≡◌, ◌≢◌, ℕ, suc, zero, ◌+◌, ◌<◌, ◌≤◌, ◌==◌, Bool, true, false, if◌then◌else◌, ℤ, pos, negsuc, ◌+ℤ◌, List, [], ◌∷◌, ◌++◌, refl}
+use Rattle.std.proofs.Common.{ap, ◌∙◌, arith}
 use Rattle.std.proofs.lemmas.Bool.Decides.{nat_tests}
 use borrow.Author.Differences.{ints}
 use Rattle.free_words.specs.declared.letter.Letter.{Letter}
@@ -87,7 +88,8 @@ over_letters n g (negsuc k) below = IsOver-copies n (suc k) (the g true ∷ []) 
 over_from : (all n k : ℕ) (a : IntegerTuple n) → k + n ≤ all → IsOver all (write_from n k a)
 over_from all zero k a room = tt
 over_from all (suc n) k a room =
-    IsOver-append all (letters a.0 k) (write_from n (suc k) a.1) (over_letters all k a.0 (omega (arith, room))) (over_from all n (suc k) a.1 (omega (arith, room)))
+    IsOver-append all (letters a.0 k) (write_from n (suc k) a.1) (over_letters all k a.0 (omega (arith, room)))
+    (over_from all n (suc k) a.1 (omega (arith, room)))
 
 pub write_over : (n : ℕ) (a : IntegerTuple n) → IsOver n (write n a)
 unfolding write

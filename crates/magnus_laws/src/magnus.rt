@@ -30,7 +30,8 @@ pub fn equal_are_congruent()
 /// Words whose Fox vectors differ by an element of the module are equal.
 #[tactic(auto, using(crate::proofs::Theorem::congruent_are_equal))]
 pub fn congruent_are_equal()
-    ensures { (p : Presented) (u v : List Letter) → IsPresented p → IsWordOver p u → IsWordOver p v → AreCongruent p (fox u) (fox v)
+    ensures { (p : Presented) (u v : List Letter) → IsPresented p → IsWordOver p u → IsWordOver p v
+        → AreCongruent p (fox u) (fox v)
         → Equal p u v }
 {}
 

@@ -27,7 +27,8 @@ pub fn fox_of_inverse()
         → AreCongruent p (fox (inverse w)) (multiple moved (negsuc 0) (image (inverse w)) (fox w)) }
 {}
 
-/// Leaving out pairs of a letter and its inverse keeps the Fox vector, so a word and its freely reduced form have the same.
+/// Leaving out pairs of a letter and its inverse keeps the Fox vector, so a word and its freely reduced form have the
+/// same.
 #[tactic(auto, using(crate::proofs::FoxRules::fox_of_cancelled))]
 pub fn fox_of_cancelled()
     ensures { (w v : List Letter) → Cancels w v → Same same_place (fox w) (fox v) }
@@ -48,5 +49,6 @@ pub fn members_form_a_module()
 pub fn congruence_is_an_equivalence()
     ensures same { (p : Presented) (v w : FormalSum Place) → Same same_place v w → AreCongruent p v w }
     ensures back { (p : Presented) (v w : FormalSum Place) → AreCongruent p v w → AreCongruent p w v }
-    ensures on { (p : Presented) (u v w : FormalSum Place) → AreCongruent p u v → AreCongruent p v w → AreCongruent p u w }
+    ensures on { (p : Presented) (u v w : FormalSum Place) → AreCongruent p u v → AreCongruent p v w
+        → AreCongruent p u w }
 {}

@@ -1,5 +1,6 @@
 -- A shelf in memory.
-use Rattle.std.specs.Prelude.{◌≡◌, ℕ, min, List, [], ◌++◌, length, take, drop, Option, Some, None, IsNone, ◌⊎◌, slice_get, Result, Ok, Err}
+use Rattle.std.specs.Prelude.{◌≡◌, ℕ, min, List, [], ◌++◌, length, take, drop, Option, Some, None, IsNone, ◌⊎◌}
+use Rattle.std.specs.Prelude.{slice_get, Result, Ok, Err}
 use Rattle.mb_io.specs.Calls.{Calls, no_calls, IsDue, after_call, after_fault}
 use Rattle.mb_io.specs.Files.{Named, file_named}
 use Rattle.mb_io.specs.Piece.{in_piece}

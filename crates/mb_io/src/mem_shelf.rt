@@ -1,6 +1,7 @@
 //! Named bytes in memory, as a shelf.
 
-ghost use Rattle.std.specs.Prelude.{◌≡◌, ℕ, ◌+◌, ◌<◌, ◌≤◌, ◌^◌, ◌++◌, ◌↔◌, List, [], take, drop, length, min, Option, Some, None, IsSome, IfSome, IfOk};
+ghost use Rattle.std.specs.Prelude.{◌≡◌, ℕ, ◌+◌, ◌<◌, ◌≤◌, ◌^◌, ◌++◌, ◌↔◌, List, [], take, drop, length, min, Option};
+ghost use Rattle.std.specs.Prelude.{Some, None, IsSome, IfSome, IfOk};
 ghost use Rattle.mb_io.specs.Files.{file_named, first_place};
 ghost use Rattle.mb_io.specs.MemShelf.{ShelfState, fresh_shelf, Starts, Reads, rest_of};
 ghost use Rattle.mb_io.specs.Piece as piece;

@@ -1,6 +1,7 @@
 //! Bytes taken in memory.
 
-ghost use Rattle.std.specs.Prelude.{◌≡◌, ◌+◌, ◌<◌, ◌≤◌, ◌^◌, [], Option, Some, None, IfOk, IfSome, length, vec_len, vec_capacity};
+ghost use Rattle.std.specs.Prelude.{◌≡◌, ◌+◌, ◌<◌, ◌≤◌, ◌^◌, [], Option, Some, None, IfOk, IfSome, length, vec_len};
+ghost use Rattle.std.specs.Prelude.{vec_capacity};
 ghost use Rattle.mb_io.specs.MemSink.{SinkState, fresh_sink, Writes};
 
 use crate::calls::Calls;

@@ -1,6 +1,7 @@
 //! What gives bytes and what takes them.
 
-ghost use Rattle.std.specs.Prelude.{◌≡◌, ℕ, ◌<◌, ◌≤◌, ◌^◌, ◌↔◌, List, [], take, length, Option, IsSome, IfSome, IfOk, OnOk, OnErr};
+ghost use Rattle.std.specs.Prelude.{◌≡◌, ℕ, ◌<◌, ◌≤◌, ◌^◌, ◌↔◌, List, [], take, length, Option, IsSome, IfSome, IfOk};
+ghost use Rattle.std.specs.Prelude.{OnOk, OnErr};
 ghost use Rattle.mb_io.specs.Shelf.{CountRose, Gives, TakesPrefix};
 
 /// A call did not do what it was to do. The shelf or the sink has counted it.

@@ -13,10 +13,12 @@ use Rattle.metab_run.specs.Legal.{IsLegal}
 use Rattle.metab_run.proofs.Reportable.{reportable}
 
 -- a report of which all lines hold is accepted by `check`
-pub checks : (p : Presented) (r : Reported) (h : History) → r.pres ≡ p → TellsWhole r.pres (text_of r h) (Ok (told_amount r h)) → ReportLeads p (text_of r h) (holds (told_amount r h))
+pub checks : (p : Presented) (r : Reported) (h : History) → r.pres ≡ p → TellsWhole r.pres (text_of r h) (Ok (told_amount r h))
+    → ReportLeads p (text_of r h) (holds (told_amount r h))
 checks p r h pres tells = (Ok (told_amount r h), subst (λ (x : Presented). TellsWhole x (text_of r h) (Ok (told_amount r h))) pres tells, refl)
 
 pub legal_holds : ((r : Reported) (h : History) → IsKnown r → IsReportable r → IsHistoryOf r h → TellsWhole r.pres (text_of r h) (Ok (told_amount r h)))
-    → (p : Presented) (limits : Limits) (questions : List (List Question)) (r : Reported) (h : History) → IsKnown r → limits.entries + 1 < 2 ^ 32 → IsLegal p limits questions r → IsHistoryOf r h
+    → (p : Presented) (limits : Limits) (questions : List (List Question)) (r : Reported) (h : History) → IsKnown r → limits.entries + 1 < 2 ^ 32
+    → IsLegal p limits questions r → IsHistoryOf r h
     → ReportLeads p (text_of r h) (holds (told_amount r h))
 legal_holds law p limits questions r h known few legal is = checks p r h legal.pres (law r h known (reportable p limits questions r legal few) is)

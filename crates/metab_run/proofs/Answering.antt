@@ -1,5 +1,6 @@
 -- Sessions that are answered one after another.
-use Rattle.std.proofs.Common.{◌≡◌, ℕ, zero, suc, ◌+◌, ◌<◌, ◌≤◌, ◌⊎◌, inl, inr, List, [], ◌∷◌, length, length-set, set, Option, Some, slice_get, sym, ap, subst, ◌∙◌, arith, refl}
+use Rattle.std.proofs.Common.{◌≡◌, ℕ, zero, suc, ◌+◌, ◌<◌, ◌≤◌, ◌⊎◌, inl, inr, List, [], ◌∷◌, length, length-set, set, Option, Some, slice_get, sym, ap, subst}
+use Rattle.std.proofs.Common.{◌∙◌, arith, refl}
 use Rattle.std.proofs.lemmas.Option.{slice_get_within}
 use Rattle.presentation.specs.Presented.{Presented}
 use Rattle.basis_entry.specs.Entries.{BasisEntry}
@@ -51,7 +52,8 @@ none_answered p es seal ss = record {
 }
 
 -- the session at n is answered too
-pub one_answered : (p : Presented) (es : List BasisEntry) (seal : Option Seal) (n : ℕ) (olds news : List SessionState) (now next : SessionState) → AreAnsweredTo p es seal n olds news
+pub one_answered : (p : Presented) (es : List BasisEntry) (seal : Option Seal) (n : ℕ) (olds news : List SessionState) (now next : SessionState)
+    → AreAnsweredTo p es seal n olds news
     → slice_get news n ≡ Some now → IsAnsweredOn p es seal now next → AreAnsweredTo p es seal (n + 1) olds (set news n next)
 one_answered p es seal n olds news now next to here on = record {
   count = length-set news n next ∙ to.count;
@@ -62,14 +64,16 @@ one_answered p es seal n olds news now next to here on = record {
     split : (i : ℕ) → i ≤ n → (i < n) ⊎ (i ≡ n)
     split i le = lt_or_same i n le
 
-    by : (i : ℕ) (old new : SessionState) → (i < n) ⊎ (i ≡ n) → slice_get olds i ≡ Some old → slice_get (set news n next) i ≡ Some new → IsAnsweredOn p es seal old new
+    by : (i : ℕ) (old new : SessionState) → (i < n) ⊎ (i ≡ n) → slice_get olds i ≡ Some old → slice_get (set news n next) i ≡ Some new
+        → IsAnsweredOn p es seal old new
     by i old new (inl lt) at put = to.done i old new lt at (sym (set_other news n i next lt) ∙ put)
     by i old new (inr e) at put =
         let was : now ≡ old = same_some now old (sym here ∙ to.rest n (omega arith) ∙ subst (λ (m : ℕ). slice_get olds m ≡ Some old) e at) in
         let is : next ≡ new = set_same news n next new (subst (λ (m : ℕ). slice_get (set news n next) m ≡ Some new) e put) in
         subst (λ (t : SessionState). IsAnsweredOn p es seal old t) is (subst (λ (s : SessionState). IsAnsweredOn p es seal s next) was on)
 
-pub all_answered : (p : Presented) (es : List BasisEntry) (seal : Option Seal) (n : ℕ) (olds news : List SessionState) → AreAnsweredTo p es seal n olds news → length olds ≤ n
+pub all_answered : (p : Presented) (es : List BasisEntry) (seal : Option Seal) (n : ℕ) (olds news : List SessionState) → AreAnsweredTo p es seal n olds news
+    → length olds ≤ n
     → AreAnsweredOn p es seal olds news
 all_answered p es seal n olds news to le = record {
   count = to.count;
@@ -80,6 +84,7 @@ all_answered p es seal n olds news to le = record {
     within xs i x at m le = let lt = slice_get_within xs i x at in omega (arith, lt, le)
 
 -- the session at n can go on
-pub next_goes_on : (p : Presented) (es : List BasisEntry) (seal : Option Seal) (n : ℕ) (olds news : List SessionState) (now : SessionState) → AreAnsweredTo p es seal n olds news
+pub next_goes_on : (p : Presented) (es : List BasisEntry) (seal : Option Seal) (n : ℕ) (olds news : List SessionState) (now : SessionState)
+    → AreAnsweredTo p es seal n olds news
     → ((i : ℕ) (s : SessionState) → slice_get olds i ≡ Some s → CanGoOn p es seal s) → slice_get news n ≡ Some now → CanGoOn p es seal now
 next_goes_on p es seal n olds news now to all here = all n now (sym (to.rest n (omega arith)) ∙ here)

@@ -1,5 +1,6 @@
 -- A session that asks one question after another.
-use Rattle.std.proofs.Common.{◌≡◌, ℕ, ◌+◌, ◌<◌, ◌≤◌, List, [], ◌∷◌, ◌++◌, append-nil, length, length-append, Option, Some, None, slice_get, sym, ap, subst, ◌∙◌, arith, rules, refl, inl, inr, zero, suc}
+use Rattle.std.proofs.Common.{◌≡◌, ℕ, ◌+◌, ◌<◌, ◌≤◌, List, [], ◌∷◌, ◌++◌, append-nil, length, length-append, Option, Some, None, slice_get, sym, ap, subst, ◌∙◌}
+use Rattle.std.proofs.Common.{arith, rules, refl, inl, inr, zero, suc}
 use Rattle.std.specs.List.{AllByRecursion}
 use Rattle.std.specs.Prelude.{nat_lt, if◌then◌else◌}
 use Rattle.std.proofs.lemmas.List.{append_assoc}
@@ -54,21 +55,25 @@ one_asked p es seal s now next k on reply left new =
     let many : length now.kept ≡ length (s.kept ++ on.more) = ap length kept in
     record {
       more = on.more ++ k ∷ [];
-      is = new ∙ ap (λ (x : SessionState). record x { kept = x.kept ++ k ∷ [] }) on.is ∙ ap (λ (ks : List Kept). record s { kept = ks }) (append_assoc s.kept on.more (k ∷ []));
+      is = new ∙ ap (λ (x : SessionState). record x { kept = x.kept ++ k ∷ [] }) on.is
+          ∙ ap (λ (ks : List Kept). record s { kept = ks }) (append_assoc s.kept on.more (k ∷ []));
       by_all = all_one_more (λ k. k.front ≡ item_count es seal) on.more k on.by_all front;
       replies = λ i q r asked at. elim (split_get on.more (k ∷ []) i r at) [
         | inl h ↦ on.replies i q r asked h
         | inr h ↦
             let one = one_at k r h.0 h.2 in
-            let place : length s.kept + i ≡ length now.kept = let a : i ≡ length on.more + h.0 = h.1 in let b : h.0 ≡ 0 = one.0 in omega (arith, a, b, long, many) in
+            let place : length s.kept + i ≡ length now.kept = let a : i ≡ length on.more + h.0 = h.1 in let b : h.0 ≡ 0 = one.0
+            in omega (arith, a, b, long, many) in
             subst (λ (x : Kept). IsReply p es seal q x) one.1
-            (reply q (subst (λ (qs : List Question). slice_get qs (length now.kept) ≡ Some q) (sym questions) (subst (λ (m : ℕ). slice_get s.questions m ≡ Some q) place asked)))
+            (reply q (subst (λ (qs : List Question). slice_get qs (length now.kept) ≡ Some q) (sym questions)
+            (subst (λ (m : ℕ). slice_get s.questions m ≡ Some q) place asked)))
       ];
       front = let last : last_front next ≡ k.front = ap last_front new ∙ front_of_more now.base now.kept k in omega (arith, last, front);
     }
 
 -- when no question is left
-pub all_asked : (p : Presented) (es : List BasisEntry) (seal : Option Seal) (s now : SessionState) → IsAskedOn p es seal s now → IsSession now → next_question now ≡ None
+pub all_asked : (p : Presented) (es : List BasisEntry) (seal : Option Seal) (s now : SessionState) → IsAskedOn p es seal s now → IsSession now
+    → next_question now ≡ None
     → IsAnsweredOn p es seal s now
 all_asked p es seal s now on is none = record {
   more = on.more;

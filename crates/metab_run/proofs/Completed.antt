@@ -21,7 +21,8 @@ pub sealed_already : (p : Presented) (h : Held) (s : Seal) → h.source ≡ p �
 sealed_already p h s source is sealed seal =
     let by : IsSealedBy h (Some s) = subst (IsSealedBy h) sealed is.seal in
     let strong : IsStrongBasis p (vectors_of h.entries) =
-    subst (λ (x : Presented). IsStrongBasis x (vectors_of h.entries)) source (subst (λ (z : Seal). IsStrongBasis z.source (vectors_of z.entries)) by.0 seal.strong) in
+    subst (λ (x : Presented). IsStrongBasis x (vectors_of h.entries)) source (subst (λ (z : Seal). IsStrongBasis z.source (vectors_of z.entries)) by.0
+    seal.strong) in
     record {
       source = refl;
       limits = refl;

@@ -1,5 +1,6 @@
 -- Replies and sessions that are counted one after another.
-use Rattle.std.proofs.Common.{◌≡◌, ℕ, zero, suc, ◌+◌, ◌*◌, ◌<◌, ◌≤◌, Bool, true, false, if◌then◌else◌, List, [], ◌∷◌, ◌++◌, append_assoc, length, take, get_or, Option, Some, None, slice_get, ap, subst, ◌∙◌, arith, refl}
+use Rattle.std.proofs.Common.{◌≡◌, ℕ, zero, suc, ◌+◌, ◌*◌, ◌<◌, ◌≤◌, Bool, true, false, if◌then◌else◌, List, [], ◌∷◌, ◌++◌, append_assoc, length, take, get_or}
+use Rattle.std.proofs.Common.{Option, Some, None, slice_get, ap, subst, ◌∙◌, arith, refl}
 use Rattle.std.specs.Int.{from_bool}
 use Rattle.session_text.specs.declared.TheConstants.{QUESTIONS}
 use Rattle.session_core.specs.declared.kept.Kept.{Kept}
@@ -68,12 +69,14 @@ pub no_session : (kind : Kind) (ss : List SessionState) → AreCountedIn kind ss
 no_session kind [] = record { is = refl; few = omega arith }
 no_session kind (s ∷ ss) = record { is = refl; few = omega arith }
 
-session_at : (kind : Kind) (ss : List SessionState) (i : ℕ) (s : SessionState) → i < length ss → s ≡ get_or ss i s → how_many kind (take (suc i) ss) ≡ how_many kind (take i ss) + how_many_in kind s.kept
+session_at : (kind : Kind) (ss : List SessionState) (i : ℕ) (s : SessionState) → i < length ss → s ≡ get_or ss i s
+    → how_many kind (take (suc i) ss) ≡ how_many kind (take i ss) + how_many_in kind s.kept
 session_at kind [] i s lt is = absurd (omega (arith, lt))
 session_at kind (x ∷ ss) zero s lt is = subst (λ (y : SessionState). how_many_in kind y.kept + 0 ≡ 0 + how_many_in kind s.kept) is (omega arith)
 session_at kind (x ∷ ss) (suc i) s lt is = let rest = session_at kind ss i s (omega (arith, lt)) is in omega (arith, rest)
 
-pub one_session : (kind : Kind) (ss : List SessionState) (i n m : ℕ) (s : SessionState) → AreCountedIn kind ss i n → i < length ss → s ≡ get_or ss i s → m ≡ how_many_in kind s.kept → m ≤ QUESTIONS
+pub one_session : (kind : Kind) (ss : List SessionState) (i n m : ℕ) (s : SessionState) → AreCountedIn kind ss i n → i < length ss → s ≡ get_or ss i s
+    → m ≡ how_many_in kind s.kept → m ≤ QUESTIONS
     → AreCountedIn kind ss (i + 1) (n + m)
 one_session kind ss i n m s so lt at own most =
     let more : how_many kind (take (i + 1) ss) ≡ how_many kind (take i ss) + how_many_in kind s.kept =

@@ -18,7 +18,8 @@ among_some k [] rows h = absurd h
 among_some k (x ∷ xs) rows h = refl
 
 -- a parse that fails for another cause than memory finds nothing
-pub none_parsed : (app : App) (words : List (List ℕ)) (e : Error) → HasKind (fault_of app words) e → (kind_of e ≡ kind.OutOfMemory → ⊥) → parsed app words ≡ None
+pub none_parsed : (app : App) (words : List (List ℕ)) (e : Error) → HasKind (fault_of app words) e → (kind_of e ≡ kind.OutOfMemory → ⊥)
+    → parsed app words ≡ None
 none_parsed app words e (inl h) not_memory = absurd (not_memory h)
 none_parsed app words e (inr h) not_memory = among_some (kind_of e) (fault_of app words) (matches_of app words) h
 

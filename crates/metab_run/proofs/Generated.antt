@@ -23,16 +23,24 @@ use Rattle.metab_run.specs.GenAnswers.{summary, ShowsGen, QuestionsLead, TextsLe
 
 -- ---- the one session
 
-new_at : (p : Presented) (least : ℕ) (x : SessionState) → IsNewSession p least 1 x → (i : ℕ) (s : SessionState) → slice_get (x ∷ []) i ≡ Some s → IsNewSession p least (i + 1) s
+new_at : (p : Presented) (least : ℕ) (x : SessionState) → IsNewSession p least 1 x → (i : ℕ) (s : SessionState) → slice_get (x ∷ []) i ≡ Some s
+    → IsNewSession p least (i + 1) s
 new_at p least x new zero s at = let e : x ≡ s = cc in subst (IsNewSession p least 1) e new
 new_at p least x new (suc i) s at = absurd (cc)
 
-pub new_one : (p : Presented) (least : ℕ) (qs : List Question) (ss : List SessionState) → ss ≡ record { number = 1; questions = qs; base = least; kept = [] } ∷ [] → AllByRecursion (CanBeAsked p) qs
+pub new_one : (p : Presented) (least : ℕ) (qs : List Question) (ss : List SessionState)
+    → ss ≡ record { number = 1; questions = qs; base = least; kept = [] } ∷ [] → AllByRecursion (CanBeAsked p) qs
     → AreNewSessions p least ss
 new_one p least qs ss is asked =
-    subst (AreNewSessions p least) (sym is) (new_at p least (record { number = 1; questions = qs; base = least; kept = [] }) (record { number = refl; base = refl; kept = refl; questions = asked }))
+    subst (AreNewSessions p least) (sym is) (new_at p least (record { number = 1; questions = qs; base = least; kept = [] }) (record {
+      number = refl;
+      base = refl;
+      kept = refl;
+      questions = asked;
+    }))
 
-pub few_sessions : (p : Presented) (limits : Limits) (questions : List (List Question)) (qs : List Question) (r : Reported) → questions ≡ qs ∷ [] → IsSolution p limits questions r → length r.sessions ≤ SESSIONS
+pub few_sessions : (p : Presented) (limits : Limits) (questions : List (List Question)) (qs : List Question) (r : Reported) → questions ≡ qs ∷ []
+    → IsSolution p limits questions r → length r.sessions ≤ SESSIONS
 few_sessions p limits questions qs r one solution =
     let count : length r.sessions ≡ length questions = solution.solved.legal.count in
     let single : length questions ≡ 1 = ap length one in
@@ -47,18 +55,22 @@ module _ (seed : ℕ) (pres session : List ℕ) where
   goes_on : (p : Presented) (a : Answer) → in_lines presentation_text pres ≡ Ok p → next p a → TextsLead seed pres session a
   goes_on p a is on = subst (λ (r : Result Presented TextFault). ReadLeads (codes "presentation") r next a) (sym is) on
 
-  pub no_presentation : (halt : Halt) → TextGives {X = Presented} (codes "presentation") (in_lines presentation_text pres) (Err halt) → CommandEnd (TextsLead seed pres session) (Err halt)
+  pub no_presentation : (halt : Halt) → TextGives {X = Presented} (codes "presentation") (in_lines presentation_text pres) (Err halt)
+      → CommandEnd (TextsLead seed pres session) (Err halt)
   no_presentation (Says a) (f, is, refuses) = subst (λ (r : Result Presented TextFault). ReadLeads (codes "presentation") r next a) (sym is) refuses
   no_presentation NoMemory gives = tt
 
-  pub no_questions : (p : Presented) (halt : Halt) → in_lines presentation_text pres ≡ Ok p → QuestionsGive (codes "session") (session_text p session) (Err halt)
+  pub no_questions : (p : Presented) (halt : Halt) → in_lines presentation_text pres ≡ Ok p
+      → QuestionsGive (codes "session") (session_text p session) (Err halt)
       → CommandEnd (TextsLead seed pres session) (Err halt)
   no_questions p (Says a) is (f, read, refuses) =
       goes_on p a is (subst (λ (r : Result (List Question) SessionFault). QuestionsLead (codes "session") r (ShowsGen seed p) a) (sym read) refuses)
   no_questions p NoMemory is gives = tt
 
-  pub summed : (p : Presented) (questions : List (List Question)) (qs : List Question) (r : Reported) (a : Answer) → in_lines presentation_text pres ≡ Ok p → session_text p session ≡ Ok qs
-      → questions ≡ qs ∷ [] → IsSolution p (limits_with ENTRIES None) questions r → a.text ≡ summary seed r → ShowsSettled r a.status → TextsLead seed pres session a
+  pub summed : (p : Presented) (questions : List (List Question)) (qs : List Question) (r : Reported) (a : Answer) → in_lines presentation_text pres ≡ Ok p
+      → session_text p session ≡ Ok qs
+      → questions ≡ qs ∷ [] → IsSolution p (limits_with ENTRIES None) questions r → a.text ≡ summary seed r → ShowsSettled r a.status
+      → TextsLead seed pres session a
   summed p questions qs r a is read one solution text status =
       let shows : ShowsGen seed p qs a =
       record {

@@ -1,5 +1,6 @@
 -- From a completed log and answered sessions to a legal report.
-use Rattle.std.proofs.Common.{◌≡◌, ℕ, ◌+◌, ◌≤◌, inl, inr, List, ◌++◌, length, length-append, take, Option, Some, None, slice_get, sym, ap, subst, ◌∙◌, arith, refl}
+use Rattle.std.proofs.Common.{◌≡◌, ℕ, ◌+◌, ◌≤◌, inl, inr, List, ◌++◌, length, length-append, take, Option, Some, None, slice_get, sym, ap, subst, ◌∙◌, arith}
+use Rattle.std.proofs.Common.{refl}
 use Rattle.std.specs.List.{AllByRecursion}
 use Rattle.std.proofs.lemmas.List.{take-append-le, length-map}
 use Rattle.presentation.specs.Presented.{Presented}
@@ -62,7 +63,8 @@ replies p old end new s t n source done asker on i q k asked at =
 -- ---- sessions
 
 -- an answered session is legal
-session_legal : (p : Presented) (old : Held) (end : End) (new : Held) (s t : SessionState) (n : ℕ) → old.source ≡ p → IsCompleted p old end new → IsAsker old n s
+session_legal : (p : Presented) (old : Held) (end : End) (new : Held) (s t : SessionState) (n : ℕ) → old.source ≡ p → IsCompleted p old end new
+    → IsAsker old n s
     → IsAnsweredOn p new.entries new.seal s t → IsLegalSession p new.base new.entries new.seal n s.questions t
 session_legal p old end new s t n source done asker on =
     let questions : t.questions ≡ s.questions = ap (λ (x : SessionState). x.questions) on.is in
@@ -79,14 +81,16 @@ session_legal p old end new s t n source done asker on =
       replied = record {
         asked = subst (AllByRecursion (CanBeAsked p)) (sym questions) asked;
         count = omega (arith, long, many, few, on.count);
-        each = λ i q k here at. replies p old end new s t n source done asker on i q k (subst (λ (qs : List Question). slice_get qs i ≡ Some q) questions here) at;
+        each = λ i q k here at. replies p old end new s t n source done asker on i q k (subst (λ (qs : List Question). slice_get qs i
+            ≡ Some q) questions here) at;
       };
       rising = rising;
     }
 
 -- ---- the report
 
-pub legal : (p : Presented) (limits : Limits) (old : Held) (end : End) (new : Held) (ss ts : List SessionState) → old.source ≡ p → old.limits ≡ limits → IsBook new
+pub legal : (p : Presented) (limits : Limits) (old : Held) (end : End) (new : Held) (ss ts : List SessionState) → old.source ≡ p
+    → old.limits ≡ limits → IsBook new
     → IsCompleted p old end new → AreAskers old ss → AreAnsweredOn p new.entries new.seal ss ts
     → IsLegal p limits (questions_of ss) (record { pres = p; entries = new.entries; seal = new.seal; end = end; sessions = ts })
 legal p limits old end new ss ts source limited is done askers answered =
@@ -109,7 +113,8 @@ legal p limits old end new ss ts source limited is done askers answered =
 -- ---- what the sessions have to be
 
 -- a session that asks the book can go on by all items of the completed one
-pub can_go_on : (p : Presented) (old : Held) (end : End) (new : Held) (s : SessionState) (n : ℕ) → old.source ≡ p → IsBook old → IsCompleted p old end new → IsAsker old n s
+pub can_go_on : (p : Presented) (old : Held) (end : End) (new : Held) (s : SessionState) (n : ℕ) → old.source ≡ p → IsBook old → IsCompleted p old end new
+    → IsAsker old n s
     → CanGoOn p new.entries new.seal s
 can_go_on p old end new s n source is done asker =
     let asked : AllByRecursion (CanBeAsked p) s.questions = subst (λ (x : Presented). AllByRecursion (CanBeAsked x) s.questions) source asker.questions in

@@ -10,7 +10,8 @@ use Rattle.metab_run.specs.Words.{shown}
 more_options : (app : App) (os ps : List (List ℕ)) (o : List ℕ) → ps ≡ os ++ o ∷ [] → with_rule (with_options app os) (option_rule o) ≡ with_options app ps
 more_options app os ps o e =
     let rules : (app.top.rules ++ map option_rule os) ++ option_rule o ∷ [] ≡ app.top.rules ++ map option_rule ps =
-    append_assoc app.top.rules (map option_rule os) (option_rule o ∷ []) ∙ ap (λ (r : List Rule). app.top.rules ++ r) (sym (ap (map option_rule) e ∙ map-append option_rule os (o ∷ []))) in
+    append_assoc app.top.rules (map option_rule os) (option_rule o ∷ [])
+    ∙ ap (λ (r : List Rule). app.top.rules ++ r) (sym (ap (map option_rule) e ∙ map-append option_rule os (o ∷ []))) in
     ap (λ (r : List Rule). on_top (λ s. record s { rules = r }) app) rules
 
 -- the option at i is the next one
@@ -18,4 +19,5 @@ pub add_option : (app : App) (xs : List (Bor (List ℕ))) (i : ℕ) (x : Bor (Li
     → with_rule (with_options app (shown (take i xs))) (option_rule x.now) ≡ with_options app (shown (take (i + 1) xs))
 add_option app xs i x lt is =
     more_options app (shown (take i xs)) (shown (take (i + 1) xs)) x.now
-    (ap shown (take_more xs i x lt) ∙ map-append (λ (w : Bor (List ℕ)). w.now) (take i xs) (get_or xs i x ∷ []) ∙ ap (λ (y : Bor (List ℕ)). shown (take i xs) ++ y.now ∷ []) is)
+    (ap shown (take_more xs i x lt) ∙ map-append (λ (w : Bor (List ℕ)). w.now) (take i xs) (get_or xs i x ∷ [])
+    ∙ ap (λ (y : Bor (List ℕ)). shown (take i xs) ++ y.now ∷ []) is)

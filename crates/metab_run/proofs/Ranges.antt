@@ -32,7 +32,8 @@ turned_long : (ss : List Step) → AllByRecursion (λ s. length s.t ≡ VARIABLE
 turned_long [] h = tt
 turned_long (s ∷ ss) h = (h.0, turned_long ss h.1)
 
-recipe_long : (kind : PairKind) (b : List (List Term)) (i j : ℕ) (ss : List Step) → AreEntries b → IsPair b i j → IsPairRecipe kind b i j ss → AllByRecursion (λ s. length s.t ≡ VARIABLES) ss
+recipe_long : (kind : PairKind) (b : List (List Term)) (i j : ℕ) (ss : List Step) → AreEntries b → IsPair b i j → IsPairRecipe kind b i j ss
+    → AllByRecursion (λ s. length s.t ≡ VARIABLES) ss
 recipe_long kind b i j ss entries pair r =
     let meet = meeting kind b i j r.first r.second r.pair in
     subst (AllByRecursion (λ s. length s.t ≡ VARIABLES)) (sym r.is) (
@@ -40,7 +41,8 @@ recipe_long kind b i j ss entries pair r =
       (second-length b entries i j pair r.first r.second meet, stand_long (StandsFor kind (pair_place b i j)) b r.further r.stand),
     )
 
-pub steps_long : (kind : PairKind) (b : List (List Term)) (i j : ℕ) (ss : List Step) → AreEntries b → IsPair b i j → IsFromPair kind b i j ss → AllByRecursion (λ s. length s.t ≡ VARIABLES) ss
+pub steps_long : (kind : PairKind) (b : List (List Term)) (i j : ℕ) (ss : List Step) → AreEntries b → IsPair b i j → IsFromPair kind b i j ss
+    → AllByRecursion (λ s. length s.t ≡ VARIABLES) ss
 steps_long kind b i j ss entries pair (inl r) = recipe_long kind b i j ss entries pair r
 steps_long kind b i j ss entries pair (inr h) =
     subst (AllByRecursion (λ s. length s.t ≡ VARIABLES)) (sym h.2) (turned_long h.0 (recipe_long kind b i j h.0 entries pair h.1))
@@ -62,15 +64,19 @@ factor_range q k positive range =
     let same : unsigned_abs (q *ℤ k) ≡ unsigned_abs q * unsigned_abs k = unsigned_abs-mul q k in
     omega (arith, le, same, range)
 
-in_range : (b : List (List Term)) (ss : List Step) (f g : Coefficients) → AreEntries b → AllByRecursion (λ s. length s.t ≡ VARIABLES) ss → AllByRecursion (IsInReach b) ss → Adds b f ss g
+in_range : (b : List (List Term)) (ss : List Step) (f g : Coefficients) → AreEntries b → AllByRecursion (λ s. length s.t ≡ VARIABLES) ss
+    → AllByRecursion (IsInReach b) ss → Adds b f ss g
     → AllByRecursion (λ s. InRange s.q) ss
 in_range b [] f g entries long reach adds = tt
 in_range b (s ∷ ss) f g entries long reach adds =
     let number : s.by < length b = reach.0.number in
     let x : Place = moved s.t (lead_at b s.by).at in
     let there : taken_at b s x ≡ s.q *ℤ (lead_at b s.by).k = taken_is b s x ∙ ap (λ (k : ℤ). s.q *ℤ k) (shifted_lead b entries s.t s.by long.0 number) in
-    let range : InRange (taken_at b s x) = narrow_range (taken_at b s x) (λ wide. adds.0.narrow x (inl wide)) in
-    (factor_range s.q (lead_at b s.by).k (lead_positive b entries s.by number) (subst InRange there range), in_range b ss (passed Add b f s) g entries long.1 reach.1 adds.1)
+    let range : InRange (taken_at b s x) = narrow_range (taken_at b s x) (λ wide. adds.0.narrow x (inl wide)) in (
+      factor_range s.q (lead_at b s.by).k (lead_positive b entries s.by number) (subst InRange there range),
+      in_range b ss (passed Add b f s) g entries long.1 reach.1 adds.1,
+    )
 
-pub steps_in_range : (b : List (List Term)) (ss : List Step) (v : List Term) → AreEntries b → AllByRecursion (λ s. length s.t ≡ VARIABLES) ss → IsValue b ss v → AllByRecursion (λ s. InRange s.q) ss
+pub steps_in_range : (b : List (List Term)) (ss : List Step) (v : List Term) → AreEntries b → AllByRecursion (λ s. length s.t ≡ VARIABLES) ss → IsValue b ss v
+    → AllByRecursion (λ s. InRange s.q) ss
 steps_in_range b ss v entries long is = in_range b ss zero_vector (coefficient_at v) entries long is.reach is.adds

@@ -43,7 +43,8 @@ sealed_or (ends.Stopped t stop) = inr (λ e. absurd cc)
 sealed_or (ends.Full m c) = inr (λ e. absurd cc)
 sealed_or (ends.Spent c t) = inr (λ e. absurd cc)
 
-settled_by : (r : Reported) → (r.end ≡ ends.Sealed) ⊎ (r.end ≡ ends.Sealed → ⊥) → AllByRecursion HasNoStop r.sessions ⊎ (AllByRecursion HasNoStop r.sessions → ⊥) → (status : Status) × ShowsSettled r status
+settled_by : (r : Reported) → (r.end ≡ ends.Sealed) ⊎ (r.end ≡ ends.Sealed → ⊥) → AllByRecursion HasNoStop r.sessions
+    ⊎ (AllByRecursion HasNoStop r.sessions → ⊥) → (status : Status) × ShowsSettled r status
 settled_by r (inl e) (inl all) = (Done, inl (refl, (e, all)))
 settled_by r (inl e) (inr not) = (Open, inr (refl, λ h. not h.1))
 settled_by r (inr not) other = (Open, inr (refl, λ h. not h.0))
@@ -57,7 +58,8 @@ some_status r = settled_by r (sealed_or r.end) (all_or HasNoStop (λ s. all_or (
 abbrev told_answer : Reported → History → Status → Answer
 told_answer r h status = record { status = status; text = text_of r h }
 
-due : (counted : Type 0) (under : List ℕ → Option (List ℕ)) (words : List (List ℕ)) (q : SoloAsked) (r : Reported) (h : History) (status : Status) → command words ≡ Some (Solo q)
+due : (counted : Type 0) (under : List ℕ → Option (List ℕ)) (words : List (List ℕ)) (q : SoloAsked) (r : Reported) (h : History) (status : Status)
+    → command words ≡ Some (Solo q)
     → IsFound under q r h → ShowsSettled r status → IsDue counted under words (told_answer r h status)
 due counted under words q r h status asks found settled =
     let a : Answer = told_answer r h status in
@@ -70,7 +72,8 @@ take_front (x ∷ xs) ys = ap (λ (zs : List ℕ). x ∷ zs) (take_front xs ys)
 
 -- ---- how it ends
 
-module _ (counted : Type 0) (under : List ℕ → Option (List ℕ)) (words : List (List ℕ)) (q : SoloAsked) (r : Reported) (asks : command words ≡ Some (Solo q)) (ready : IsReady under q r)
+module _ (counted : Type 0) (under : List ℕ → Option (List ℕ)) (words : List (List ℕ)) (q : SoloAsked) (r : Reported) (asks : command words
+    ≡ Some (Solo q)) (ready : IsReady under q r)
     (failed : Type 0) (old new : Option (List ℕ)) where
   abbrev text : List ℕ
   text = text_of r ready.history
@@ -90,9 +93,21 @@ module _ (counted : Type 0) (under : List ℕ → Option (List ℕ)) (words : Li
 
   whole : (status : Status) → ShowsSettled r status → TakesPrefix old text new → goes status
   whole status (inl settled) took =
-      subst goes (sym settled.0) (told_answer r ready.history Done, due counted under words q r ready.history Done asks ready.found (inl (refl, settled.1)), refl, took)
+      subst goes (sym settled.0) (
+        told_answer r ready.history Done,
+        due counted under words q r ready.history Done asks ready.found
+            (inl (refl, settled.1)),
+        refl,
+        took,
+      )
   whole status (inr settled) took =
-      subst goes (sym settled.0) (told_answer r ready.history Open, due counted under words q r ready.history Open asks ready.found (inr (refl, settled.1)), refl, took)
+      subst goes (sym settled.0) (
+        told_answer r ready.history Open,
+        due counted under words q r ready.history Open asks ready.found
+            (inr (refl, settled.1)),
+        refl,
+        took,
+      )
 
   reports : AsksReport (command words)
   reports = subst AsksReport (sym asks) tt
@@ -102,7 +117,8 @@ module _ (counted : Type 0) (under : List ℕ → Option (List ℕ)) (words : Li
   ends_by status (inr (inl d)) = subst goes (sym d.0) (d.1, part d.2)
   ends_by status (inr (inr d)) = subst goes (sym d.0) (inr (reports, part d.1))
 
-  pub report_ends : (status : Status) → DeliversReport failed old new r status → Ends (AsksReport (command words)) (IsDue counted under words) failed old new status
+  pub report_ends : (status : Status) → DeliversReport failed old new r status
+      → Ends (AsksReport (command words)) (IsDue counted under words) failed old new status
   report_ends status d = ends_by status (d ready.history ready.found.solved.told)
 
   pub report_shown : ShownTrivial under (command words)
@@ -122,10 +138,12 @@ module _ (failed : Type 0) (old new : Option (List ℕ)) (r : Reported) (status 
   has_failed h (inr (inl d)) e = d.1
   has_failed h (inr (inr d)) e = absurd (let x : NoMemory ≡ WriteFault = sym d.0 ∙ e in cc)
 
-pub never_read : (under : List ℕ → Option (List ℕ)) (q : SoloAsked) (r : Reported) → IsReady under q r → (failed : Type 0) (old new : Option (List ℕ)) (status : Status)
+pub never_read : (under : List ℕ → Option (List ℕ)) (q : SoloAsked) (r : Reported) → IsReady under q r
+    → (failed : Type 0) (old new : Option (List ℕ)) (status : Status)
     → DeliversReport failed old new r status → status ≡ ReadFault → ⊥
 never_read under q r ready failed old new status d e = no_read failed old new r status ready.history (d ready.history ready.found.solved.told) e
 
-pub write_failed : (under : List ℕ → Option (List ℕ)) (q : SoloAsked) (r : Reported) → IsReady under q r → (failed : Type 0) (old new : Option (List ℕ)) (status : Status)
+pub write_failed : (under : List ℕ → Option (List ℕ)) (q : SoloAsked) (r : Reported) → IsReady under q r
+    → (failed : Type 0) (old new : Option (List ℕ)) (status : Status)
     → DeliversReport failed old new r status → status ≡ WriteFault → failed
 write_failed under q r ready failed old new status d e = has_failed failed old new r status ready.history (d ready.history ready.found.solved.told) e

@@ -1,5 +1,6 @@
 -- Legal reports can be written, and have their history.
-use Rattle.std.proofs.Common.{◌≡◌, ◌≢◌, ℕ, zero, suc, ◌+◌, ◌<◌, ◌≤◌, ◌^◌, ◌⊎◌, inl, inr, Bool, pos, List, [], ◌∷◌, length, take, Option, Some, slice_get, sym, ap, subst, ◌∙◌, arith, refl}
+use Rattle.std.proofs.Common.{◌≡◌, ◌≢◌, ℕ, zero, suc, ◌+◌, ◌<◌, ◌≤◌, ◌^◌, ◌⊎◌, inl, inr, Bool, pos, List, [], ◌∷◌, length, take, Option, Some, slice_get, sym}
+use Rattle.std.proofs.Common.{ap, subst, ◌∙◌, arith, refl}
 use Rattle.std.specs.List.{AllByRecursion}
 use Rattle.std.specs.Prelude.{IsSome, ◌↔◌}
 use Rattle.presentation.specs.Presented.{Presented}
@@ -62,7 +63,8 @@ stands (a ∷ xs) (y ∷ ys) (suc i) x at same = stands xs ys i x at (omega (ari
 
 -- ---- entries
 
-made_over : (n : ℕ) (e : BasisEntry) (r : Recipe) → e.recipe ≡ r → RecipeIsOver n e.recipe → ((steps : List Step) → e.recipe ≡ Sum steps → AllByRecursion (λ s. (s.q ≢ pos 0) × InRange s.q) steps)
+made_over : (n : ℕ) (e : BasisEntry) (r : Recipe) → e.recipe ≡ r → RecipeIsOver n e.recipe
+    → ((steps : List Step) → e.recipe ≡ Sum steps → AllByRecursion (λ s. (s.q ≢ pos 0) × InRange s.q) steps)
     → MadeIsOver n (made_by e.recipe)
 made_over n e (Gen number negated) is over known = subst (λ (r : Recipe). MadeIsOver n (made_by r)) (sym is) tt
 made_over n e (Sum steps) is over known =
@@ -81,14 +83,16 @@ module _ (p : Presented) (base : ℕ) (es : List BasisEntry) (lawful : IsLawful 
   pub is_record : IsRecord p base es
   is_record = record { source = lawful.source; within = lawful.within; begins = lawful.begins; later = sums }
 
-  both : (ss : List Step) → AllByRecursion (λ (s : Step). s.q ≢ pos 0) ss → AllByRecursion (λ (s : Step). InRange s.q) ss → AllByRecursion (λ (s : Step). (s.q ≢ pos 0) × InRange s.q) ss
+  both : (ss : List Step) → AllByRecursion (λ (s : Step). s.q ≢ pos 0) ss → AllByRecursion (λ (s : Step). InRange s.q) ss
+      → AllByRecursion (λ (s : Step). (s.q ≢ pos 0) × InRange s.q) ss
   both [] h i = tt
   both (s ∷ ss) h i = ((h.0, i.0), both ss h.1 i.1)
 
   same_sum : (xs ys : List Step) → Sum xs ≡ Sum ys → xs ≡ ys
   same_sum xs ys e = cc
 
-  later_known : (k : ℕ) (e : BasisEntry) → base ≤ k → slice_get es k ≡ Some e → (steps : List Step) → e.recipe ≡ Sum steps → AllByRecursion (λ s. (s.q ≢ pos 0) × InRange s.q) steps
+  later_known : (k : ℕ) (e : BasisEntry) → base ≤ k → slice_get es k ≡ Some e → (steps : List Step) → e.recipe ≡ Sum steps
+      → AllByRecursion (λ s. (s.q ≢ pos 0) × InRange s.q) steps
   later_known k e low at steps is =
       let next = lawful.later k e low at in
       let entries : AreEntries (vectors_of (take k es)) = are_entries (take k es) (all_first IsBasisEntry k es lawful.entries) in
@@ -113,7 +117,8 @@ module _ (p : Presented) (base : ℕ) (es : List BasisEntry) (lawful : IsLawful 
   not_sum : (steps : List Step) (number : ℕ) (negated : Bool) → Sum steps ≡ Gen number negated → ⊥
   not_sum steps number negated e = cc
 
-  known_by : (k : ℕ) (e : BasisEntry) → (base ≤ k) ⊎ (k < base) → slice_get es k ≡ Some e → (steps : List Step) → e.recipe ≡ Sum steps → AllByRecursion (λ s. (s.q ≢ pos 0) × InRange s.q) steps
+  known_by : (k : ℕ) (e : BasisEntry) → (base ≤ k) ⊎ (k < base) → slice_get es k ≡ Some e → (steps : List Step) → e.recipe ≡ Sum steps
+      → AllByRecursion (λ s. (s.q ≢ pos 0) × InRange s.q) steps
   known_by k e (inl low) at steps is = later_known k e low at steps is
   known_by k e (inr less) at steps is =
       let own = lawful.begins.each k e (take_get base k es e less at) in
@@ -182,7 +187,8 @@ module _ (p : Presented) (limits : Limits) (questions : List (List Question)) (r
 closing : (p : Presented) (es : List BasisEntry) (seal : Option Seal) (q : Question) (k : Kept) → k.front ≡ item_count es seal
     → IsReply p (take k.front es) (seal_below es seal k.front) q k → HasClosing p es seal q
 closing p es seal q k front reply =
-    let shown = proofs_there (vectors_below es k.front) (to_show q reply.verdict) (yes_is_shown p (vectors_below es k.front) (seal_below es seal k.front) q reply.verdict reply.is) in
+    let shown = proofs_there (vectors_below es k.front) (to_show q reply.verdict)
+    (yes_is_shown p (vectors_below es k.front) (seal_below es seal k.front) q reply.verdict reply.is) in
     (record { front = k.front; verdict = reply.verdict; proofs = shown.0 }, record { front = front; reply = record { verdict = reply.is; proofs = shown.1 } })
 
 pub told : (r : Reported) → IsReportable r → AllByRecursion (λ s. AreByAll r.entries r.seal s.kept) r.sessions → (h : History) × IsHistoryOf r h

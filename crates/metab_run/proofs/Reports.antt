@@ -14,7 +14,8 @@ use Rattle.metab_run.specs.CheckAnswers.{BytesLead}
 pub bytes_lead : (counted : Type 0) (limit : ℕ) (name : List ℕ) (told : Option (List ℕ)) (items : List ℕ) (next : List ℕ → Answer → Type 0) (a : Answer)
     → length items ≤ limit → IfSome told (λ bytes. items ≡ bytes) → next items a → BytesLead counted limit name told next a
 bytes_lead counted limit name None items next a le is on = inr tt
-bytes_lead counted limit name (Some bytes) items next a le is on = inr (inr (subst (λ (b : List ℕ). length b ≤ limit) is le, subst (λ (b : List ℕ). next b a) is on))
+bytes_lead counted limit name (Some bytes) items next a le is on =
+    inr (inr (subst (λ (b : List ℕ). length b ≤ limit) is le, subst (λ (b : List ℕ). next b a) is on))
 
 -- a report that holds is true
 pub found_true : (p : Presented) (text : List ℕ) (found : Result Checked CertFault) → IsOk found → IfOk found (λ _. IsTrueReport p text) → IsTrueReport p text

@@ -1,5 +1,6 @@
 -- Sessions that are read one after another.
-use Rattle.std.proofs.Common.{◌≡◌, ℕ, zero, suc, ◌+◌, ◌<◌, ◌≤◌, inl, inr, List, [], ◌∷◌, ◌++◌, length, take, Option, Some, slice_get, slice_index_or, sym, ap, subst, arith, refl}
+use Rattle.std.proofs.Common.{◌≡◌, ℕ, zero, suc, ◌+◌, ◌<◌, ◌≤◌, inl, inr, List, [], ◌∷◌, ◌++◌, length, take, Option, Some, slice_get, slice_index_or, sym, ap}
+use Rattle.std.proofs.Common.{subst, arith, refl}
 use denote.Bor.{Bor}
 use Rattle.metab_run.specs.Words.{shown}
 use Rattle.std.proofs.lemmas.List.{map-append}
@@ -21,8 +22,10 @@ pub record AreRead (under : List ℕ → Option (List ℕ)) (p : Presented) (lea
 pub none_read : (under : List ℕ → Option (List ℕ)) (p : Presented) (least : ℕ) (names : List (List ℕ)) → AreRead under p least names 0 []
 none_read under p least names = record { texts = tt; count = refl; new = λ i s at. absurd (cc) }
 
-more_under : (under : List ℕ → Option (List ℕ)) (p : Presented) (names : List (List ℕ)) (i : ℕ) (name : List ℕ) (qss : List (List Question)) (qs : List Question)
-    → slice_get names i ≡ Some name → AreQuestionsUnder under p (take i names) qss → AreQuestionsIn p (under name) qs → AreQuestionsUnder under p (take (suc i) names) (qss ++ qs ∷ [])
+more_under : (under : List ℕ → Option (List ℕ)) (p : Presented) (names : List (List ℕ)) (i : ℕ) (name : List ℕ) (qss : List (List Question))
+    (qs : List Question)
+    → slice_get names i ≡ Some name → AreQuestionsUnder under p (take i names) qss → AreQuestionsIn p (under name) qs
+    → AreQuestionsUnder under p (take (suc i) names) (qss ++ qs ∷ [])
 more_under under p [] i name qss qs at are own = absurd (cc)
 more_under under p (n ∷ names) zero name [] qs at are own = let e : n ≡ name = cc in (subst (λ (m : List ℕ). AreQuestionsIn p (under m) qs) (sym e) own, tt)
 more_under under p (n ∷ names) zero name (x ∷ qss) qs at are own = absurd are
@@ -33,7 +36,8 @@ one_at : (x s : SessionState) (j : ℕ) → slice_get (x ∷ []) j ≡ Some s �
 one_at x s zero at = (refl, cc)
 one_at x s (suc j) at = absurd (cc)
 
-pub one_read : (under : List ℕ → Option (List ℕ)) (p : Presented) (least : ℕ) (names : List (List ℕ)) (n : ℕ) (ss : List SessionState) (name : List ℕ) (qs : List Question) (s : SessionState)
+pub one_read : (under : List ℕ → Option (List ℕ)) (p : Presented) (least : ℕ) (names : List (List ℕ)) (n : ℕ) (ss : List SessionState) (name : List ℕ)
+    (qs : List Question) (s : SessionState)
     → AreRead under p least names n ss → slice_get names n ≡ Some name → AreQuestionsIn p (under name) qs → s.questions ≡ qs → IsNewSession p least (n + 1) s
     → AreRead under p least names (n + 1) (ss ++ s ∷ [])
 one_read under p least names n ss name qs s read at own same new =
@@ -43,7 +47,8 @@ one_read under p least names n ss name qs s read at own same new =
     let both : questions_of (ss ++ s ∷ []) ≡ questions_of ss ++ s.questions ∷ [] = map-append (λ (x : SessionState). x.questions) ss (s ∷ []) in
     let long = length_more ss in
     record {
-      texts = subst (λ (qss : List (List Question)). AreQuestionsUnder under p (take (n + 1) names) qss) (sym both) (subst (λ (m : ℕ). AreQuestionsUnder under p (take m names) (questions_of ss ++ s.questions ∷ [])) next all);
+      texts = subst (λ (qss : List (List Question)). AreQuestionsUnder under p (take (n + 1) names) qss) (sym both)
+          (subst (λ (m : ℕ). AreQuestionsUnder under p (take m names) (questions_of ss ++ s.questions ∷ [])) next all);
       count = let c = read.count in omega (arith, long, c);
       new = λ i t here. elim (split_get ss (s ∷ []) i t here) [
         | inl h ↦ read.new i t h
@@ -65,16 +70,20 @@ name_at (y ∷ xs) zero x lt = refl
 name_at (y ∷ xs) (suc i) x lt = name_at xs i x (omega (arith, lt))
 
 -- the session under the name at a place is read behind those before it, and the shelf tells as before
-pub one_more : (under before : List ℕ → Option (List ℕ)) (p : Presented) (least : ℕ) (names : List (Bor (List ℕ))) (n : ℕ) (x : Bor (List ℕ)) (ss all : List SessionState) (qs : List Question) (s : SessionState)
-    → AreRead under p least (shown names) n ss → n < length names → ((m : List ℕ) → before m ≡ under m) → AreQuestionsIn p (before (slice_index_or names n x).now) qs
+pub one_more : (under before : List ℕ → Option (List ℕ)) (p : Presented) (least : ℕ) (names : List (Bor (List ℕ))) (n : ℕ) (x : Bor (List ℕ))
+    (ss all : List SessionState) (qs : List Question) (s : SessionState)
+    → AreRead under p least (shown names) n ss → n < length names → ((m : List ℕ) → before m ≡ under m)
+    → AreQuestionsIn p (before (slice_index_or names n x).now) qs
     → s.questions ≡ qs → IsNewSession p least (n + 1) s → all ≡ ss ++ s ∷ [] → AreRead under p least (shown names) (n + 1) all
 one_more under before p least names n x ss all qs s read lt same own are new is =
     let name : List ℕ = (slice_index_or names n x).now in
     subst (AreRead under p least (shown names) (n + 1)) (sym is)
-    (one_read under p least (shown names) n ss name qs s read (name_at names n x lt) (subst (λ (told : Option (List ℕ)). AreQuestionsIn p told qs) (same name) own) are new)
+    (one_read under p least (shown names) n ss name qs s read (name_at names n x lt)
+    (subst (λ (told : Option (List ℕ)). AreQuestionsIn p told qs) (same name) own) are new)
 
 -- all are read
-pub all_read : (under : List ℕ → Option (List ℕ)) (p : Presented) (least : ℕ) (names : List (List ℕ)) (n : ℕ) (ss : List SessionState) → AreRead under p least names n ss → length names ≤ n
+pub all_read : (under : List ℕ → Option (List ℕ)) (p : Presented) (least : ℕ) (names : List (List ℕ)) (n : ℕ) (ss : List SessionState)
+    → AreRead under p least names n ss → length names ≤ n
     → AreQuestionsUnder under p names (questions_of ss)
 all_read under p least names n ss read le = subst (λ (ns : List (List ℕ)). AreQuestionsUnder under p ns (questions_of ss)) (whole names n le) read.texts
   where

@@ -5,7 +5,8 @@ use Rattle.session_core.specs.declared.kept.Kept.{Kept}
 use Rattle.session_core.specs.Sessions.{SessionState}
 use Rattle.metab_run.specs.SoloAnswers.{IsNoStop, HasNoStop}
 
-more_at : {A : Type 0} (P : A → Type 0) (xs : List A) (i : ℕ) (x : A) → slice_get xs i ≡ Some x → AllByRecursion P (take i xs) → P x → AllByRecursion P (take (suc i) xs)
+more_at : {A : Type 0} (P : A → Type 0) (xs : List A) (i : ℕ) (x : A) → slice_get xs i ≡ Some x → AllByRecursion P (take i xs) → P x
+    → AllByRecursion P (take (suc i) xs)
 more_at P [] i x at all own = absurd (cc)
 more_at P (a ∷ xs) zero x at all own = let e : x ≡ a = cc in (subst P e own, tt)
 more_at P (a ∷ xs) (suc i) x at all own = (all.0, more_at P xs i x at all.1 own)

@@ -1,5 +1,6 @@
 -- The answers of legal reports are true.
-use Rattle.std.proofs.Common.{◌≡◌, ℕ, ◌+◌, ◌<◌, Bool, true, false, nat_lt, if◌then◌else◌, List, length, take, Option, Some, None, slice_get, sym, ap, subst, ◌∙◌, arith, refl}
+use Rattle.std.proofs.Common.{◌≡◌, ℕ, ◌+◌, ◌<◌, Bool, true, false, nat_lt, if◌then◌else◌, List, length, take, Option, Some, None, slice_get, sym, ap, subst}
+use Rattle.std.proofs.Common.{◌∙◌, arith, refl}
 use Rattle.std.specs.List.{AllByRecursion}
 use Rattle.std.specs.Prelude.{IsSome, IfSome}
 use Rattle.std.proofs.lemmas.List.{take_all}
@@ -55,7 +56,8 @@ chosen_is false seal e = absurd (cc)
 less_by : (m n : ℕ) → nat_lt m n ≡ true → m < n
 less_by m n e = grind arith
 
-sealed_below : (p : Presented) (es : List BasisEntry) (end : End) (front : ℕ) → IsSome (seal_below es (seal_at p es end) front) → IsSealedBelow p es end front (seal_below es (seal_at p es end) front)
+sealed_below : (p : Presented) (es : List BasisEntry) (end : End) (front : ℕ) → IsSome (seal_below es (seal_at p es end) front)
+    → IsSealedBelow p es end front (seal_below es (seal_at p es end) front)
 sealed_below p es end front some =
     let more : nat_lt (length es) front ≡ true = chosen_some (nat_lt (length es) front) (seal_at p es end) some in
     let whole : seal_below es (seal_at p es end) front ≡ seal_at p es end = chosen_is (nat_lt (length es) front) (seal_at p es end) more in
@@ -69,7 +71,8 @@ sealed_below p es end front some =
 
 -- ---- one reply
 
-module _ (p : Presented) (limits : Limits) (base : ℕ) (es : List BasisEntry) (end : End) (known : IsPresented p) (lawful : IsLawful p base es) (ends : Ends p limits es end) where
+module _ (p : Presented) (limits : Limits) (base : ℕ) (es : List BasisEntry) (end : End) (known : IsPresented p) (lawful : IsLawful p base es)
+    (ends : Ends p limits es end) where
   strong : end ≡ Sealed → IsStrongBasis p (vectors_of es)
   strong e = subst (Ends p limits es) e ends
 
@@ -97,11 +100,14 @@ module _ (p : Presented) (limits : Limits) (base : ℕ) (es : List BasisEntry) (
 
 -- ---- the whole report
 
-module _ (p : Presented) (limits : Limits) (questions : List (List Question)) (r : Reported) (known : IsPresented p) (sources : AllByRecursion (AllByRecursion HasSource) questions)
+module _ (p : Presented) (limits : Limits) (questions : List (List Question)) (r : Reported) (known : IsPresented p)
+    (sources : AllByRecursion (AllByRecursion HasSource) questions)
     (is : IsLegal p limits questions r) (IsFinal : Reply → Type 0)
-    (live_final : (a : Reply) (i j : ℕ) (s : SessionState) (k : Kept) → slice_get r.sessions i ≡ Some s → slice_get s.kept j ≡ Some k → a.front ≡ k.front → IsFinal a → IsAfterSeal r a)
+    (live_final : (a : Reply) (i j : ℕ) (s : SessionState) (k : Kept) → slice_get r.sessions i ≡ Some s → slice_get s.kept j ≡ Some k → a.front ≡ k.front
+    → IsFinal a → IsAfterSeal r a)
     (closing_final : (a : Reply) → a.front ≡ item_count r.entries r.seal → IsFinal a → IsAfterSeal r a) where
-  reply_is : (q : Question) (a : Reply) → CanBeAsked p q → HasSource q → IsReplyTo r.pres r.entries r.seal q a → (IsFinal a → IsAfterSeal r a) → IsTrueReply p IsFinal q a
+  reply_is : (q : Question) (a : Reply) → CanBeAsked p q → HasSource q → IsReplyTo r.pres r.entries r.seal q a → (IsFinal a → IsAfterSeal r a)
+      → IsTrueReply p IsFinal q a
   reply_is q a asked source reply final =
       let here : IsReplyTo p r.entries (seal_at p r.entries r.end) q a =
       subst (λ (z : Option Seal). IsReplyTo p r.entries z q a) is.seal (subst (λ (x : Presented). IsReplyTo x r.entries r.seal q a) is.pres reply) in
@@ -110,16 +116,19 @@ module _ (p : Presented) (limits : Limits) (questions : List (List Question)) (r
       (true_reply p limits is.base r.entries r.end known is.lawful is.ends q a asked source here) in
       record { trivial = made.trivial; extends = made.extends; exact = λ h. made.exact (final h) }
 
-  closing_is : (q : Question) (v : Verdict) (closing : Option Reply) → CanBeAsked p q → HasSource q → IsClosing r.pres r.entries r.seal q v closing → IfSome closing (IsTrueReply p IsFinal q)
+  closing_is : (q : Question) (v : Verdict) (closing : Option Reply) → CanBeAsked p q → HasSource q → IsClosing r.pres r.entries r.seal q v closing
+      → IfSome closing (IsTrueReply p IsFinal q)
   closing_is q v None asked source h = tt
   closing_is q v (Some a) asked source h = reply_is q a asked source h.1.reply (closing_final a h.1.front)
 
-  answer_is : (i j : ℕ) (s : SessionState) (q : Question) (k : Kept) (a : Answered) → slice_get r.sessions i ≡ Some s → slice_get s.kept j ≡ Some k → CanBeAsked p q → HasSource q
+  answer_is : (i j : ℕ) (s : SessionState) (q : Question) (k : Kept) (a : Answered) → slice_get r.sessions i ≡ Some s → slice_get s.kept j ≡ Some k
+      → CanBeAsked p q → HasSource q
       → IsAnswered r.pres r.entries r.seal q k a → IsTrueAnswer p IsFinal a
   answer_is i j s q k a here kept asked source h =
       let own : q ≡ a.question = sym h.question in
       record {
-        live = subst (λ (x : Question). IsTrueReply p IsFinal x a.live) own (reply_is q a.live asked source h.live (live_final a.live i j s k here kept h.front));
+        live = subst (λ (x : Question). IsTrueReply p IsFinal x a.live) own (reply_is q a.live asked source h.live
+            (live_final a.live i j s k here kept h.front));
         closing = subst (λ (x : Question). IfSome a.closing (IsTrueReply p IsFinal x)) own (closing_is q a.live.verdict a.closing asked source h.closing);
       }
 
@@ -135,25 +144,32 @@ module _ (p : Presented) (limits : Limits) (questions : List (List Question)) (r
   answers_are h told = all_from (λ (t : SessionAnswers). AllByRecursion (IsTrueAnswer p IsFinal) t.answers) h.sessions (λ i t at.
       let s = stands h.sessions r.sessions i t at told.answered.count in
       let qs = stands r.sessions questions i s.0 s.1 is.count in
-      session_is i s.0 qs.0 (i + 1) t s.1 (all_at (AllByRecursion HasSource) questions i qs.0 sources qs.1) (is.sessions i qs.0 s.0 qs.1 s.1) (told.answered.each i s.0 t s.1 at))
+      session_is i s.0 qs.0 (i + 1) t s.1 (all_at (AllByRecursion HasSource) questions i qs.0 sources qs.1) (is.sessions i qs.0 s.0 qs.1 s.1)
+      (told.answered.each i s.0 t s.1 at))
 
 -- what a legal report answers is true
-pub true_answers : (p : Presented) (limits : Limits) (questions : List (List Question)) (r : Reported) (h : History) → IsPresented p → AllByRecursion (AllByRecursion HasSource) questions
+pub true_answers : (p : Presented) (limits : Limits) (questions : List (List Question)) (r : Reported) (h : History) → IsPresented p
+    → AllByRecursion (AllByRecursion HasSource) questions
     → IsLegal p limits questions r → IsHistoryOf r h → AreTrueAnswers p (IsAfterSeal r) h
 true_answers p limits questions r h known sources is told =
     answers_are p limits questions r known sources is (IsAfterSeal r) (λ a i j s k here kept front after. after) (λ a front after. after) h told
 
 -- a reply by all items of a sealed log is one by items that end with the seal
-after_seal : (p : Presented) (r : Reported) (front : ℕ) → r.seal ≡ seal_at p r.entries r.end → front ≡ item_count r.entries r.seal → r.end ≡ Sealed → IsSome (seal_below r.entries r.seal front)
+after_seal : (p : Presented) (r : Reported) (front : ℕ) → r.seal ≡ seal_at p r.entries r.end → front ≡ item_count r.entries r.seal → r.end ≡ Sealed
+    → IsSome (seal_below r.entries r.seal front)
 after_seal p r front seal all e =
-    let is : seal_below r.entries r.seal front ≡ Some (record { source = p; entries = r.entries }) = seal_all r.entries r.seal front all ∙ seal ∙ ap (seal_at p r.entries) e in
+    let is : seal_below r.entries r.seal front ≡ Some (record { source = p; entries = r.entries }) =
+    seal_all r.entries r.seal front all ∙ seal ∙ ap (seal_at p r.entries) e in
     subst IsSome (sym is) refl
 
 -- where all replies are by all items, they are exact where the log is sealed
-pub solved_answers : (p : Presented) (limits : Limits) (questions : List (List Question)) (r : Reported) (h : History) → IsPresented p → AllByRecursion (AllByRecursion HasSource) questions
-    → IsLegal p limits questions r → AllByRecursion (λ s. AreByAll r.entries r.seal s.kept) r.sessions → IsHistoryOf r h → AreTrueAnswers p (λ a. r.end ≡ Sealed) h
+pub solved_answers : (p : Presented) (limits : Limits) (questions : List (List Question)) (r : Reported) (h : History) → IsPresented p
+    → AllByRecursion (AllByRecursion HasSource) questions
+    → IsLegal p limits questions r → AllByRecursion (λ s. AreByAll r.entries r.seal s.kept) r.sessions → IsHistoryOf r h
+    → AreTrueAnswers p (λ a. r.end ≡ Sealed) h
 solved_answers p limits questions r h known sources is by_all told =
     answers_are p limits questions r known sources is (λ a. r.end ≡ Sealed)
     (λ a i j s k here kept front e. after_seal p r a.front is.seal
-    (front ∙ all_at (λ (x : Kept). x.front ≡ item_count r.entries r.seal) s.kept j k (all_at (λ (x : SessionState). AreByAll r.entries r.seal x.kept) r.sessions i s by_all here) kept) e)
+    (front ∙ all_at (λ (x : Kept). x.front ≡ item_count r.entries r.seal) s.kept j k
+    (all_at (λ (x : SessionState). AreByAll r.entries r.seal x.kept) r.sessions i s by_all here) kept) e)
     (λ a front e. after_seal p r a.front is.seal front e) h told

@@ -1,10 +1,14 @@
 -- What a command answers: a status and a text of whole lines.
 use Rattle.std.specs.Prelude.{◌≢◌, ℕ, List, ◌++◌, codes, decimal}
 use Rattle.metab_run.specs.declared.status.Status.{Status}
-use Rattle.metab_run.specs.declared.status.Status.TheVariants.{WordsRefused, TextRefused, ReadFault, WriteFault, NoMemory}
+use Rattle.metab_run.specs.declared.status.Status.TheVariants.{WordsRefused, TextRefused, ReadFault, WriteFault}
+use Rattle.metab_run.specs.declared.status.Status.TheVariants.{NoMemory}
 use Rattle.word_text.specs.declared.fault.TextFault.{TextFault}
 use Rattle.word_text.specs.declared.fault.TextKind.{TextKind}
-use Rattle.word_text.specs.declared.fault.TextKind.TheVariants.{BadByte, Expected, TooManyNames, RepeatedName, UnknownName, TooManyRelators, ExponentTooLarge, ModulusOutOfRange, WordTooLong, TooManyQuestions, TooManyLetters, NoSession}
+use Rattle.word_text.specs.declared.fault.TextKind.TheVariants.{BadByte, Expected, TooManyNames, RepeatedName}
+use Rattle.word_text.specs.declared.fault.TextKind.TheVariants.{UnknownName, TooManyRelators, ExponentTooLarge}
+use Rattle.word_text.specs.declared.fault.TextKind.TheVariants.{ModulusOutOfRange, WordTooLong, TooManyQuestions}
+use Rattle.word_text.specs.declared.fault.TextKind.TheVariants.{TooManyLetters, NoSession}
 
 pub record Answer : Type 0 where
   pub status : Status
@@ -24,7 +28,11 @@ unread name = record { status = ReadFault; text = codes "read fault " ++ name ++
 
 -- the text under this name has more bytes than its limit
 abbrev pub too_long : List ℕ → ℕ → Answer
-too_long name limit = record { status = TextRefused; text = codes "refused " ++ name ++ codes " too long " ++ decimal limit ++ codes "\n" }
+too_long name limit = record {
+  status = TextRefused;
+  text =
+      codes "refused " ++ name ++ codes " too long " ++ decimal limit ++ codes "\n";
+}
 
 -- the name that a kind of fault has in an answer
 abbrev pub kind_text : TextKind → List ℕ
@@ -45,12 +53,14 @@ kind_text NoSession = codes "no-session"
 abbrev pub refused : List ℕ → TextFault → Answer
 refused name f = record {
   status = TextRefused;
-  text = codes "refused " ++ name ++ codes " line " ++ decimal f.line ++ codes " column " ++ decimal f.column ++ codes " " ++ kind_text f.kind ++ codes "\n";
+  text = codes "refused " ++ name ++ codes " line " ++ decimal f.line ++ codes " column " ++ decimal f.column
+      ++ codes " " ++ kind_text f.kind ++ codes "\n";
 }
 
 -- in this line of the session under this name, the image of this relator is too long
 abbrev pub image_too_long : List ℕ → ℕ → ℕ → Answer
 image_too_long name line relator = record {
   status = TextRefused;
-  text = codes "refused " ++ name ++ codes " line " ++ decimal line ++ codes " image-too-long " ++ decimal relator ++ codes "\n";
+  text = codes "refused " ++ name ++ codes " line " ++ decimal line ++ codes " image-too-long " ++ decimal relator
+      ++ codes "\n";
 }

@@ -1,5 +1,6 @@
 -- What the command `check` answers.
-use Rattle.std.specs.Prelude.{◌≡◌, ℕ, ◌<◌, ◌≤◌, ◌⊎◌, List, length, ◌++◌, Option, IfSome, Result, Ok, Err, codes, decimal}
+use Rattle.std.specs.Prelude.{◌≡◌, ℕ, ◌<◌, ◌≤◌, ◌⊎◌, List, length, ◌++◌, Option, IfSome, Result, Ok, Err, codes}
+use Rattle.std.specs.Prelude.{decimal}
 use Rattle.presentation.specs.Presented.{Presented}
 use Rattle.presentation.specs.Reading.{presentation_text}
 use Rattle.vector_text.specs.Spelling.{place_text}
@@ -27,11 +28,19 @@ cert_text names Long = codes "long"
 
 -- the report holds
 abbrev pub holds : Checked → Answer
-holds c = record { status = Done; text = codes "holds entries " ++ (decimal c.entries ++ (codes " proofs " ++ (decimal c.proofs ++ codes "\n"))) }
+holds c = record {
+  status = Done;
+  text = codes "holds entries "
+      ++ (decimal c.entries ++ (codes " proofs " ++ (decimal c.proofs ++ codes "\n")));
+}
 
 -- this line is the first that fails
 abbrev pub fails : List (List ℕ) → ℕ → CertKind → Answer
-fails names line kind = record { status = Fails; text = (codes "fails line " ++ decimal line ++ codes " ") ++ (cert_text names kind ++ codes "\n") }
+fails names line kind = record {
+  status = Fails;
+  text =
+      (codes "fails line " ++ decimal line ++ codes " ") ++ (cert_text names kind ++ codes "\n");
+}
 
 -- the answer to what the checker found
 abbrev pub ShowsCheck : Presented → Result Checked CertFault → Answer → Type 0
@@ -43,11 +52,12 @@ ShowsCheck p (Err faults.NoMemory) a = ⊥
 abbrev pub ReportLeads : Presented → List ℕ → Answer → Type 0
 ReportLeads p bytes a = (found : Result Checked CertFault) × Answers p bytes found × ShowsCheck p found a
 
--- The report under a name is read whole, at most so many bytes. Reading it failed, which the shelf has counted; or, where
--- the shelf tells the bytes, they lead to the answer.
+-- The report under a name is read whole, at most so many bytes. Reading it failed, which the shelf has counted; or,
+-- where the shelf tells the bytes, they lead to the answer.
 abbrev pub BytesLead : Type 0 → ℕ → List ℕ → Option (List ℕ) → (List ℕ → Answer → Type 0) → Answer → Type 0
 BytesLead counted limit name told next a =
-    (counted × (a ≡ unread name)) ⊎ IfSome told (λ bytes. ((limit < length bytes) × (a ≡ too_long name limit)) ⊎ ((length bytes ≤ limit) × next bytes a))
+    (counted × (a ≡ unread name)) ⊎ IfSome told (λ bytes. ((limit < length bytes) × (a ≡ too_long name limit))
+    ⊎ ((length bytes ≤ limit) × next bytes a))
 
 -- the answer that is due to `check` over these texts; `counted` says that the shelf has counted a failure
 abbrev pub CheckLeads : Type 0 → (List ℕ → Option (List ℕ)) → CheckAsked → Answer → Type 0

@@ -2,7 +2,8 @@
 use Rattle.std.specs.Prelude.{◌≡◌, ℕ, List, [], Option, take, ◌⊎◌}
 use Rattle.mb_io.specs.Shelf.{TakesPrefix}
 use Rattle.metab_run.specs.declared.status.Status.{Status}
-use Rattle.metab_run.specs.declared.status.Status.TheVariants.{Done, Open, WordsRefused, TextRefused, ReadFault, WriteFault, NoMemory, Fails}
+use Rattle.metab_run.specs.declared.status.Status.TheVariants.{Done, Open, WordsRefused, TextRefused, ReadFault}
+use Rattle.metab_run.specs.declared.status.Status.TheVariants.{WriteFault, NoMemory, Fails}
 use Rattle.metab_run.specs.Answers.{Answer}
 
 -- an answer that is due was written whole, and its status is this one
@@ -13,13 +14,14 @@ Wrote due old new status = (a : Answer) × due a × (a.status ≡ status) × Tak
 abbrev pub WroteFront : (Answer → Type 0) → Type 0 → Option (List ℕ) → Option (List ℕ) → Type 0
 WroteFront due counted old new = counted × ((a : Answer) × (n : ℕ) × due a × TakesPrefix old (take n a.text) new)
 
--- memory ran out: nothing was written; or the answer is a report, which is written line by line, and one that is due was
--- written in part
+-- memory ran out: nothing was written; or the answer is a report, which is written line by line, and one that is due
+-- was written in part
 abbrev pub RanOut : Type 0 → (Answer → Type 0) → Option (List ℕ) → Option (List ℕ) → Type 0
-RanOut reports due old new = TakesPrefix old [] new ⊎ (reports × ((a : Answer) × (n : ℕ) × due a × TakesPrefix old (take n a.text) new))
+RanOut reports due old new = TakesPrefix old [] new
+    ⊎ (reports × ((a : Answer) × (n : ℕ) × due a × TakesPrefix old (take n a.text) new))
 
--- How a run ends, whose answers are due where `due` says so; `reports` says that they may be reports. Where the sink tells
--- what it took, that is `old` before the run and `new` after it.
+-- How a run ends, whose answers are due where `due` says so; `reports` says that they may be reports. Where the sink
+-- tells what it took, that is `old` before the run and `new` after it.
 abbrev pub Ends : Type 0 → (Answer → Type 0) → Type 0 → Option (List ℕ) → Option (List ℕ) → Status → Type 0
 Ends reports due counted old new WriteFault = WroteFront due counted old new
 Ends reports due counted old new NoMemory = RanOut reports due old new

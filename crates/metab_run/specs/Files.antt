@@ -28,13 +28,15 @@ ReadLeads name (Err f) next a = a ≡ refused name f
 ReadLeads name (Ok x) next a = next x a
 
 -- a text of at most so many bytes is parsed
-abbrev pub TextLeads : {X : Type 0} → ℕ → List ℕ → List ℕ → (List ℕ → Result X TextFault) → (X → Answer → Type 0) → Answer → Type 0
+abbrev pub TextLeads : {X : Type 0} → ℕ → List ℕ → List ℕ → (List ℕ → Result X TextFault) → (X → Answer → Type 0)
+    → Answer → Type 0
 TextLeads limit name bytes read next a =
     ((limit < length bytes) × (a ≡ too_long name limit)) ⊎ ((length bytes ≤ limit) × ReadLeads name (read bytes) next a)
 
 -- The text under a name is read whole and then parsed. Reading it failed, which the shelf has counted; or, where the
 -- shelf tells the bytes, they lead to the answer.
-abbrev pub FileLeads : {X : Type 0} → Type 0 → ℕ → List ℕ → Option (List ℕ) → (List ℕ → Result X TextFault) → (X → Answer → Type 0) → Answer → Type 0
+abbrev pub FileLeads : {X : Type 0} → Type 0 → ℕ → List ℕ → Option (List ℕ) → (List ℕ → Result X TextFault)
+    → (X → Answer → Type 0) → Answer → Type 0
 FileLeads counted limit name told read next a =
     (counted × (a ≡ unread name)) ⊎ IfSome told (λ bytes. TextLeads limit name bytes read next a)
 
@@ -46,14 +48,18 @@ Loaded counted limit name told (Err (Says a)) =
 Loaded counted limit name told (Err NoMemory) = Unit {0}
 
 -- why a text has no value
-abbrev pub FileFails : {X : Type 0} → Type 0 → ℕ → List ℕ → Option (List ℕ) → (List ℕ → Result X TextFault) → Answer → Type 0
+abbrev pub FileFails : {X : Type 0} → Type 0 → ℕ → List ℕ → Option (List ℕ) → (List ℕ → Result X TextFault)
+    → Answer → Type 0
 FileFails counted limit name told read a =
     (counted × (a ≡ unread name)) ⊎ IfSome told (λ bytes.
-    ((limit < length bytes) × (a ≡ too_long name limit)) ⊎ ((length bytes ≤ limit) × ((f : TextFault) × (read bytes ≡ Err f) × (a ≡ refused name f))))
+    ((limit < length bytes) × (a ≡ too_long name limit)) ⊎ ((length bytes ≤ limit)
+    × ((f : TextFault) × (read bytes ≡ Err f) × (a ≡ refused name f))))
 
 -- what reading a text whole and parsing it answers: its value, as `view` shows it, or what is wrong
-abbrev pub FileGives : {X Y : Type 0} → (Y → X) → Type 0 → ℕ → List ℕ → Option (List ℕ) → (List ℕ → Result X TextFault) → Result Y Halt → Type 0
-FileGives view counted limit name told read (Ok y) = IfSome told (λ bytes. (length bytes ≤ limit) × (read bytes ≡ Ok (view y)))
+abbrev pub FileGives : {X Y : Type 0} → (Y → X) → Type 0 → ℕ → List ℕ → Option (List ℕ) → (List ℕ → Result X TextFault)
+    → Result Y Halt → Type 0
+FileGives view counted limit name told read (Ok y) = IfSome told (λ bytes. (length bytes ≤ limit)
+    × (read bytes ≡ Ok (view y)))
 FileGives view counted limit name told read (Err (Says a)) = FileFails counted limit name told read a
 FileGives view counted limit name told read (Err NoMemory) = Unit {0}
 
@@ -63,8 +69,8 @@ Refuses name (faults.Text f) (Says a) = a ≡ refused name f
 Refuses name faults.NoMemory (Says a) = ⊥
 Refuses name fault NoMemory = Unit {0}
 
--- a command that goes no further has done nothing and reports nothing, and says that a text could not be read only where the
--- shelf has counted it
+-- a command that goes no further has done nothing and reports nothing, and says that a text could not be read only
+-- where the shelf has counted it
 abbrev pub HasCause : Type 0 → Halt → Type 0
 HasCause counted (Says a) = (a.status ≢ Done) × (a.status ≢ Open) × (a.status ≡ ReadFault → counted)
 HasCause counted NoMemory = Unit {0}

@@ -35,12 +35,14 @@ abbrev pub AreAskers : Held → List SessionState → Type 0
 AreAskers h ss = (i : ℕ) (s : SessionState) → slice_get ss i ≡ Some s → IsAsker h (i + 1) s
 
 -- The session keeps its replies. Each question that had none is answered by all items, and then no question is left
-pub record IsAnsweredOn (p : Presented) (es : List BasisEntry) (seal : Option Seal) (old new : SessionState) : Type 0 where
+pub record IsAnsweredOn (p : Presented) (es : List BasisEntry) (seal : Option Seal)
+    (old new : SessionState) : Type 0 where
   pub more : List Kept
   pub is : new ≡ record old { kept = old.kept ++ more }
   pub count : length old.kept + length more ≡ length old.questions
   pub by_all : AreByAll es seal more
-  pub replies : (i : ℕ) (q : Question) (k : Kept) → slice_get old.questions (length old.kept + i) ≡ Some q → slice_get more i ≡ Some k → IsReply p es seal q k
+  pub replies : (i : ℕ) (q : Question) (k : Kept) → slice_get old.questions (length old.kept + i) ≡ Some q
+      → slice_get more i ≡ Some k → IsReply p es seal q k
   pub session : IsSession new
 
 -- so far: some of these questions are answered by all items
@@ -48,13 +50,16 @@ pub record IsAskedOn (p : Presented) (es : List BasisEntry) (seal : Option Seal)
   pub more : List Kept
   pub is : now ≡ record old { kept = old.kept ++ more }
   pub by_all : AreByAll es seal more
-  pub replies : (i : ℕ) (q : Question) (k : Kept) → slice_get old.questions (length old.kept + i) ≡ Some q → slice_get more i ≡ Some k → IsReply p es seal q k
+  pub replies : (i : ℕ) (q : Question) (k : Kept) → slice_get old.questions (length old.kept + i) ≡ Some q
+      → slice_get more i ≡ Some k → IsReply p es seal q k
   pub front : last_front now ≤ item_count es seal
 
 -- each session in order is answered so
-pub record AreAnsweredOn (p : Presented) (es : List BasisEntry) (seal : Option Seal) (olds news : List SessionState) : Type 0 where
+pub record AreAnsweredOn (p : Presented) (es : List BasisEntry) (seal : Option Seal)
+    (olds news : List SessionState) : Type 0 where
   pub count : length news ≡ length olds
-  pub each : (i : ℕ) (old new : SessionState) → slice_get olds i ≡ Some old → slice_get news i ≡ Some new → IsAnsweredOn p es seal old new
+  pub each : (i : ℕ) (old new : SessionState) → slice_get olds i ≡ Some old → slice_get news i ≡ Some new
+      → IsAnsweredOn p es seal old new
 
 -- the sessions can go on by all items of a list
 abbrev pub CanGoOn : Presented → List BasisEntry → Option Seal → SessionState → Type 0

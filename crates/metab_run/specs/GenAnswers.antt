@@ -1,5 +1,6 @@
 -- What the command `gen` answers.
-use Rattle.std.specs.Prelude.{◌≡◌, ℕ, ◌+◌, Bool, true, false, if◌then◌else◌, List, [], ◌∷◌, ◌++◌, length, Option, Some, None, Result, Ok, Err, codes, decimal}
+use Rattle.std.specs.Prelude.{◌≡◌, ℕ, ◌+◌, Bool, true, false, if◌then◌else◌, List, [], ◌∷◌, ◌++◌, length, Option, Some}
+use Rattle.std.specs.Prelude.{None, Result, Ok, Err, codes, decimal}
 use Rattle.presentation.specs.Presented.{Presented}
 use Rattle.presentation.specs.Reading.{presentation_text}
 use Rattle.outcomes.specs.declared.ends.End.{End}
@@ -15,7 +16,8 @@ use Rattle.report_text.specs.Histories.{History}
 use Rattle.report_text.specs.Reports.{Reported}
 use Rattle.gen_input.specs.Texts as generated
 use Rattle.metab_run.specs.declared.counting.Kind.{Kind}
-use Rattle.metab_run.specs.declared.counting.Kind.TheVariants.{Trivial, NotTrivial, Normal, Extends, Fails, Unknown, Stop}
+use Rattle.metab_run.specs.declared.counting.Kind.TheVariants.{Trivial, NotTrivial, Normal, Extends, Fails, Unknown}
+use Rattle.metab_run.specs.declared.counting.Kind.TheVariants.{Stop}
 use Rattle.metab_run.specs.declared.words.TheConstants.{ENTRIES}
 use Rattle.metab_run.specs.declared.answer.Halt.TheVariants.{Says}
 use Rattle.metab_run.specs.Answers.{Answer}
@@ -58,7 +60,8 @@ how_many kind (s ∷ ss) = how_many_in kind s.kept + how_many kind ss
 
 -- the seed, the number of entries, and how the log ends
 abbrev pub summary_head : ℕ → ℕ → End → List ℕ
-summary_head seed entries end = codes "gen " ++ decimal seed ++ codes " entries " ++ decimal entries ++ codes " end " ++ end_word end
+summary_head seed entries end = codes "gen " ++ decimal seed ++ codes " entries " ++ decimal entries ++ codes " end "
+    ++ end_word end
 
 -- the number of replies of a kind behind the name of the kind
 abbrev pub count_text : List ℕ → Kind → List SessionState → List ℕ
@@ -67,15 +70,17 @@ count_text name kind ss = name ++ decimal (how_many kind ss)
 -- the numbers of replies of each kind, and the end of the line
 abbrev pub counts_text : List SessionState → List ℕ
 counts_text ss =
-    count_text (codes " trivial ") Trivial ss ++ (count_text (codes " not-trivial ") NotTrivial ss ++ (count_text (codes " normal ") Normal ss
-    ++ (count_text (codes " extends ") Extends ss ++ (count_text (codes " fails ") Fails ss ++ (count_text (codes " unknown ") Unknown ss ++ (count_text (codes " stop ") Stop ss ++ codes "\n"))))))
+    count_text (codes " trivial ") Trivial ss ++ (count_text (codes " not-trivial ") NotTrivial ss
+    ++ (count_text (codes " normal ") Normal ss
+    ++ (count_text (codes " extends ") Extends ss ++ (count_text (codes " fails ") Fails ss
+    ++ (count_text (codes " unknown ") Unknown ss ++ (count_text (codes " stop ") Stop ss ++ codes "\n"))))))
 
 -- the summary of what a seed leads to
 abbrev pub summary : ℕ → Reported → List ℕ
 summary seed r = summary_head seed (length r.entries) r.end ++ counts_text r.sessions
 
--- the answer is the summary of a solved report within the limits of `solo` without options, and is done exactly where the
--- report is settled
+-- the answer is the summary of a solved report within the limits of `solo` without options, and is done exactly where
+-- the report is settled
 pub record ShowsGen (seed : ℕ) (p : Presented) (questions : List Question) (a : Answer) : Type 0 where
   pub report : Reported
   pub history : History
@@ -84,7 +89,8 @@ pub record ShowsGen (seed : ℕ) (p : Presented) (questions : List Question) (a 
   pub status : ShowsSettled report a.status
 
 -- questions of a session, or what is wrong with its text, lead to the answer
-abbrev pub QuestionsLead : List ℕ → Result (List Question) SessionFault → (List Question → Answer → Type 0) → Answer → Type 0
+abbrev pub QuestionsLead : List ℕ → Result (List Question) SessionFault → (List Question → Answer → Type 0)
+    → Answer → Type 0
 QuestionsLead name (Err f) next a = RefusesSession name f (Says a)
 QuestionsLead name (Ok qs) next a = next qs a
 

@@ -28,16 +28,17 @@ seal_at p es (Stopped t stop) = None
 seal_at p es (Full m c) = None
 seal_at p es (Spent c t) = None
 
--- a session of these questions with this number. Each question has its reply, by the items below a front that is at least
--- `base`, and the fronts don't fall
-pub record IsLegalSession (p : Presented) (base : ℕ) (es : List BasisEntry) (seal : Option Seal) (n : ℕ) (qs : List Question) (s : SessionState) : Type 0 where
+-- a session of these questions with this number. Each question has its reply, by the items below a front that is at
+-- least `base`, and the fronts don't fall
+pub record IsLegalSession (p : Presented) (base : ℕ) (es : List BasisEntry) (seal : Option Seal) (n : ℕ)
+    (qs : List Question) (s : SessionState) : Type 0 where
   pub number : s.number ≡ n
   pub questions : s.questions ≡ qs
   pub replied : IsReplied p es seal s
   pub rising : AreRising base s.kept
 
--- A report over the presentation, the limits and the sessions' questions is legal: its log is lawful and within the limits,
--- it ends as it says, and each question has its reply.
+-- A report over the presentation, the limits and the sessions' questions is legal: its log is lawful and within the
+-- limits, it ends as it says, and each question has its reply.
 pub record IsLegal (p : Presented) (limits : Limits) (questions : List (List Question)) (r : Reported) : Type 0 where
   pub pres : r.pres ≡ p
   pub base : ℕ
@@ -46,7 +47,8 @@ pub record IsLegal (p : Presented) (limits : Limits) (questions : List (List Que
   pub ends : Ends p limits r.entries r.end
   pub seal : r.seal ≡ seal_at p r.entries r.end
   pub count : length r.sessions ≡ length questions
-  pub sessions : (i : ℕ) (qs : List Question) (s : SessionState) → slice_get questions i ≡ Some qs → slice_get r.sessions i ≡ Some s
+  pub sessions : (i : ℕ) (qs : List Question) (s : SessionState) → slice_get questions i ≡ Some qs
+      → slice_get r.sessions i ≡ Some s
       → IsLegalSession p base r.entries r.seal (i + 1) qs s
 
 -- the replies are by all items of the log

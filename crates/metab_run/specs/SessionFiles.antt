@@ -1,6 +1,7 @@
 -- What the texts of sessions that a command reads lead to.
 use Rattle.std.specs.List.{AllByRecursion}
-use Rattle.std.specs.Prelude.{◌≡◌, ℕ, ◌+◌, ◌<◌, ◌≤◌, ◌⊎◌, List, [], ◌∷◌, length, take, slice_get, Option, Some, IfSome, Result, Ok, Err, Vec}
+use Rattle.std.specs.Prelude.{◌≡◌, ℕ, ◌+◌, ◌<◌, ◌≤◌, ◌⊎◌, List, [], ◌∷◌, length, take, slice_get, Option, Some, IfSome}
+use Rattle.std.specs.Prelude.{Result, Ok, Err, Vec}
 use Rattle.std.specs.declared.alloc.Global.{Global}
 use Rattle.presentation.specs.Presented.{Presented}
 use Rattle.session_text.specs.declared.TheConstants.{QUESTIONS}
@@ -28,7 +29,9 @@ RefusesSession name fault NoMemory = Unit {0}
 abbrev pub SessionFails : Type 0 → Presented → List ℕ → Option (List ℕ) → Answer → Type 0
 SessionFails counted p name told a =
     (counted × (a ≡ unread name)) ⊎ IfSome told (λ bytes.
-    ((SESSION_BYTES < length bytes) × (a ≡ too_long name SESSION_BYTES)) ⊎ ((length bytes ≤ SESSION_BYTES) × ((f : SessionFault) × (session_text p bytes ≡ Err f) × RefusesSession name f (Says a))))
+    ((SESSION_BYTES < length bytes) × (a ≡ too_long name SESSION_BYTES))
+    ⊎ ((length bytes ≤ SESSION_BYTES) × ((f : SessionFault) × (session_text p bytes ≡ Err f)
+    × RefusesSession name f (Says a))))
 
 -- these are the questions of the session's text
 abbrev pub AreQuestionsIn : Presented → Option (List ℕ) → List Question → Type 0
@@ -66,10 +69,12 @@ abbrev pub AreQuestionsUnder : (List ℕ → Option (List ℕ)) → Presented �
 AreQuestionsUnder under p [] [] = Unit {0}
 AreQuestionsUnder under p [] (qs ∷ qss) = ⊥
 AreQuestionsUnder under p (name ∷ names) [] = ⊥
-AreQuestionsUnder under p (name ∷ names) (qs ∷ qss) = AreQuestionsIn p (under name) qs × AreQuestionsUnder under p names qss
+AreQuestionsUnder under p (name ∷ names) (qs ∷ qss) = AreQuestionsIn p (under name) qs
+    × AreQuestionsUnder under p names qss
 
 -- one of the sessions has no questions, and each before it has
-pub record SessionsFail (counted : Type 0) (under : List ℕ → Option (List ℕ)) (p : Presented) (names : List (List ℕ)) (a : Answer) : Type 0 where
+pub record SessionsFail (counted : Type 0) (under : List ℕ
+    → Option (List ℕ)) (p : Presented) (names : List (List ℕ)) (a : Answer) : Type 0 where
   pub place : ℕ
   pub name : List ℕ
   pub is : slice_get names place ≡ Some name
@@ -78,7 +83,8 @@ pub record SessionsFail (counted : Type 0) (under : List ℕ → Option (List �
   pub fails : SessionFails counted p name (under name) a
 
 -- what reading the sessions under these names answers
-abbrev pub SessionsGive : Type 0 → (List ℕ → Option (List ℕ)) → Presented → List (List ℕ) → Result (Vec Session Global) Halt → Type 0
+abbrev pub SessionsGive : Type 0 → (List ℕ → Option (List ℕ)) → Presented → List (List ℕ)
+    → Result (Vec Session Global) Halt → Type 0
 SessionsGive counted under p names (Ok ss) = AreQuestionsUnder under p names (questions_of ss.items)
 SessionsGive counted under p names (Err (Says a)) = SessionsFail counted under p names a
 SessionsGive counted under p names (Err NoMemory) = Unit {0}

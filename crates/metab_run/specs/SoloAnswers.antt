@@ -31,7 +31,13 @@ use Rattle.metab_run.specs.TrueAnswers.{AreTrueAnswers}
 
 -- the limits of a run with so many entries and this budget
 abbrev pub limits_with : ℕ → Option ℕ → Limits
-limits_with entries budget = record { entries = entries; terms = LOG_TERMS; steps = LOG_STEPS; budget = budget; order = ByNumber }
+limits_with entries budget = record {
+  entries = entries;
+  terms = LOG_TERMS;
+  steps = LOG_STEPS;
+  budget = budget;
+  order = ByNumber;
+}
 
 -- the limits that the words give
 abbrev pub limits_of : SoloAsked → Limits
@@ -55,9 +61,10 @@ HasNoStop s = AllByRecursion (λ k. IsNoStop k.tag) s.kept
 abbrev pub IsSettled : Reported → Type 0
 IsSettled r = (r.end ≡ Sealed) × AllByRecursion HasNoStop r.sessions
 
--- The report is legal, this is its history, and all replies are by all items. What is answered is true, and exact where the log
--- is sealed. `check` finds that the text holds
-pub record IsSolved (p : Presented) (limits : Limits) (questions : List (List Question)) (r : Reported) (h : History) : Type 0 where
+-- The report is legal, this is its history, and all replies are by all items. What is answered is true, and exact where
+-- the log is sealed. `check` finds that the text holds
+pub record IsSolved (p : Presented) (limits : Limits) (questions : List (List Question)) (r : Reported)
+    (h : History) : Type 0 where
   pub legal : IsLegal p limits questions r
   pub by_all : AllByRecursion (λ s. AreByAll r.entries r.seal s.kept) r.sessions
   pub told : IsHistoryOf r h
@@ -70,7 +77,8 @@ ShowsSettled r status = ((status ≡ Done) × IsSettled r) ⊎ ((status ≡ Open
 
 -- p is the presentation of its text, where the shelf tells that
 abbrev pub IsPresentedIn : (List ℕ → Option (List ℕ)) → SoloAsked → Presented → Type 0
-IsPresentedIn under q p = IfSome (under q.presentation) (λ bytes. (length bytes ≤ PRESENTATION_BYTES) × (in_lines presentation_text bytes ≡ Ok p))
+IsPresentedIn under q p = IfSome (under q.presentation) (λ bytes. (length bytes ≤ PRESENTATION_BYTES)
+    × (in_lines presentation_text bytes ≡ Ok p))
 
 -- the texts have these values, where the shelf tells them, and this is a solved report on them
 pub record IsFound (under : List ℕ → Option (List ℕ)) (q : SoloAsked) (r : Reported) (h : History) : Type 0 where
@@ -118,8 +126,8 @@ SoloGives counted under q (Ok r) = IsReady under q (reported r)
 SoloGives counted under q (Err (halts.Says a)) = SoloLeads counted under q a
 SoloGives counted under q (Err halts.NoMemory) = Unit {0}
 
--- A report with its history was written: whole, and the status says whether it is settled; or in part, since the sink has
--- failed, which it has counted, or memory ran out.
+-- A report with its history was written: whole, and the status says whether it is settled; or in part, since the sink
+-- has failed, which it has counted, or memory ran out.
 abbrev pub WritesReport : Type 0 → Option (List ℕ) → Option (List ℕ) → Reported → History → Status → Type 0
 WritesReport counted old new r h status =
     (ShowsSettled r status × TakesPrefix old (text_of r h) new)

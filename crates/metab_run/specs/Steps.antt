@@ -32,7 +32,11 @@ trivial = record { status = Done; text = codes "trivial\n" }
 
 -- the move of this number can't be made
 abbrev pub bad_move : ℕ → MoveReason → Answer
-bad_move number reason = record { status = Fails; text = codes "bad move " ++ decimal number ++ codes " " ++ reason_text reason ++ codes "\n" }
+bad_move number reason = record {
+  status = Fails;
+  text =
+      codes "bad move " ++ decimal number ++ codes " " ++ reason_text reason ++ codes "\n";
+}
 
 -- all moves were made, and so many letters are left
 abbrev pub not_empty : ℕ → Answer
@@ -58,10 +62,12 @@ WordLeads counted under q p a =
 -- the answer that is due to `steps` over these texts; `counted` says that the shelf has counted a failure
 abbrev pub StepsLead : Type 0 → (List ℕ → Option (List ℕ)) → StepsAsked → Answer → Type 0
 StepsLead counted under q a =
-    FileLeads counted PRESENTATION_BYTES q.presentation (under q.presentation) (in_lines presentation_text) (WordLeads counted under q) a
+    FileLeads counted PRESENTATION_BYTES q.presentation (under q.presentation) (in_lines presentation_text)
+    (WordLeads counted under q) a
 
 -- the word that `steps` was asked about is trivial over the presentation that the file spells
 abbrev pub AskedTrivial : (List ℕ → Option (List ℕ)) → StepsAsked → Type 0
 AskedTrivial under q =
     IfSome (under q.presentation) (λ bytes. IfSome (under q.derivation) (λ _.
-    (p : Presented) × (w : List Letter) × (in_lines presentation_text bytes ≡ Ok p) × (read_word p q.word ≡ Ok w) × Trivial p w))
+    (p : Presented) × (w : List Letter) × (in_lines presentation_text bytes ≡ Ok p) × (read_word p q.word ≡ Ok w)
+    × Trivial p w))

@@ -34,8 +34,8 @@ AsksReport (Some (Gen seed)) = ⊥
 abbrev pub IsDue : Type 0 → (List ℕ → Option (List ℕ)) → List (List ℕ) → Answer → Type 0
 IsDue counted under words a = CommandLeads counted under (command words) a
 
--- the words ask for a command; if it is `steps`, the word is trivial over the presentation that the file spells, and if it
--- is `check`, what the report says is true
+-- the words ask for a command; if it is `steps`, the word is trivial over the presentation that the file spells, and if
+-- it is `check`, what the report says is true
 abbrev pub ShownTrivial : (List ℕ → Option (List ℕ)) → Option Asked → Type 0
 ShownTrivial under None = ⊥
 ShownTrivial under (Some (Steps q)) = AskedTrivial under q
@@ -46,5 +46,6 @@ ShownTrivial under (Some (Gen seed)) = Unit {0}
 
 -- what is found for these words: the answer that is due, or a report
 abbrev pub Finds : Type 0 → (List ℕ → Option (List ℕ)) → List (List ℕ) → Found → Type 0
-Finds counted under words (Says a) = IsDue counted under words a × (a.status ≡ Done → ShownTrivial under (command words)) × (a.status ≡ ReadFault → counted)
+Finds counted under words (Says a) = IsDue counted under words a
+    × (a.status ≡ Done → ShownTrivial under (command words)) × (a.status ≡ ReadFault → counted)
 Finds counted under words (Reports r) = (q : SoloAsked) × (command words ≡ Some (Solo q)) × IsReady under q (reported r)

@@ -13,9 +13,9 @@ use Rattle.report_text.specs.Reports.{Reported}
 abbrev pub IsAfterSeal : Reported → Reply → Type 0
 IsAfterSeal r a = IsSome (seal_below r.entries r.seal a.front)
 
--- The reply is true. `Trivial` is answered only where moves carry each subject to the empty word, and `Extends` only where the
--- map extends. A final reply is exact too: these two are answered wherever they hold, a stop aside, the others say what isn't
--- so, and none is `Unknown`.
+-- The reply is true. `Trivial` is answered only where moves carry each subject to the empty word, and `Extends` only
+-- where the map extends. A final reply is exact too: these two are answered wherever they hold, a stop aside, the
+-- others say what isn't so, and none is `Unknown`.
 pub record IsTrueReply (p : Presented) (IsFinal : Reply → Type 0) (q : Question) (a : Reply) : Type 0 where
   pub trivial : a.verdict ≡ Trivial → AllAreTrivial p q
   pub extends : a.verdict ≡ Extends → MapExtends p q

@@ -1,5 +1,6 @@
 -- The words of the command line.
-use Rattle.std.specs.Prelude.{◌≤◌, ℕ, Bool, ◌&&◌, ◌||◌, not, nat_lt, List, [], ◌∷◌, length, Option, Some, None, option_map, option_and_then, map, codes, if◌then◌else◌}
+use Rattle.std.specs.Prelude.{◌≤◌, ℕ, Bool, ◌&&◌, ◌||◌, not, nat_lt, List, [], ◌∷◌, length, Option, Some, None}
+use Rattle.std.specs.Prelude.{option_map, option_and_then, map, codes, if◌then◌else◌}
 use Rattle.std.specs.Str.{bytes_eq}
 use denote.Bor.{Bor}
 use Rattle.word_text.specs.Scan.{digits_at, after_digits, number, within}
@@ -10,7 +11,8 @@ use Rattle.metab_run.specs.declared.words.CheckWords.{CheckWords}
 use Rattle.metab_run.specs.declared.words.SoloWords.{SoloWords}
 use Rattle.metab_run.specs.declared.words.Command.{Command}
 use Rattle.metab_run.specs.declared.words.Command.TheVariants as commands
-use Rattle.metab_run.specs.declared.words.TheConstants.{ENTRIES, LEAST_ENTRIES, MOST_ENTRIES, MOST_BUDGET, SESSIONS, MOST_SEED}
+use Rattle.metab_run.specs.declared.words.TheConstants.{ENTRIES, LEAST_ENTRIES, MOST_ENTRIES, MOST_BUDGET, SESSIONS}
+use Rattle.metab_run.specs.declared.words.TheConstants.{MOST_SEED}
 use Rattle.metab_run.specs.Parsing.{declared, parsed, names_in}
 
 -- what words on loan show
@@ -23,7 +25,8 @@ at_least least (Some n) = if nat_lt n least then None else Some n
 
 -- one to nine digits and nothing else
 abbrev pub is_short_number : List ℕ → Bool
-is_short_number text = not (is_empty (digits_at text)) && (not (nat_lt 9 (length (digits_at text))) && is_empty (after_digits text))
+is_short_number text = not (is_empty (digits_at text)) &&
+    (not (nat_lt 9 (length (digits_at text))) && is_empty (after_digits text))
 
 -- the number that one to nine digits spell, if it lies in this range
 abbrev pub number_between : ℕ → ℕ → List ℕ → Option ℕ
@@ -120,7 +123,8 @@ command_of name ws =
     if bytes_eq name (codes "steps") then option_map Steps (option_and_then three (plain (codes "steps") ws))
     else if bytes_eq name (codes "fox") then option_map Fox (option_and_then two (plain (codes "fox") ws))
     else if bytes_eq name (codes "check") then option_map Check (option_and_then two_names (plain (codes "check") ws))
-    else if bytes_eq name (codes "solo") then option_map Solo (option_and_then solo_in (parsed (declared (codes "solo") solo_options) ws))
+    else if bytes_eq name (codes "solo") then option_map Solo
+    (option_and_then solo_in (parsed (declared (codes "solo") solo_options) ws))
     else if bytes_eq name (codes "gen") then option_map Gen (option_and_then one_seed (plain (codes "gen") ws))
     else None
 
@@ -140,7 +144,12 @@ abbrev pub check_asked : CheckWords → CheckAsked
 check_asked w = record { presentation = w.presentation.now; report = w.report.now }
 
 abbrev pub solo_asked : SoloWords → SoloAsked
-solo_asked w = record { entries = w.entries; budget = w.budget; presentation = w.presentation.now; sessions = shown w.sessions.items }
+solo_asked w = record {
+  entries = w.entries;
+  budget = w.budget;
+  presentation = w.presentation.now;
+  sessions = shown w.sessions.items;
+}
 
 abbrev pub asked : Command → Asked
 asked (commands.Steps w) = Steps (steps_asked w)

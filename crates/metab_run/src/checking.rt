@@ -91,8 +91,10 @@ fn shown(
 
 /// The answer to `check` over these texts.
 pub fn check<S: Shelf>(alloc: Global, shelf: &mut S, words: &CheckWords) -> Result<Answer, Halt>
-    ensures exact { CommandEnd (CheckLeads (CountRose (S.faults shelf.old) (S.faults shelf.new)) (S.under shelf.old) (check_asked words.now)) result }
-    ensures true_report { IfOk result (λ a. a.status ≡ Status.Done → AskedTrue (S.under shelf.old) (check_asked words.now)) }
+    ensures exact { CommandEnd (CheckLeads (CountRose (S.faults shelf.old) (S.faults shelf.new)) (S.under shelf.old)
+        (check_asked words.now)) result }
+    ensures true_report { IfOk result (λ a. a.status ≡ Status.Done
+        → AskedTrue (S.under shelf.old) (check_asked words.now)) }
     ensures read { IfOk result (λ a. a.status ≢ Status.ReadFault) }
     ensures cause { IfErr result (HasCause (CountRose (S.faults shelf.old) (S.faults shelf.new))) }
     ensures same { (n : List ℕ) → S.under shelf.new n ≡ S.under shelf.old n }

@@ -3,7 +3,8 @@
 ghost use Rattle.std.specs.Prelude.{◌≡◌, ◌≤◌, ◌-◌, ◌++◌, length, slice_get, IfOk, OnOk};
 ghost use Rattle.session_text.specs.declared.TheConstants.{QUESTIONS};
 ghost use Rattle.report_text.specs.Reports.{reported};
-ghost use Rattle.metab_run.specs.GenAnswers.{end_word, is_of, counted, how_many_in, how_many, summary_head, count_text, counts_text, summary};
+ghost use Rattle.metab_run.specs.GenAnswers.{end_word, is_of, counted, how_many_in, how_many, summary_head, count_text};
+ghost use Rattle.metab_run.specs.GenAnswers.{counts_text, summary};
 ghost use Rattle.metab_run.specs.declared.words.TheConstants.{SESSIONS};
 
 use outcomes::End;

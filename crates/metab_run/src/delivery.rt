@@ -54,7 +54,8 @@ pub fn is_settled(report: &Report) -> bool
 /// Writes the report, and says how the run ends.
 pub fn deliver_report<K: Sink>(alloc: Global, report: &Report, out: &mut K) -> Status
     requires reportable { IsReportable (reported report.now) }
-    ensures written { DeliversReport (CountRose (K.faults out.old) (K.faults out.new)) (K.taken out.old) (K.taken out.new) (reported report.now) result }
+    ensures written { DeliversReport (CountRose (K.faults out.old) (K.faults out.new)) (K.taken out.old)
+        (K.taken out.new) (reported report.now) result }
     ensures later { K.faults out.old ≤ K.faults out.new }
 {
     match write_report(alloc, report, out) {

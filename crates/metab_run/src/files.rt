@@ -19,7 +19,8 @@ use word_text::ReadFault;
 
 /// The bytes under a name, at most so many, or the answer that says what is wrong with them.
 pub fn load<S: Shelf>(alloc: Global, shelf: &mut S, name: &str, limit: u32) -> Result<Vec<u8>, Halt>
-    ensures loaded { Loaded (CountRose (S.faults shelf.old) (S.faults shelf.new)) limit name.now (S.under shelf.old name.now) result }
+    ensures loaded { Loaded (CountRose (S.faults shelf.old) (S.faults shelf.new)) limit name.now
+        (S.under shelf.old name.now) result }
     ensures cause { IfErr result (HasCause (CountRose (S.faults shelf.old) (S.faults shelf.new))) }
     ensures same { (n : List ℕ) → S.under shelf.new n ≡ S.under shelf.old n }
     ensures later { S.faults shelf.old ≤ S.faults shelf.new }
@@ -52,7 +53,8 @@ pub fn load_presentation<S: Shelf>(
     shelf: &mut S,
     name: &str,
 ) -> Result<Presentation, Halt>
-    ensures gives { FileGives (λ p. p) (CountRose (S.faults shelf.old) (S.faults shelf.new)) PRESENTATION_BYTES name.now (S.under shelf.old name.now) (in_lines presentation_text) result }
+    ensures gives { FileGives (λ p. p) (CountRose (S.faults shelf.old) (S.faults shelf.new)) PRESENTATION_BYTES name.now
+        (S.under shelf.old name.now) (in_lines presentation_text) result }
     ensures cause { IfErr result (HasCause (CountRose (S.faults shelf.old) (S.faults shelf.new))) }
     ensures same { (n : List ℕ) → S.under shelf.new n ≡ S.under shelf.old n }
     ensures later { S.faults shelf.old ≤ S.faults shelf.new }
@@ -71,7 +73,8 @@ pub fn load_derivation<S: Shelf>(
     p: &Presentation,
     name: &str,
 ) -> Result<Vec<Move>, Halt>
-    ensures gives { FileGives (λ moves. moves.items) (CountRose (S.faults shelf.old) (S.faults shelf.new)) DERIVATION_BYTES name.now (S.under shelf.old name.now) (derivation_text p.now) result }
+    ensures gives { FileGives (λ moves. moves.items) (CountRose (S.faults shelf.old) (S.faults shelf.new))
+        DERIVATION_BYTES name.now (S.under shelf.old name.now) (derivation_text p.now) result }
     ensures cause { IfErr result (HasCause (CountRose (S.faults shelf.old) (S.faults shelf.new))) }
     ensures over { IfOk result (λ moves. All (λ m. IsInsertOver p.now m.what) moves.items) }
     ensures same { (n : List ℕ) → S.under shelf.new n ≡ S.under shelf.old n }

@@ -35,7 +35,8 @@ fn shown(alloc: Global, p: &Presentation, w: &Word) -> Result<Answer, AllocError
 
 /// The answer to `fox` over these texts.
 pub fn fox<S: Shelf>(alloc: Global, shelf: &mut S, words: &FoxWords) -> Result<Answer, Halt>
-    ensures exact { CommandEnd (FoxLeads (CountRose (S.faults shelf.old) (S.faults shelf.new)) (S.under shelf.old) (fox_asked words.now)) result }
+    ensures exact { CommandEnd (FoxLeads (CountRose (S.faults shelf.old) (S.faults shelf.new)) (S.under shelf.old)
+        (fox_asked words.now)) result }
     ensures read { IfOk result (λ a. a.status ≢ Status.ReadFault) }
     ensures cause { IfErr result (HasCause (CountRose (S.faults shelf.old) (S.faults shelf.new))) }
     ensures same { (n : List ℕ) → S.under shelf.new n ≡ S.under shelf.old n }

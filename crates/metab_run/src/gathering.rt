@@ -1,7 +1,8 @@
 //! `gather`: the end of a run.
 
 ghost use Rattle.std.specs.List.{AllByRecursion};
-ghost use Rattle.std.specs.Prelude.{◌≡◌, ◌+◌, ◌≤◌, ◌++◌, ℕ, List, length, map, slice_get, Some, None, option_map, IfOk, OnOk};
+ghost use Rattle.std.specs.Prelude.{◌≡◌, ◌+◌, ◌≤◌, ◌++◌, ℕ, List, length, map, slice_get, Some, None, option_map, IfOk};
+ghost use Rattle.std.specs.Prelude.{OnOk};
 ghost use Rattle.std.specs.Arc.{arc_value};
 ghost use Rattle.reducer_index.specs.Leads.{AreLeads};
 ghost use Rattle.module_vec.specs.Reducers.{AreEntries};
@@ -78,7 +79,8 @@ fn answer_session<F: Front>(
     Ok(())
 }
 
-/// Asks each question of the sessions that has no reply yet by all items of the list, in order of sessions and questions.
+/// Asks each question of the sessions that has no reply yet by all items of the list, in order of sessions and
+/// questions.
 #[tactic(auto, using(crate::proofs::Answering::none_answered, crate::proofs::Answering::one_answered, crate::proofs::Answering::all_answered, crate::proofs::Answering::next_goes_on))]
 fn answer<F: Front>(
     alloc: Global,
@@ -87,7 +89,8 @@ fn answer<F: Front>(
     sessions: &mut [Session],
 ) -> Result<(), AllocError>
     requires entries { AreOf p.now (F.entries list.now) }
-    requires sessions { (i : ℕ) (s : SessionState) → slice_get sessions.old i ≡ Some s → CanGoOn p.now (F.entries list.now) (F.seal list.now) s }
+    requires sessions { (i : ℕ) (s : SessionState) → slice_get sessions.old i ≡ Some s
+        → CanGoOn p.now (F.entries list.now) (F.seal list.now) s }
     ensures { OnOk result (AreAnsweredOn p.now (F.entries list.now) (F.seal list.now) sessions.old sessions.new) }
 {
     for at in 0..sessions.len() {
@@ -104,8 +107,10 @@ fn answered<F: Front>(
     sessions: Vec<Session>,
 ) -> Result<Vec<Session>, AllocError>
     requires entries { AreOf p.now (F.entries list.now) }
-    requires sessions { (i : ℕ) (s : SessionState) → slice_get sessions.items i ≡ Some s → CanGoOn p.now (F.entries list.now) (F.seal list.now) s }
-    ensures { IfOk result (λ news. AreAnsweredOn p.now (F.entries list.now) (F.seal list.now) sessions.items news.items) }
+    requires sessions { (i : ℕ) (s : SessionState) → slice_get sessions.items i ≡ Some s
+        → CanGoOn p.now (F.entries list.now) (F.seal list.now) s }
+    ensures { IfOk result (λ news. AreAnsweredOn p.now (F.entries list.now) (F.seal list.now)
+        sessions.items news.items) }
 {
     let mut sessions = sessions;
     answer(alloc, p, list, &mut sessions)?;
@@ -151,7 +156,13 @@ fn report(
 ) -> Result<Report, AllocError>
     requires source { book.source ≡ arc_value p.now }
     requires seal { book.seal ≡ seal_at book.source book.entries end }
-    ensures { IfOk result (λ r. reported r ≡ record { pres = arc_value p.now; entries = book.entries; seal = seal_at (arc_value p.now) book.entries end; end = end; sessions = sessions.items }) }
+    ensures { IfOk result (λ r. reported r ≡ record {
+      pres = arc_value p.now;
+      entries = book.entries;
+      seal = seal_at (arc_value p.now) book.entries end;
+      end = end;
+      sessions = sessions.items;
+    }) }
 {
     let mut book = book;
     let entries = shared(alloc, book.entries())?;
@@ -180,8 +191,8 @@ fn finished(alloc: Global, p: &Arc<Presentation>, book: &mut Book) -> Result<End
     Ok(end)
 }
 
-/// Ends a run over a book of the presentation and of these limits: gives back the tasks that are taken, completes the log,
-/// asks each question that has no reply yet by all items, and reports what was found.
+/// Ends a run over a book of the presentation and of these limits: gives back the tasks that are taken, completes the
+/// log, asks each question that has no reply yet by all items, and reports what was found.
 pub fn gather(
     alloc: Global,
     p: &Arc<Presentation>,
@@ -194,8 +205,10 @@ pub fn gather(
     requires sessions { AreAskers book sessions.items }
     ensures legal { IfOk result (λ r. IsLegal (arc_value p.now) limits (questions_of sessions.items) (reported r)) }
     // The log goes on where the book's ends, and replies stand.
-    ensures begins { IfOk result (λ r. (more : List BasisEntry) × (map arc_value r.entries.items ≡ book.entries ++ more)) }
-    ensures stand { IfOk result (λ r. AreAnsweredOn (arc_value p.now) (map arc_value r.entries.items) (option_map arc_value r.sealed) sessions.items r.sessions.items) }
+    ensures begins { IfOk result (λ r. (more : List BasisEntry)
+        × (map arc_value r.entries.items ≡ book.entries ++ more)) }
+    ensures stand { IfOk result (λ r. AreAnsweredOn (arc_value p.now) (map arc_value r.entries.items)
+        (option_map arc_value r.sealed) sessions.items r.sessions.items) }
 {
     let _ = limits;
     let mut book = book;

@@ -58,7 +58,12 @@ fn one_session(
     base: u32,
 ) -> Result<Vec<Session>, AllocError>
     requires { length questions.items ≤ QUESTIONS }
-    ensures { IfOk result (λ ss. ss.items ≡ record { number = 1; questions = questions.items; base = base; kept = [] } ∷ []) }
+    ensures { IfOk result (λ ss. ss.items ≡ record {
+      number = 1;
+      questions = questions.items;
+      base = base;
+      kept = [];
+    } ∷ []) }
 {
     let mut sessions = Vec::new(alloc);
     sessions.push(Session::open(alloc, 1, questions, base)?)?;

@@ -6,7 +6,8 @@ ghost use Rattle.session_text.specs.Questions.{HasSource};
 use session_core::Session;
 use session_text::Question;
 
-/// The source of each map that is asked about is a presentation. The sessions are gone through, and nothing else is done.
+/// The source of each map that is asked about is a presentation. The sessions are gone through, and nothing else is
+/// done.
 pub fn sources_are_known(sessions: &[Session])
     ensures { AllByRecursion (λ s. AllByRecursion HasSource s.questions) sessions.now }
 {

@@ -15,17 +15,20 @@ ghost use Rattle.metab_run.specs.TrueAnswers.{IsAfterSeal, AreTrueAnswers};
 
 use report_acceptance::laws::written_reports_hold;
 
-/// What a legal report answers is true: a word is `trivial` only where moves carry it to the empty word, and a map `extends`
-/// only where it does. Where the items of a reply end with the seal, these two are answered wherever they hold, a limit that is
-/// named aside, what is said otherwise is true too, and nothing is `unknown` (Magnus 1939, Lichtblau 2012).
+/// What a legal report answers is true: a word is `trivial` only where moves carry it to the empty word, and a map
+/// `extends` only where it does. Where the items of a reply end with the seal, these two are answered wherever they
+/// hold, a limit that is named aside, what is said otherwise is true too, and nothing is `unknown` (Magnus 1939,
+/// Lichtblau 2012).
 pub fn answers_of_legal_reports_are_true()
-    ensures { (p : Presented) (limits : Limits) (questions : List (List Question)) (r : Reported) (h : History) → IsPresented p → AllByRecursion (AllByRecursion HasSource) questions →
+    ensures { (p : Presented) (limits : Limits) (questions : List (List Question)) (r : Reported) (h : History)
+        → IsPresented p → AllByRecursion (AllByRecursion HasSource) questions →
         IsLegal p limits questions r → IsHistoryOf r h → AreTrueAnswers p (IsAfterSeal r) h }
 {}
 
 /// `check` answers of the text of a legal report that it holds, with the numbers of its entries and proofs.
 pub fn texts_of_legal_reports_hold()
-    ensures { (p : Presented) (limits : Limits) (questions : List (List Question)) (r : Reported) (h : History) → IsKnown r → limits.entries + 1 < 2 ^ 32 →
+    ensures { (p : Presented) (limits : Limits) (questions : List (List Question)) (r : Reported) (h : History)
+        → IsKnown r → limits.entries + 1 < 2 ^ 32 →
         IsLegal p limits questions r → IsHistoryOf r h → ReportLeads p (text_of r h) (holds (told_amount r h)) }
 {
     written_reports_hold();

@@ -38,7 +38,8 @@ pub fn parse<'a>(
     words: &'a [String],
 ) -> Result<Option<ArgMatches<'a>>, AllocError>
     requires { is_simple_and_free (declared name.now (shown options.now)) ≡ true }
-    ensures { IfOk result (λ found. option_map (λ m. rows_of (found_of m)) found ≡ parsed (declared name.entry.now (shown options.now)) (map string_bytes words.entry.now)) }
+    ensures { IfOk result (λ found. option_map (λ m. rows_of (found_of m)) found
+        ≡ parsed (declared name.entry.now (shown options.now)) (map string_bytes words.entry.now)) }
 {
     match command(alloc, name, options)?.try_get_matches_from(words) {
         Ok(found) => Ok(Some(found)),

@@ -41,7 +41,8 @@ fn load_session<S: Shelf>(
     p: &Presentation,
     name: &str,
 ) -> Result<Vec<Question>, Halt>
-    ensures gives { SessionGives (CountRose (S.faults shelf.old) (S.faults shelf.new)) p.now name.now (S.under shelf.old name.now) result }
+    ensures gives { SessionGives (CountRose (S.faults shelf.old) (S.faults shelf.new)) p.now name.now
+        (S.under shelf.old name.now) result }
     ensures askable { IfOk result (λ qs. AreAskable p.now qs.items) }
     ensures cause { IfErr result (HasCause (CountRose (S.faults shelf.old) (S.faults shelf.new))) }
     ensures same { (n : List ℕ) → S.under shelf.new n ≡ S.under shelf.old n }
@@ -54,7 +55,8 @@ fn load_session<S: Shelf>(
     }
 }
 
-/// The sessions under these names, numbered from 1, before their first reply. No front of a reply will be below the base.
+/// The sessions under these names, numbered from 1, before their first reply. No front of a reply will be below the
+/// base.
 pub fn load_sessions<S: Shelf>(
     alloc: Global,
     shelf: &mut S,
@@ -63,7 +65,8 @@ pub fn load_sessions<S: Shelf>(
     base: u32,
 ) -> Result<Vec<Session>, Halt>
     requires { length names.now ≤ SESSIONS }
-    ensures gives { SessionsGive (CountRose (S.faults shelf.old) (S.faults shelf.new)) (S.under shelf.old) p.now (shown names.now) result }
+    ensures gives { SessionsGive (CountRose (S.faults shelf.old) (S.faults shelf.new)) (S.under shelf.old) p.now
+        (shown names.now) result }
     ensures new { IfOk result (λ ss. AreNewSessions p.now base ss.items) }
     ensures cause { IfErr result (HasCause (CountRose (S.faults shelf.old) (S.faults shelf.new))) }
     ensures same { (n : List ℕ) → S.under shelf.new n ≡ S.under shelf.old n }

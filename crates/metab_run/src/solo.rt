@@ -23,7 +23,8 @@ pub fn solo<S: Shelf>(alloc: Global, shelf: &mut S, words: &SoloWords) -> Result
     requires least { LEAST_ENTRIES ≤ words.now.entries }
     requires most { words.now.entries ≤ MOST_ENTRIES }
     requires sessions { length words.now.sessions.items ≤ SESSIONS }
-    ensures gives { SoloGives (CountRose (S.faults shelf.old) (S.faults shelf.new)) (S.under shelf.old) (solo_asked words.now) result }
+    ensures gives { SoloGives (CountRose (S.faults shelf.old) (S.faults shelf.new)) (S.under shelf.old)
+        (solo_asked words.now) result }
     ensures cause { IfErr result (HasCause (CountRose (S.faults shelf.old) (S.faults shelf.new))) }
     ensures later { S.faults shelf.old ≤ S.faults shelf.new }
 {

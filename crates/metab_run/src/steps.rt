@@ -53,8 +53,10 @@ fn shown(alloc: Global, made: Result<(), StepsFault>) -> Result<Answer, AllocErr
 
 /// The answer to `steps` over these texts.
 pub fn steps<S: Shelf>(alloc: Global, shelf: &mut S, words: &StepsWords) -> Result<Answer, Halt>
-    ensures exact { CommandEnd (StepsLead (CountRose (S.faults shelf.old) (S.faults shelf.new)) (S.under shelf.old) (steps_asked words.now)) result }
-    ensures trivial { IfOk result (λ a. a.status ≡ Status.Done → AskedTrivial (S.under shelf.old) (steps_asked words.now)) }
+    ensures exact { CommandEnd (StepsLead (CountRose (S.faults shelf.old) (S.faults shelf.new)) (S.under shelf.old)
+        (steps_asked words.now)) result }
+    ensures trivial { IfOk result (λ a. a.status ≡ Status.Done
+        → AskedTrivial (S.under shelf.old) (steps_asked words.now)) }
     ensures read { IfOk result (λ a. a.status ≢ Status.ReadFault) }
     ensures cause { IfErr result (HasCause (CountRose (S.faults shelf.old) (S.faults shelf.new))) }
     ensures same { (n : List ℕ) → S.under shelf.new n ≡ S.under shelf.old n }

@@ -29,7 +29,8 @@ enum Found {
 
 // What is found for these words.
 fn find<S: Shelf>(alloc: Global, words: &[String], shelf: &mut S) -> Result<Found, AllocError>
-    ensures finds { IfOk result (Finds (CountRose (S.faults shelf.old) (S.faults shelf.new)) (S.under shelf.old) (map string_bytes words.now)) }
+    ensures finds { IfOk result (Finds (CountRose (S.faults shelf.old) (S.faults shelf.new)) (S.under shelf.old)
+        (map string_bytes words.now)) }
     ensures later { S.faults shelf.old ≤ S.faults shelf.new }
 {
     let Some(asked) = read_command(alloc, words)? else {
@@ -59,9 +60,9 @@ fn find<S: Shelf>(alloc: Global, words: &[String], shelf: &mut S) -> Result<Foun
 /// next is opened.
 ///
 /// `solo` writes a report, line by line: its log is completed, or has the end that is named there, and each question is
-/// answered by all items of the log. A word is called trivial only where moves carry it to the empty word, and a map is said
-/// to extend only where it does. Where the log is sealed, both are said wherever they hold, a limit that is named aside, and
-/// nothing is unknown (Magnus 1939, Lichtblau 2012).
+/// answered by all items of the log. A word is called trivial only where moves carry it to the empty word, and a map is
+/// said to extend only where it does. Where the log is sealed, both are said wherever they hold, a limit that is named
+/// aside, and nothing is unknown (Magnus 1939, Lichtblau 2012).
 #[tactic(auto, using(crate::proofs::ReportEnds::report_ends, crate::proofs::ReportEnds::report_shown, crate::proofs::ReportEnds::never_read, crate::proofs::ReportEnds::write_failed))]
 pub fn metab_alone<S: Shelf, K: Sink>(
     alloc: Global,
@@ -70,9 +71,10 @@ pub fn metab_alone<S: Shelf, K: Sink>(
     out: &mut K,
 ) -> Status
     // The answer that is due was written whole, with its status; or the sink failed and took a front of it; or memory
-    // ran out, and nothing was written, or a front of a report. To `solo` the text of a legal report is due, whose answers
-    // are true, and exact where the log is sealed, and which `check` accepts.
-    ensures ends { Ends (AsksReport (command (map string_bytes words.now))) (IsDue (CountRose (S.faults shelf.old) (S.faults shelf.new)) (S.under shelf.old) (map string_bytes words.now))
+    // ran out, and nothing was written, or a front of a report. To `solo` the text of a legal report is due, whose
+    // answers are true, and exact where the log is sealed, and which `check` accepts.
+    ensures ends { Ends (AsksReport (command (map string_bytes words.now)))
+        (IsDue (CountRose (S.faults shelf.old) (S.faults shelf.new)) (S.under shelf.old) (map string_bytes words.now))
         (CountRose (K.faults out.old) (K.faults out.new)) (K.taken out.old) (K.taken out.new) result }
 
     // `steps` says yes only to a word that moves carry to the empty word, and `check` only to a report that is true.

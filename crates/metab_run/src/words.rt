@@ -1,11 +1,15 @@
 //! The words of the command line.
 
-ghost use Rattle.std.specs.Prelude.{◌≡◌, ◌<◌, ◌≤◌, ◌^◌, [], true, length, map, string_bytes, option_map, option_and_then, IfOk, IfSome, codes};
+ghost use Rattle.std.specs.Prelude.{◌≡◌, ◌<◌, ◌≤◌, ◌^◌, [], true, length, map, string_bytes, option_map};
+ghost use Rattle.std.specs.Prelude.{option_and_then, IfOk, IfSome, codes};
 ghost use Rattle.clap.specs.Words.{found_of, rows_of};
 ghost use Rattle.clap.specs.Walk.{first_of};
 ghost use Rattle.clap.specs.Faults.{is_simple_and_free};
 ghost use Rattle.metab_run.specs.Parsing.{declared, parsed};
-ghost use Rattle.metab_run.specs.Words.{number_between, entries_of, budget_of, three, two, two_names, one_seed, solo_names, solo_in, command_of, command, shown, plain, solo_options, steps_asked, fox_asked, check_asked, solo_asked, asked, Steps, Fox, Check, Solo, Gen, IsWithinTable, HasLimits};
+ghost use Rattle.metab_run.specs.Words.{number_between, entries_of, budget_of, three, two, two_names, one_seed};
+ghost use Rattle.metab_run.specs.Words.{solo_names, solo_in, command_of, command, shown, plain, solo_options};
+ghost use Rattle.metab_run.specs.Words.{steps_asked, fox_asked, check_asked, solo_asked, asked, Steps, Fox, Check};
+ghost use Rattle.metab_run.specs.Words.{Solo, Gen, IsWithinTable, HasLimits};
 
 use crate::parsing::{names, parse, value};
 use clap::ArgMatches;
@@ -204,7 +208,8 @@ fn plain<'a>(
     words: &'a [String],
 ) -> Result<Option<Vec<&'a str>>, AllocError>
     requires { is_simple_and_free (declared name.now []) ≡ true }
-    ensures { IfOk result (λ found. option_map (λ v. shown v.items) found ≡ plain name.now (map string_bytes words.now)) }
+    ensures { IfOk result (λ found. option_map (λ v. shown v.items) found
+        ≡ plain name.now (map string_bytes words.now)) }
 {
     match parse(alloc, name, &[], words)? {
         None => Ok(None),
@@ -215,7 +220,8 @@ fn plain<'a>(
 // What `steps` is asked by the words after it.
 fn steps<'a>(alloc: Global, words: &'a [String]) -> Result<Option<Command<'a>>, AllocError>
     ensures within { IfOk result (λ found. IfSome found HasLimits) }
-    ensures is { IfOk result (λ found. option_map asked found ≡ option_map Steps (option_and_then three (plain (codes "steps") (map string_bytes words.now)))) }
+    ensures is { IfOk result (λ found. option_map asked found
+        ≡ option_map Steps (option_and_then three (plain (codes "steps") (map string_bytes words.now)))) }
 {
     match plain(alloc, "steps", words)? {
         None => Ok(None),
@@ -226,7 +232,8 @@ fn steps<'a>(alloc: Global, words: &'a [String]) -> Result<Option<Command<'a>>, 
 // What `fox` is asked by the words after it.
 fn fox<'a>(alloc: Global, words: &'a [String]) -> Result<Option<Command<'a>>, AllocError>
     ensures within { IfOk result (λ found. IfSome found HasLimits) }
-    ensures is { IfOk result (λ found. option_map asked found ≡ option_map Fox (option_and_then two (plain (codes "fox") (map string_bytes words.now)))) }
+    ensures is { IfOk result (λ found. option_map asked found
+        ≡ option_map Fox (option_and_then two (plain (codes "fox") (map string_bytes words.now)))) }
 {
     match plain(alloc, "fox", words)? {
         None => Ok(None),
@@ -237,7 +244,8 @@ fn fox<'a>(alloc: Global, words: &'a [String]) -> Result<Option<Command<'a>>, Al
 // What `check` is asked by the words after it.
 fn check<'a>(alloc: Global, words: &'a [String]) -> Result<Option<Command<'a>>, AllocError>
     ensures within { IfOk result (λ found. IfSome found HasLimits) }
-    ensures is { IfOk result (λ found. option_map asked found ≡ option_map Check (option_and_then two_names (plain (codes "check") (map string_bytes words.now)))) }
+    ensures is { IfOk result (λ found. option_map asked found
+        ≡ option_map Check (option_and_then two_names (plain (codes "check") (map string_bytes words.now)))) }
 {
     match plain(alloc, "check", words)? {
         None => Ok(None),
@@ -248,7 +256,9 @@ fn check<'a>(alloc: Global, words: &'a [String]) -> Result<Option<Command<'a>>, 
 // What `solo` is asked by the words after it.
 fn solo<'a>(alloc: Global, words: &'a [String]) -> Result<Option<Command<'a>>, AllocError>
     ensures within { IfOk result (λ found. IfSome found HasLimits) }
-    ensures is { IfOk result (λ found. option_map asked found ≡ option_map Solo (option_and_then solo_in (parsed (declared (codes "solo") solo_options) (map string_bytes words.now)))) }
+    ensures is { IfOk result (λ found. option_map asked found
+        ≡ option_map Solo (option_and_then solo_in (parsed (declared (codes "solo") solo_options)
+        (map string_bytes words.now)))) }
 {
     let Some(found) = parse(alloc, "solo", &["entries", "budget"], words)? else {
         return Ok(None);
@@ -262,7 +272,8 @@ fn solo<'a>(alloc: Global, words: &'a [String]) -> Result<Option<Command<'a>>, A
 // What `gen` is asked by the words after it.
 fn generate<'a>(alloc: Global, words: &'a [String]) -> Result<Option<Command<'a>>, AllocError>
     ensures within { IfOk result (λ found. IfSome found HasLimits) }
-    ensures is { IfOk result (λ found. option_map asked found ≡ option_map Gen (option_and_then one_seed (plain (codes "gen") (map string_bytes words.now)))) }
+    ensures is { IfOk result (λ found. option_map asked found
+        ≡ option_map Gen (option_and_then one_seed (plain (codes "gen") (map string_bytes words.now)))) }
 {
     let Some(found) = plain(alloc, "gen", words)? else {
         return Ok(None);

@@ -1,5 +1,6 @@
 -- Sorted terms are collected: what holds after each run of terms at one place.
-use Rattle.std.proofs.Common.{◌≡◌, ℕ, suc, ◌+◌, ◌<◌, ◌≤◌, ℤ, pos, ◌+ℤ◌, Bool, true, false, cond, List, [], ◌∷◌, ◌++◌, length, length-append, take, drop, get_or, ◌⊎◌, inl, inr, refl, sym, ap, ◌∙◌, subst, arith, append-nil}
+use Rattle.std.proofs.Common.{◌≡◌, ℕ, suc, ◌+◌, ◌<◌, ◌≤◌, ℤ, pos, ◌+ℤ◌, Bool, true, false, cond, List, [], ◌∷◌, ◌++◌, length, length-append, take, drop, get_or}
+use Rattle.std.proofs.Common.{◌⊎◌, inl, inr, refl, sym, ap, ◌∙◌, subst, arith, append-nil}
 use Rattle.std.specs.Prelude.{take_while}
 use Rattle.std.specs.List.{AllByRecursion, prefix_len}
 use Rattle.std.specs.List.Sorted.{IsPermutation, IsSortedBy}
@@ -45,11 +46,16 @@ goes_before s t = is_lt (place_cmp t.at s.at)
 
 pub sorted_descends : (v : List Term) → IsSortedBy goes_before v → Descends v
 sorted_descends [] h = tt
-sorted_descends (t ∷ v) h = (first v h, sorted_descends v (λ k d low high. let next : suc k + 1 ≡ suc (k + 1) = omega arith in let test = h (suc k) d (omega arith) (omega arith) in rw next at test))
+sorted_descends (t ∷ v) h = (
+  first v h,
+  sorted_descends v (λ k d low high. let next : suc k + 1 ≡ suc (k + 1) = omega arith
+      in let test = h (suc k) d (omega arith) (omega arith) in rw next at test),
+)
   where
     first : (w : List Term) → IsSortedBy goes_before (t ∷ w) → BeginsAtMost t.at w
     first [] g = tt
-    first (u ∷ w) g = λ below. let test : is_lt (place_cmp t.at u.at) ≡ false = g 0 t (omega arith) (omega arith) in let wrong : true ≡ false = ap is_lt (sym below) ∙ test in cc
+    first (u ∷ w) g = λ below. let test : is_lt (place_cmp t.at u.at) ≡ false = g 0 t (omega arith) (omega arith)
+        in let wrong : true ≡ false = ap is_lt (sym below) ∙ test in cc
 
 -- ---- the run of terms at one place
 
@@ -60,8 +66,10 @@ parts : (p : Place) (v : List Term) → AllAt p (take (prefix_len (stands_at p) 
 parts p [] = (tt, tt)
 parts p (t ∷ v) = by (stands_at p t) refl (parts p v)
   where
-    by : (b : Bool) → stands_at p t ≡ b → AllAt p (take (prefix_len (stands_at p) v) v) × BeginsElsewhere p (drop (prefix_len (stands_at p) v) v) → AllAt p (take (cond b (1 + prefix_len (stands_at p) v) 0) (t ∷ v)) × BeginsElsewhere p (drop (cond b (1 + prefix_len (stands_at p) v) 0) (t ∷ v))
-    by true e rest = let next : 1 + prefix_len (stands_at p) v ≡ suc (prefix_len (stands_at p) v) = omega arith in rw next ((test.sound t.at p e, rest.0), rest.1)
+    by : (b : Bool) → stands_at p t ≡ b → AllAt p (take (prefix_len (stands_at p) v) v) × BeginsElsewhere p (drop (prefix_len (stands_at p) v) v)
+        → AllAt p (take (cond b (1 + prefix_len (stands_at p) v) 0) (t ∷ v)) × BeginsElsewhere p (drop (cond b (1 + prefix_len (stands_at p) v) 0) (t ∷ v))
+    by true e rest = let next : 1 + prefix_len (stands_at p) v ≡ suc (prefix_len (stands_at p) v) = omega arith
+        in rw next ((test.sound t.at p e, rest.0), rest.1)
     by false e rest = (tt, λ same. let wrong : true ≡ false = sym (test.reflexive p) ∙ ap (λ q. same_place q p) (sym same) ∙ e in cc)
 
 -- the sum of the run is one term
@@ -78,7 +86,8 @@ at_run p (t ∷ v) h x = ap (λ q. cond (same_place q x) t.k (pos 0) +ℤ coeffi
     by false rest e = omega (arith, ints, e)
 
 -- what follows a run still descends
-behind_run : (p : Place) (same behind : List Term) → AllAt p same → BeginsAtMost p (same ++ behind) → Descends (same ++ behind) → BeginsAtMost p behind × Descends behind
+behind_run : (p : Place) (same behind : List Term) → AllAt p same → BeginsAtMost p (same ++ behind) → Descends (same ++ behind)
+    → BeginsAtMost p behind × Descends behind
 behind_run p [] behind h b d = (b, d)
 behind_run p (t ∷ same) behind h b d = behind_run p same behind h.1 (subst (λ q. BeginsAtMost q (same ++ behind)) h.0 d.0) d.1
 
@@ -116,7 +125,14 @@ pub record Joining (list made rest : List Term) : Type 0 where
   pub count : length made + length rest ≤ length list
 
 pub begins : (list made : List Term) → Descends list → made ≡ [] → Joining list made list
-begins list made d none = subst (λ m. Joining list m list) (sym none) (record { falls = tt; terms = tt; ahead = ahead list; down = d; is = λ x. omega (arith, ints); count = omega arith })
+begins list made d none = subst (λ m. Joining list m list) (sym none) (record {
+  falls = tt;
+  terms = tt;
+  ahead = ahead list;
+  down = d;
+  is = λ x. omega (arith, ints);
+  count = omega arith;
+})
   where
     ahead : (rest : List Term) → Ahead [] rest
     ahead [] = tt
@@ -161,7 +177,9 @@ module _ (list made : List Term) (first : Term) (others same behind : List Term)
         let rest : coefficient_at others x ≡ coefficient_at same x +ℤ coefficient_at behind x = ap (λ v. coefficient_at v x) whole ∙ at_join same behind x in
         by (same_place first.at x) (coefficient_at same x) (at_run first.at same split.0 x) (omega (arith, ints, run.state.is x, rest))
       where
-        by : (b : Bool) (s : ℤ) → s ≡ cond b (total_of same) (pos 0) → coefficient_at list x ≡ coefficient_at made x +ℤ (cond b first.k (pos 0) +ℤ (s +ℤ coefficient_at behind x)) → coefficient_at list x ≡ coefficient_at made x +ℤ cond b (first.k +ℤ total_of same) (pos 0) +ℤ coefficient_at behind x
+        by : (b : Bool) (s : ℤ) → s ≡ cond b (total_of same) (pos 0) → coefficient_at list x
+            ≡ coefficient_at made x +ℤ (cond b first.k (pos 0) +ℤ (s +ℤ coefficient_at behind x))
+            → coefficient_at list x ≡ coefficient_at made x +ℤ cond b (first.k +ℤ total_of same) (pos 0) +ℤ coefficient_at behind x
         by true s e h = omega (arith, ints, e, h)
         by false s e h = omega (arith, ints, e, h)
 
@@ -193,7 +211,8 @@ module _ (list made : List Term) (first : Term) (others same behind : List Term)
         zero_term false = refl
 
     -- the run becomes one term
-    pub keeps : (z : ℤ) → z ≡ first.k +ℤ total_of same → IsTerm (record { at = first.at; k = z }) → (made' : List Term) → made' ≡ made ++ record { at = first.at; k = z } ∷ [] → Joining list made' behind
+    pub keeps : (z : ℤ) → z ≡ first.k +ℤ total_of same → IsTerm (record { at = first.at; k = z }) → (made' : List Term)
+        → made' ≡ made ++ record { at = first.at; k = z } ∷ [] → Joining list made' behind
     keeps z e term made' is = subst (λ m. Joining list m behind) (sym is) kept
       where
         t : Term
@@ -203,7 +222,10 @@ module _ (list made : List Term) (first : Term) (others same behind : List Term)
         kept = record {
           falls = falls_insert made (record { at = first.at; k = z }) [] (subst Falls (sym (append-nil made)) run.state.falls) run.state.ahead tt;
           terms = all_join IsTerm made (record { at = first.at; k = z } ∷ []) run.state.terms (term, tt);
-          ahead = ahead behind below (made ++ record { at = first.at; k = z } ∷ []) (λ p h. above_join p made (record { at = first.at; k = z } ∷ []) (AllAbove_transitive test order first.at p h (sum_of made) run.state.ahead) (h, tt));
+          ahead = ahead behind below (made ++ record { at = first.at; k = z } ∷ []) (λ p h. above_join p made (record {
+            at = first.at;
+            k = z;
+          } ∷ []) (AllAbove_transitive test order first.at p h (sum_of made) run.state.ahead) (h, tt));
           down = left.1;
           is = λ x.
               let one : single first.at z x ≡ single first.at (first.k +ℤ total_of same) x = ap (λ y. single first.at y x) e in

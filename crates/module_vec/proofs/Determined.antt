@@ -24,7 +24,8 @@ same_term : (t u : Term) → Path (ℤ × Place) (t.k, t.at) (u.k, u.at) → t �
 same_term t u e = λ i. record { at = (e i).1; k = (e i).0 }
 
 pub same_vector : (v w : List Term) → IsSparse v → IsSparse w → ((x : Place) → coefficient_at v x ≡ coefficient_at w x) → v ≡ w
-same_vector v w h g e = map_injective (λ (t : Term). (t.k, t.at)) same_term v w (falling_same test order (sum_of v) (sum_of w) h.falling (nonzero v h.terms) g.falling (nonzero w g.terms) e)
+same_vector v w h g e = map_injective (λ (t : Term). (t.k, t.at)) same_term v w
+    (falling_same test order (sum_of v) (sum_of w) h.falling (nonzero v h.terms) g.falling (nonzero w g.terms) e)
 
 both_first : (k l : ℤ) (i j : ℕ) → GoesBefore k i l j → GoesBefore l j k i → i ≡ j
 both_first k l i j (inl a) (inl b) = absurd (omega (arith, ints))
@@ -56,9 +57,13 @@ same_next b f s t n m = by (order.total n.place m.place)
     by (inr (inr h)) = absurd (m.greatest n.place h s.by n.lead n.others n.due)
 
 no_next : (b : List (List Term)) (f g : Coefficients) (s : Step) → ((x : Place) → g x ≡ f x) → IsEnd b g → IsNext b f s → ⊥
-no_next b f g s e end n = end n.place s.by n.lead n.others (record { reducer = n.due.reducer; moves = λ none. n.due.moves (ap (λ z. int_div_euclid z n.lead.k) (sym (e n.place)) ∙ none) })
+no_next b f g s e end n = end n.place s.by n.lead n.others (record {
+  reducer = n.due.reducer;
+  moves = λ none. n.due.moves (ap (λ z. int_div_euclid z n.lead.k) (sym (e n.place)) ∙ none);
+})
 
-pub same_end : (b : List (List Term)) (ss rs : List Step) (f g h : Coefficients) → Chain b f ss g → IsEnd b g → Chain b f rs h → IsEnd b h → (ss ≡ rs) × ((x : Place) → g x ≡ h x)
+pub same_end : (b : List (List Term)) (ss rs : List Step) (f g h : Coefficients) → Chain b f ss g → IsEnd b g → Chain b f rs h → IsEnd b h
+    → (ss ≡ rs) × ((x : Place) → g x ≡ h x)
 same_end b [] [] f g h c d e k = (refl, λ x. c x ∙ sym (e x))
 same_end b [] (t ∷ rs) f g h c d e k = absurd (no_next b f g t c d e.0)
 same_end b (s ∷ ss) [] f g h c d e k = absurd (no_next b f h s e k c.0)

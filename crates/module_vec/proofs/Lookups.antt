@@ -1,5 +1,6 @@
 -- Terms of a falling list by index.
-use Rattle.std.proofs.Common.{◌≡◌, ◌≢◌, ℕ, zero, suc, ◌+◌, ◌-◌, ◌<◌, ◌≤◌, ℤ, pos, ◌+ℤ◌, ◌*ℤ◌, negsuc, Bool, true, false, List, [], ◌∷◌, ◌++◌, map, length, take, drop, get_or, refl, sym, ap, ◌∙◌, subst, arith, nat_lt, add-zero, ◌-ℤ◌, ◌^◌, FitsSigned, to_z, of_z}
+use Rattle.std.proofs.Common.{◌≡◌, ◌≢◌, ℕ, zero, suc, ◌+◌, ◌-◌, ◌<◌, ◌≤◌, ℤ, pos, ◌+ℤ◌, ◌*ℤ◌, negsuc, Bool, true, false, List, [], ◌∷◌, ◌++◌, map, length, take}
+use Rattle.std.proofs.Common.{drop, get_or, refl, sym, ap, ◌∙◌, subst, arith, nat_lt, add-zero, ◌-ℤ◌, ◌^◌, FitsSigned, to_z, of_z}
 use mir.Syntax.{w128}
 use Rattle.std.proofs.lemmas.Int.{to_z-of_z, fits_signed_from_abs}
 use Rattle.std.specs.Prelude.{neg_ℤ, unsigned_abs}
@@ -35,10 +36,12 @@ below_read p (t ∷ v) (suc i) d h below = below_read p v i d (omega arith) belo
 -- a term's coefficient is that at its place
 pub coefficient_read : (v : List Term) (i : ℕ) (d : Term) → i < length v → Falls v → coefficient_at v (get_or v i d).at ≡ (get_or v i d).k
 coefficient_read [] i d h f = absurd (omega arith)
-coefficient_read (t ∷ v) zero d h f = rw (test.reflexive t.at) (let rest = at_above t.at v f.0 in let whole : t.k +ℤ coefficient_at v t.at ≡ t.k = omega (arith, ints, rest) in whole)
+coefficient_read (t ∷ v) zero d h f = rw (test.reflexive t.at) (let rest = at_above t.at v f.0
+    in let whole : t.k +ℤ coefficient_at v t.at ≡ t.k = omega (arith, ints, rest) in whole)
 coefficient_read (t ∷ v) (suc i) d h f =
     let lower : IsBelow (get_or v i d).at t.at = below_read t.at v i d (omega arith) f.0 in
-    let other : same_place t.at (get_or v i d).at ≡ false = eq-apart test t.at (get_or v i d).at (λ e. order.irreflexive t.at (subst (λ p. IsBelow p t.at) (sym e) lower)) in
+    let other : same_place t.at (get_or v i d).at ≡ false = eq-apart test t.at (get_or v i d).at
+    (λ e. order.irreflexive t.at (subst (λ p. IsBelow p t.at) (sym e) lower)) in
     let rest = coefficient_read v i d (omega arith) f.1 in
     rw other (let whole : pos 0 +ℤ coefficient_at v (get_or v i d).at ≡ (get_or v i d).k = omega (arith, ints, rest) in whole)
 
@@ -63,7 +66,8 @@ pub searchable : (v : List Term) (p : Place) → Falls v → IsNonDecreasingBy (
 searchable v p f = searchable_from_sorted (back_total place_total) (λ (t : Term). t.at) v p (falls_sorted v f)
 
 -- what a search leaves that finds nothing
-pub not_found : (v : List Term) (p : Place) (n : ℕ) → IsPartitionPoint (λ t. place_cmp p t.at ≡ Less) (λ t. place_cmp p t.at ≡ Greater) v n → coefficient_at v p ≡ pos 0
+pub not_found : (v : List Term) (p : Place) (n : ℕ) → IsPartitionPoint (λ t. place_cmp p t.at ≡ Less) (λ t. place_cmp p t.at ≡ Greater) v n
+    → coefficient_at v p ≡ pos 0
 not_found v p n h = coefficient_none v p (λ i d l e. by i d l e (nat_lt i n) refl)
   where
     same : (q : Place) → q ≡ p → place_cmp p q ≡ Equal
@@ -87,7 +91,8 @@ pub still : (xs ys : List Term) (i : ℕ) (x : Term) → i < length xs → ys �
 still xs ys i x h is e =
     let front : length (map turned (take i xs)) ≡ i = length-map (take i xs) turned ∙ length-take-le i xs (omega arith) in
     let zero_left : i - i ≡ 0 = omega arith in
-    e ∙ ap (λ w. get_or w i x) is ∙ get_or-append_right (map turned (take i xs)) (drop i xs) i i x front (omega arith) ∙ ap (λ n. get_or (drop i xs) n x) zero_left ∙ get_or-drop i xs 0 x ∙ ap (λ n. get_or xs n x) (add-zero i)
+    e ∙ ap (λ w. get_or w i x) is ∙ get_or-append_right (map turned (take i xs)) (drop i xs) i i x front (omega arith)
+    ∙ ap (λ n. get_or (drop i xs) n x) zero_left ∙ get_or-drop i xs 0 x ∙ ap (λ n. get_or xs n x) (add-zero i)
 
 -- at the end all are turned
 pub all_turned : (xs ys : List Term) (i : ℕ) → length xs ≤ i → ys ≡ map turned (take i xs) ++ drop i xs → ys ≡ map turned xs
@@ -138,8 +143,12 @@ turned_terms (t ∷ v) (u ∷ w) e h =
 -- a vector stays one when its signs are turned
 pub turned_vector : (v w : List Term) → sum_of w ≡ scale (negsuc 0) (sum_of v) → IsVector v → IsVector w
 turned_vector v w e h =
-    let long : length w ≡ length v = sym (length-map w (λ (t : Term). (t.k, t.at))) ∙ ap length e ∙ length-map (sum_of v) _ ∙ length-map v (λ (t : Term). (t.k, t.at)) in
+    let long : length w ≡ length v = sym (length-map w (λ (t : Term). (t.k, t.at))) ∙ ap length e ∙ length-map (sum_of v) _
+    ∙ length-map v (λ (t : Term). (t.k, t.at)) in
     record {
-      sparse = record { falling = subst (Falling IsBelow) (sym e) (Falling-scale IsBelow (negsuc 0) (sum_of v) h.sparse.falling); terms = turned_terms v w e h.sparse.terms };
+      sparse = record {
+        falling = subst (Falling IsBelow) (sym e) (Falling-scale IsBelow (negsuc 0) (sum_of v) h.sparse.falling);
+        terms = turned_terms v w e h.sparse.terms;
+      };
       most = omega (arith, long, h.most);
     }

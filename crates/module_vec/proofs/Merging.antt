@@ -1,5 +1,6 @@
 -- Merging the terms of v with those of the multiple q·t·g: what holds after each term of g.
-use Rattle.std.proofs.Common.{◌≡◌, ℕ, suc, ◌+◌, ◌<◌, ◌≤◌, ℤ, pos, ◌+ℤ◌, ◌-ℤ◌, ◌*ℤ◌, Bool, true, false, cond, List, [], ◌∷◌, ◌++◌, length, length-append, take, drop, get_or, ◌⊎◌, inl, inr, refl, sym, ap, ◌∙◌, arith, subst, append_assoc}
+use Rattle.std.proofs.Common.{◌≡◌, ℕ, suc, ◌+◌, ◌<◌, ◌≤◌, ℤ, pos, ◌+ℤ◌, ◌-ℤ◌, ◌*ℤ◌, Bool, true, false, cond, List, [], ◌∷◌, ◌++◌, length, length-append, take}
+use Rattle.std.proofs.Common.{drop, get_or, ◌⊎◌, inl, inr, refl, sym, ap, ◌∙◌, arith, subst, append_assoc}
 use Rattle.std.specs.Prelude.{Some, None}
 use Rattle.std.specs.List.{AllByRecursion}
 use Rattle.std.proofs.lemmas.List.{take_more, take-append-drop, drop_all}
@@ -17,12 +18,14 @@ use Rattle.module_vec.specs.Vectors.{sum_of, coefficient_at, multiple, multiple_
 use Rattle.module_vec.specs.Results.{DifferenceIsWide, IsGreatest}
 use Rattle.module_vec.specs.Merging.{IsFound, BeginsAtMost, Passes, BeginsElsewhere, TakesFirst, PassesTo, begins_at, Meets, Subtracts}
 use Rattle.module_vec.proofs.Order.{place_total, test, order, moved_below}
-use Rattle.module_vec.proofs.FallingTerms.{all_drop, falls_drop, drop_read, Above, Below, Falls, all_insert, all_remove, all_back, above_join, below_from_first, falls_insert, falls_remove, falls_back, at_join, at_above, at_below}
+use Rattle.module_vec.proofs.FallingTerms.{all_drop, falls_drop, drop_read, Above, Below, Falls, all_insert, all_remove, all_back, above_join, below_from_first}
+use Rattle.module_vec.proofs.FallingTerms.{falls_insert, falls_remove, falls_back, at_join, at_above, at_below}
 
 -- ---- the front that stands above a place
 
 -- one more term stands above p
-pub above_more : (p : Place) (v : List Term) (n : ℕ) (t : Term) → Above p (take n v) → n < length v → t ≡ get_or v n t → place_cmp t.at p ≡ Greater → Above p (take (n + 1) v)
+pub above_more : (p : Place) (v : List Term) (n : ℕ) (t : Term) → Above p (take n v) → n < length v → t ≡ get_or v n t → place_cmp t.at p ≡ Greater
+    → Above p (take (n + 1) v)
 above_more p v n t above h is greater =
     let more : take (n + 1) v ≡ take n v ++ t ∷ [] = take_more v n t h ∙ ap (λ u. take n v ++ u ∷ []) (sym is) in
     let below : IsBelow p t.at = place_total.antisymm p t.at ∙ ap ordering_reverse greater in
@@ -32,7 +35,8 @@ not_below : (p : Place) (t : Term) (r : Ordering) → place_cmp t.at p ≡ r →
 not_below p t r e none h = let wrong : true ≡ false = ap is_gt (sym (place_total.antisymm t.at p ∙ ap ordering_reverse h) ∙ e) ∙ none in cc
 
 -- the term with number n doesn't stand above p
-pub meets : (p : Place) (v : List Term) (n : ℕ) (t : Term) (r : Ordering) → Above p (take n v) → n < length v → t ≡ get_or v n t → place_cmp t.at p ≡ r → is_gt r ≡ false → Meets p v n (is_eq r)
+pub meets : (p : Place) (v : List Term) (n : ℕ) (t : Term) (r : Ordering) → Above p (take n v) → n < length v → t ≡ get_or v n t → place_cmp t.at p ≡ r
+    → is_gt r ≡ false → Meets p v n (is_eq r)
 meets p v n t r above h is e none =
     let here : drop n v ≡ t ∷ drop (n + 1) v = drop_read v n t h is in
     record {
@@ -69,7 +73,8 @@ in_range_not_wide z h w = omega arith
 
 -- ---- the multiple
 
-multiple_below : (q : ℤ) (t : List ℕ) (p : Place) (left : List Term) → length t ≡ VARIABLES → length p.m ≡ VARIABLES → AllByRecursion IsTerm left → Below p left → AllBelow IsBelow (moved t p) (multiple q t left)
+multiple_below : (q : ℤ) (t : List ℕ) (p : Place) (left : List Term) → length t ≡ VARIABLES → length p.m ≡ VARIABLES → AllByRecursion IsTerm left → Below p left
+    → AllBelow IsBelow (moved t p) (multiple q t left)
 multiple_below q t p [] e f h b = tt
 multiple_below q t p (u ∷ left) e f h b = (moved_below t u.at p (h.0.place.variables ∙ sym e) (f ∙ sym e) b.0, multiple_below q t p left e f h.1 b.1)
 
@@ -120,7 +125,8 @@ pub record Put (p : Place) (before made rest : List Term) (z : ℤ) : Type 0 whe
   pub above : (x : Place) → IsBelow x p → Above x made
   pub is : (x : Place) → coefficient_at (made ++ rest) x ≡ coefficient_at before x +ℤ single p z x
 
-pub passes : (p : Place) (made rest made' from : List Term) (n : ℕ) (met : Bool) → Meets p rest n met → made' ≡ made ++ take n rest → from ≡ drop n rest → Passes p made rest made' from
+pub passes : (p : Place) (made rest made' from : List Term) (n : ℕ) (met : Bool) → Meets p rest n met → made' ≡ made ++ take n rest → from ≡ drop n rest
+    → Passes p made rest made' from
 passes p made rest made' from n met meeting moved left = record {
   front = take n rest;
   moved = moved;
@@ -130,7 +136,8 @@ passes p made rest made' from n met meeting moved left = record {
 }
 
 -- the next term stands at p
-pub passes_met : (p : Place) (made rest made' from : List Term) (n : ℕ) (first : Term) (behind : List Term) → Meets p rest n true → made' ≡ made ++ take n rest → from ≡ drop n rest → from ≡ first ∷ behind → PassesTo p made rest made' first.k behind
+pub passes_met : (p : Place) (made rest made' from : List Term) (n : ℕ) (first : Term) (behind : List Term) → Meets p rest n true → made' ≡ made ++ take n rest
+    → from ≡ drop n rest → from ≡ first ∷ behind → PassesTo p made rest made' first.k behind
 passes_met p made rest made' from n first behind meeting moved left is =
     let stands : true ≡ same_place first.at p = meeting.next ∙ ap (begins_at p) (sym left ∙ is) in
     let place : first.at ≡ p = test.sound first.at p (sym stands) in
@@ -141,7 +148,8 @@ passes_met p made rest made' from n first behind meeting moved left is =
     }
 
 -- it doesn't
-pub passes_not_met : (p : Place) (made rest made' from : List Term) (n : ℕ) (met : Bool) → Meets p rest n met → begins_at p from ≡ false → made' ≡ made ++ take n rest → from ≡ drop n rest → PassesTo p made rest made' (pos 0) from
+pub passes_not_met : (p : Place) (made rest made' from : List Term) (n : ℕ) (met : Bool) → Meets p rest n met → begins_at p from ≡ false
+    → made' ≡ made ++ take n rest → from ≡ drop n rest → PassesTo p made rest made' (pos 0) from
 passes_not_met p made rest made' from n met meeting none moved left = record {
   from = from;
   passed = passes p made rest made' from n met meeting moved left;
@@ -212,7 +220,8 @@ module _ (p : Place) (s made rest : List Term) (k : ℤ) (falls : Falls s) (term
       }
 
 -- the terms above p are passed, and the coefficient at p is taken
-opens : (p : Place) (made rest made' from : List Term) (k : ℤ) (behind : List Term) → Falls (made ++ rest) → AllByRecursion IsTerm (made ++ rest) → Above p made → Passes p made rest made' from → TakesFirst p from k behind → Open p (made ++ rest) made' behind k
+opens : (p : Place) (made rest made' from : List Term) (k : ℤ) (behind : List Term) → Falls (made ++ rest) → AllByRecursion IsTerm (made ++ rest) → Above p made
+    → Passes p made rest made' from → TakesFirst p from k behind → Open p (made ++ rest) made' behind k
 opens p made rest made' from k behind falls terms above passed taken = by taken
   where
     same : made ++ rest ≡ made' ++ from
@@ -223,7 +232,8 @@ opens p made rest made' from k behind falls terms above passed taken = by taken
 
     by : TakesFirst p from k behind → Open p (made ++ rest) made' behind k
     by (inl e) = opens_at p (made ++ rest) made' from k falls terms above' behind (same ∙ ap (λ r. made' ++ r) e)
-    by (inr h) = opens_without p (made ++ rest) made' from k falls terms above' behind (same ∙ ap (λ r. made' ++ r) (sym h.1)) h.0 (subst (BeginsAtMost p) (sym h.1) passed.stays) (subst (BeginsElsewhere p) (sym h.1) h.2)
+    by (inr h) = opens_without p (made ++ rest) made' from k falls terms above' behind (same
+        ∙ ap (λ r. made' ++ r) (sym h.1)) h.0 (subst (BeginsAtMost p) (sym h.1) passed.stays) (subst (BeginsElsewhere p) (sym h.1) h.2)
 
 -- nothing is put at p
 puts_none : (p : Place) (s made rest : List Term) (k z : ℤ) → Open p s made rest k → z ≡ pos 0 → Put p (made ++ rest) made rest z
@@ -237,7 +247,8 @@ puts_none p s made rest k z o e = record {
 }
 
 -- z is put at p
-puts : (p : Place) (s made rest : List Term) (k z : ℤ) → Open p s made rest k → IsTerm (record { at = p; k = z }) → Put p (made ++ rest) (made ++ record { at = p; k = z } ∷ []) rest z
+puts : (p : Place) (s made rest : List Term) (k z : ℤ) → Open p s made rest k → IsTerm (record { at = p; k = z })
+    → Put p (made ++ rest) (made ++ record { at = p; k = z } ∷ []) rest z
 puts p s made rest k z o term =
     let t : Term = record { at = p; k = z } in
     let same : made ++ t ∷ rest ≡ (made ++ t ∷ []) ++ rest = sym (append_assoc made (t ∷ []) rest) in
@@ -340,7 +351,8 @@ module _ (v : List Term) (q : ℤ) (t : List ℕ) (g : List Term) where
 
       ahead : (w : List Term) → AllByRecursion IsTerm w → Below e.at w → Ahead t made2 w
       ahead [] terms below = tt
-      ahead (u ∷ w) terms below = put.above (moved t u.at) (moved_below t u.at e.at (terms.0.place.variables ∙ sym turn.long) (turn.terms.0.place.variables ∙ sym turn.long) below.0)
+      ahead (u ∷ w) terms below = put.above (moved t u.at) (moved_below t u.at e.at (terms.0.place.variables ∙ sym turn.long) (turn.terms.0.place.variables
+          ∙ sym turn.long) below.0)
 
       pub goes_on : Merging v q t g made2 rest' left
       goes_on = record { falls = put.falls; terms = put.terms; ahead = ahead left turn.terms.1 turn.falls.0; points = point }
@@ -357,7 +369,8 @@ module _ (v : List Term) (q : ℤ) (t : List ℕ) (g : List Term) where
           let before : k ≡ coefficient_at v p = sym so_far ∙ pending.kept in
           by product before wide
         where
-          by : q *ℤ e.k ≡ multiple_at q t g (moved t e.at) → k ≡ coefficient_at v (moved t e.at) → Subtracts k q e.k None → DifferenceIsWide (coefficient_at v) (multiple_at q t g) (moved t e.at)
+          by : q *ℤ e.k ≡ multiple_at q t g (moved t e.at) → k ≡ coefficient_at v (moved t e.at) → Subtracts k q e.k None
+              → DifferenceIsWide (coefficient_at v) (multiple_at q t g) (moved t e.at)
           by product before (inl h) = inl (subst IsWide product h)
           by product before (inr h) = inr (subst IsWide (λ i. before i -ℤ product i) h)
       wide_here (inr done) = absurd (by (sym to_come ∙ done.settled) wide)
@@ -366,7 +379,8 @@ module _ (v : List Term) (q : ℤ) (t : List ℕ) (g : List Term) where
           by none (inl h) = in_range_not_wide (pos 0) (omega arith) (subst IsWide none h)
           by none (inr h) = in_range_not_wide k turn.opened.range (subst IsWide (ap (λ n. k -ℤ n) none ∙ less_zero k) h)
 
-      narrow_above : (x : Place) → IsBelow (moved t e.at) x → Point v q t g (made ++ rest) (e ∷ left) x → DifferenceIsWide (coefficient_at v) (multiple_at q t g) x → ⊥
+      narrow_above : (x : Place) → IsBelow (moved t e.at) x → Point v q t g (made ++ rest) (e ∷ left) x
+          → DifferenceIsWide (coefficient_at v) (multiple_at q t g) x → ⊥
       narrow_above x h point = by point
         where
           none : multiple_at q t (e ∷ left) x ≡ pos 0
@@ -377,7 +391,8 @@ module _ (v : List Term) (q : ℤ) (t : List ℕ) (g : List Term) where
 
           by : Point v q t g (made ++ rest) (e ∷ left) x → DifferenceIsWide (coefficient_at v) (multiple_at q t g) x → ⊥
           by (inl pending) (inl w) = in_range_not_wide (pos 0) (omega arith) (subst IsWide (sym pending.to_come ∙ none) w)
-          by (inl pending) (inr w) = in_range_not_wide (coefficient_at (made ++ rest) x) range (subst IsWide ((λ i. sym pending.kept i -ℤ (sym pending.to_come ∙ none) i) ∙ less_zero (coefficient_at (made ++ rest) x)) w)
+          by (inl pending) (inr w) = in_range_not_wide (coefficient_at (made ++ rest) x) range
+              (subst IsWide ((λ i. sym pending.kept i -ℤ (sym pending.to_come ∙ none) i) ∙ less_zero (coefficient_at (made ++ rest) x)) w)
           by (inr done) (inl w) = in_range_not_wide (multiple_at q t g x) done.narrow w
           by (inr done) (inr w) = in_range_not_wide (coefficient_at (made ++ rest) x) range (subst IsWide (sym done.is) w)
 
@@ -396,8 +411,13 @@ module _ (v : List Term) (q : ℤ) (t : List ℕ) (g : List Term) where
       start : Merging v q t g [] v g
       start = record { falls = falls; terms = terms; ahead = ahead g; points = λ x. inl (record { kept = refl; to_come = refl }) }
 
-  pub ends : (made rest : List Term) → Merging v q t g made rest [] → IsFound (DifferenceIsWide (coefficient_at v) (multiple_at q t g)) (difference_at (coefficient_at v) (multiple_at q t g)) (made ++ rest)
-  ends made rest state = record { sparse = record { falling = state.falls; terms = state.terms }; is = λ x. is x (state.points x); narrow = λ x. narrow x (state.points x) }
+  pub ends : (made rest : List Term) → Merging v q t g made rest []
+      → IsFound (DifferenceIsWide (coefficient_at v) (multiple_at q t g)) (difference_at (coefficient_at v) (multiple_at q t g)) (made ++ rest)
+  ends made rest state = record {
+    sparse = record { falling = state.falls; terms = state.terms };
+    is = λ x. is x (state.points x);
+    narrow = λ x. narrow x (state.points x);
+  }
     where
       is : (x : Place) → Point v q t g (made ++ rest) [] x → coefficient_at (made ++ rest) x ≡ coefficient_at v x -ℤ multiple_at q t g x
       is x (inl pending) = pending.kept ∙ sym (ap (λ n. coefficient_at v x -ℤ n) (sym pending.to_come) ∙ less_zero (coefficient_at v x))
@@ -405,9 +425,11 @@ module _ (v : List Term) (q : ℤ) (t : List ℕ) (g : List Term) where
 
       narrow : (x : Place) → Point v q t g (made ++ rest) [] x → DifferenceIsWide (coefficient_at v) (multiple_at q t g) x → ⊥
       narrow x (inl pending) (inl w) = in_range_not_wide (pos 0) (omega arith) (subst IsWide (sym pending.to_come) w)
-      narrow x (inl pending) (inr w) = in_range_not_wide (coefficient_at (made ++ rest) x) (in_range (made ++ rest) state.terms state.falls x) (subst IsWide (ap (λ n. coefficient_at v x -ℤ n) (sym pending.to_come) ∙ less_zero (coefficient_at v x) ∙ sym pending.kept) w)
+      narrow x (inl pending) (inr w) = in_range_not_wide (coefficient_at (made ++ rest) x) (in_range (made ++ rest) state.terms state.falls x)
+          (subst IsWide (ap (λ n. coefficient_at v x -ℤ n) (sym pending.to_come) ∙ less_zero (coefficient_at v x) ∙ sym pending.kept) w)
       narrow x (inr done) (inl w) = in_range_not_wide (multiple_at q t g x) done.narrow w
-      narrow x (inr done) (inr w) = in_range_not_wide (coefficient_at (made ++ rest) x) (in_range (made ++ rest) state.terms state.falls x) (subst IsWide (sym done.is) w)
+      narrow x (inr done) (inr w) = in_range_not_wide (coefficient_at (made ++ rest) x) (in_range (made ++ rest) state.terms state.falls x)
+          (subst IsWide (sym done.is) w)
 
 -- ---- the step of the code, where p is the product's place
 module _ (v : List Term) (q : ℤ) (t : List ℕ) (g made rest left : List Term) (e : Term) (made' from behind : List Term) (k : ℤ) (p : Place) where
@@ -422,18 +444,22 @@ module _ (v : List Term) (q : ℤ) (t : List ℕ) (g made rest left : List Term)
     pub taken : TakesFirst p from k behind
 
   opened : Found → Open (moved t e.at) (made ++ rest) made' behind k
-  opened f = opens (moved t e.at) made rest made' from k behind f.state.falls f.state.terms f.state.ahead (subst (λ x. Passes x made rest made' from) f.place f.passed) (subst (λ x. TakesFirst x from k behind) f.place f.taken)
+  opened f = opens (moved t e.at) made rest made' from k behind f.state.falls f.state.terms f.state.ahead
+      (subst (λ x. Passes x made rest made' from) f.place f.passed) (subst (λ x. TakesFirst x from k behind) f.place f.taken)
 
   turn : Found → Turn v q t g made rest e left k made' behind
   turn f = record { state = f.state; opened = opened f; long = f.long; terms = f.terms; falls = f.falls }
 
   pub step_wide : Found → Subtracts k q e.k None → IsGreatest (DifferenceIsWide (coefficient_at v) (multiple_at q t g)) p
-  step_wide f wide = subst (IsGreatest (DifferenceIsWide (coefficient_at v) (multiple_at q t g))) (sym f.place) (fails v q t g made rest e left k made' behind (turn f) wide)
+  step_wide f wide = subst (IsGreatest (DifferenceIsWide (coefficient_at v) (multiple_at q t g))) (sym f.place)
+      (fails v q t g made rest e left k made' behind (turn f) wide)
 
   pub step_zero : Found → (z : ℤ) → z ≡ pos 0 → Subtracts k q e.k (Some z) → Merging v q t g made' behind left
-  step_zero f z none reduced = goes_on v q t g made rest e left k made' behind (turn f) made' z reduced (puts_none (moved t e.at) (made ++ rest) made' behind k z (opened f) none)
+  step_zero f z none reduced = goes_on v q t g made rest e left k made' behind (turn f) made' z reduced
+      (puts_none (moved t e.at) (made ++ rest) made' behind k z (opened f) none)
 
-  pub step_term : Found → (z : ℤ) → IsTerm (record { at = p; k = z }) → Subtracts k q e.k (Some z) → (made2 : List Term) → made2 ≡ made' ++ record { at = p; k = z } ∷ [] → Merging v q t g made2 behind left
+  pub step_term : Found → (z : ℤ) → IsTerm (record { at = p; k = z }) → Subtracts k q e.k (Some z) → (made2 : List Term)
+      → made2 ≡ made' ++ record { at = p; k = z } ∷ [] → Merging v q t g made2 behind left
   step_term f z term reduced made2 is =
       let push : made2 ≡ made' ++ record { at = moved t e.at; k = z } ∷ [] = is ∙ ap (λ x. made' ++ record { at = x; k = z } ∷ []) f.place in
       subst (λ m. Merging v q t g m behind left) (sym push)
@@ -441,7 +467,9 @@ module _ (v : List Term) (q : ℤ) (t : List ℕ) (g made rest left : List Term)
       (puts (moved t e.at) (made ++ rest) made' behind k z (opened f) (subst (λ x. IsTerm (record { at = x; k = z })) f.place term)))
 
 -- the same at the i-th term of g
-pub found_at : (v : List Term) (q : ℤ) (t : List ℕ) (g made rest : List Term) (i : ℕ) (e : Term) (made' from behind : List Term) (k : ℤ) (p : Place) → Merging v q t g made rest (drop i g) → IsSparse g → i < length g → e ≡ get_or g i e → length t ≡ VARIABLES → p ≡ moved t e.at → Passes p made rest made' from → TakesFirst p from k behind → Found v q t g made rest (drop (i + 1) g) e made' from behind k p
+pub found_at : (v : List Term) (q : ℤ) (t : List ℕ) (g made rest : List Term) (i : ℕ) (e : Term) (made' from behind : List Term) (k : ℤ) (p : Place)
+    → Merging v q t g made rest (drop i g) → IsSparse g → i < length g → e ≡ get_or g i e → length t ≡ VARIABLES → p ≡ moved t e.at
+    → Passes p made rest made' from → TakesFirst p from k behind → Found v q t g made rest (drop (i + 1) g) e made' from behind k p
 found_at v q t g made rest i e made' from behind k p state sparse h is long place passed taken =
     let here : drop i g ≡ e ∷ drop (i + 1) g = drop_read g i e h is in
     record {
@@ -455,7 +483,8 @@ found_at v q t g made rest i e made' from behind k p state sparse h is long plac
     }
 
 -- no term gets lost or doubled on the way
-pub passed_count : (p : Place) (made rest made' from behind : List Term) (k : ℤ) → Passes p made rest made' from → TakesFirst p from k behind → length made' + length behind ≤ length made + length rest
+pub passed_count : (p : Place) (made rest made' from behind : List Term) (k : ℤ) → Passes p made rest made' from → TakesFirst p from k behind
+    → length made' + length behind ≤ length made + length rest
 passed_count p made rest made' from behind k passed taken =
     let front : length made' ≡ length made + length passed.front = ap length passed.moved ∙ length-append made passed.front in
     let back : length rest ≡ length passed.front + length from = ap length passed.split ∙ length-append passed.front from in

@@ -19,7 +19,8 @@ module _ {A : Type 0} (v : A) where
   read_push (u ∷ b) zero w e = inl (e, omega arith)
   read_push (u ∷ b) (suc i) w e = by (read_push b i w e)
     where
-      by : ((slice_get b i ≡ Some w) × (i < length b)) ⊎ ((i ≡ length b) × (v ≡ w)) → ((slice_get b i ≡ Some w) × (suc i < suc (length b))) ⊎ ((suc i ≡ suc (length b)) × (v ≡ w))
+      by : ((slice_get b i ≡ Some w) × (i < length b)) ⊎ ((i ≡ length b) × (v ≡ w)) → ((slice_get b i ≡ Some w) × (suc i < suc (length b)))
+          ⊎ ((suc i ≡ suc (length b)) × (v ≡ w))
       by (inl h) = inl (h.0, omega (arith, h.1))
       by (inr h) = inr (ap suc h.0, h.1)
 
@@ -50,7 +51,8 @@ goes_before_le k l i j (inl h) = omega (arith, ints)
 goes_before_le k l i j (inr h) = omega (arith, ints, h.0)
 
 -- the reducer has the least lead coefficient
-pub reducer_least : (b : List (List Term)) (p : Place) (i : ℕ) (e : Term) (g : List Term) → IsReducer b p i e g → (j : ℕ) (f : Term) (h : List Term) → Entry b j f h → Reduces f p → e.k ≤ℤ f.k
+pub reducer_least : (b : List (List Term)) (p : Place) (i : ℕ) (e : Term) (g : List Term) → IsReducer b p i e g → (j : ℕ) (f : Term) (h : List Term)
+    → Entry b j f h → Reduces f p → e.k ≤ℤ f.k
 reducer_least b p i e g r j f h entry reduces = goes_before_le e.k f.k i j (r.first j f h entry reduces)
 
 le_cases : (k l : ℤ) → k ≤ℤ l → (k <ℤ l) ⊎ (k ≡ l)
@@ -78,7 +80,8 @@ module _ (b : List (List Term)) (v others : List Term) (lead : Term) (p : Place)
     k,
   )
     where
-      by : (j : ℕ) (f : Term) (w : List Term) → Reduces f p → ((slice_get b j ≡ Some (f ∷ w)) × (j < length b)) ⊎ ((j ≡ length b) × (v ≡ f ∷ w)) → GoesBefore e.k c.number f.k j
+      by : (j : ℕ) (f : Term) (w : List Term) → Reduces f p → ((slice_get b j ≡ Some (f ∷ w)) × (j < length b)) ⊎ ((j ≡ length b) × (v ≡ f ∷ w))
+          → GoesBefore e.k c.number f.k j
       by j f w reduces (inl old) = r.first j f w old.0 reduces
       by j f w reduces (inr new) = absurd (h (subst (λ t. Reduces t p) (sym (same_entry lead f others w v is new.1)) reduces))
 
@@ -99,7 +102,8 @@ module _ (b : List (List Term)) (v others : List Term) (lead : Term) (p : Place)
       new_one j f same last (inl below) = inl (subst (λ (t : Term). e.k <ℤ t.k) same below)
       new_one j f same last (inr equal) = inr (equal ∙ ap (λ (t : Term). t.k) same, omega (arith, last, read_within b c.number (e ∷ g) r.entry))
 
-      by : (j : ℕ) (f : Term) (w : List Term) → Reduces f p → ((slice_get b j ≡ Some (f ∷ w)) × (j < length b)) ⊎ ((j ≡ length b) × (v ≡ f ∷ w)) → GoesBefore e.k c.number f.k j
+      by : (j : ℕ) (f : Term) (w : List Term) → Reduces f p → ((slice_get b j ≡ Some (f ∷ w)) × (j < length b)) ⊎ ((j ≡ length b) × (v ≡ f ∷ w))
+          → GoesBefore e.k c.number f.k j
       by j f w reduces (inl old) = r.first j f w old.0 reduces
       by j f w reduces (inr new) = new_one j f (same_entry lead f others w v is new.1) new.0 (le_cases e.k lead.k (subst (λ z. z ≤ℤ lead.k) k le))
 
@@ -114,7 +118,8 @@ module _ (b : List (List Term)) (v others : List Term) (lead : Term) (p : Place)
     first = λ j f w entry reduces. by j f w reduces (read_push v b j (f ∷ w) entry);
   }
     where
-      by : (j : ℕ) (f : Term) (w : List Term) → Reduces f p → ((slice_get b j ≡ Some (f ∷ w)) × (j < length b)) ⊎ ((j ≡ length b) × (v ≡ f ∷ w)) → GoesBefore lead.k (length b) f.k j
+      by : (j : ℕ) (f : Term) (w : List Term) → Reduces f p → ((slice_get b j ≡ Some (f ∷ w)) × (j < length b)) ⊎ ((j ≡ length b) × (v ≡ f ∷ w))
+          → GoesBefore lead.k (length b) f.k j
       by j f w reduces (inl old) = absurd (none j f w old.0 reduces)
       by j f w reduces (inr new) = inr (ap (λ (t : Term). t.k) (same_entry lead f others w v is new.1), omega (arith, new.0))
 
@@ -126,7 +131,8 @@ module _ (b : List (List Term)) (v others : List Term) (lead : Term) (p : Place)
     first = λ j f w entry reduces. by j f w reduces (read_push v b j (f ∷ w) entry);
   }
     where
-      by : (j : ℕ) (f : Term) (w : List Term) → Reduces f p → ((slice_get b j ≡ Some (f ∷ w)) × (j < length b)) ⊎ ((j ≡ length b) × (v ≡ f ∷ w)) → GoesBefore lead.k (length b) f.k j
+      by : (j : ℕ) (f : Term) (w : List Term) → Reduces f p → ((slice_get b j ≡ Some (f ∷ w)) × (j < length b)) ⊎ ((j ≡ length b) × (v ≡ f ∷ w))
+          → GoesBefore lead.k (length b) f.k j
       by j f w reduces (inl old) =
           let low : lead.k <ℤ e.k = subst (λ z. lead.k <ℤ z) k less in
           let high : e.k ≤ℤ f.k = goes_before_le e.k f.k c.number j (r.first j f w old.0 reduces) in
@@ -140,7 +146,8 @@ read_lead v terms others lead x is same read =
     is ∙ ap (λ t. t ∷ others) (sym first)
 
 -- the answer with the number that the code has
-pub with_number : (b : List (List Term)) (v others : List Term) (x : Term) (p : Place) (n : ℕ) (k : ℤ) → length b ≡ n → k ≡ x.k → IsReducer (b ++ v ∷ []) p (length b) x others → FindsCandidate (b ++ v ∷ []) p (Some (record { number = n; coefficient = k }))
+pub with_number : (b : List (List Term)) (v others : List Term) (x : Term) (p : Place) (n : ℕ) (k : ℤ) → length b ≡ n → k ≡ x.k
+    → IsReducer (b ++ v ∷ []) p (length b) x others → FindsCandidate (b ++ v ∷ []) p (Some (record { number = n; coefficient = k }))
 with_number b v others x p n k last same r = (x, others, subst (λ m. IsReducer (b ++ v ∷ []) p m x others) last r, same)
 
 -- a test that failed

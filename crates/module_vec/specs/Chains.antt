@@ -70,7 +70,8 @@ Runs b f (s ∷ ss) g = IsNext b f s × Goes b f s × Runs b (after b f s) ss g
 -- after so many steps the next one, s, stops the chain
 abbrev pub StopsNext : List (List Term) → Coefficients → ℕ → Step → Stop → Type 0
 StopsNext b f made s (Wide p n) = (made < STEPS) × StopsBy (made + 1) (StepIsWide b f s) (after b f s) (Wide p n)
-StopsNext b f made s (Long terms n) = (made < STEPS) × StopsBy (made + 1) (StepIsWide b f s) (after b f s) (Long terms n)
+StopsNext b f made s (Long terms n) = (made < STEPS)
+    × StopsBy (made + 1) (StepIsWide b f s) (after b f s) (Long terms n)
 StopsNext b f made s Deep = made ≡ STEPS
 StopsNext b f made s (Steep d) = ⊥
 

@@ -1,5 +1,6 @@
 -- How the terms of a vector and those of a multiple are merged.
-use Rattle.std.specs.Prelude.{◌≡◌, ◌≢◌, ◌⊎◌, ℕ, ℤ, pos, ◌-ℤ◌, ◌*ℤ◌, Bool, false, List, [], ◌∷◌, ◌++◌, Option, Some, None, Result, Ok, Err, length, take, drop, ◌<◌, ◌≤◌}
+use Rattle.std.specs.Prelude.{◌≡◌, ◌≢◌, ◌⊎◌, ℕ, ℤ, pos, ◌-ℤ◌, ◌*ℤ◌, Bool, false, List, [], ◌∷◌, ◌++◌, Option, Some}
+use Rattle.std.specs.Prelude.{None, Result, Ok, Err, length, take, drop, ◌<◌, ◌≤◌}
 use Rattle.module_vec.specs.declared.TheConstants.{TERMS}
 use Rattle.formal_sums.specs.FormalSum.{AllAbove}
 use Rattle.module_vec.specs.declared.places.Place.{Place}

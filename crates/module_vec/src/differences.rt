@@ -27,7 +27,8 @@ pub fn difference(
         let multiple = multiple_at q t.now g.now in
         let IsWideAt = DifferenceIsWide f multiple in
         MatchResult result
-        (λ made. IsFound IsWideAt (difference_at f multiple) made.items × (length made.items ≤ length v.now + length g.now))
+        (λ made. IsFound IsWideAt (difference_at f multiple) made.items
+        × (length made.items ≤ length v.now + length g.now))
         (FailsBy IsWideAt) }
 {
     // The proof needs that t is a monomial, and the call says so.
@@ -52,8 +53,8 @@ pub fn difference(
     Ok(made)
 }
 
-/// Moves what stands above `at` from the front of `rest` to the end of `made`, and gives the coefficient at `at` and what
-/// follows it in `rest`.
+/// Moves what stands above `at` from the front of `rest` to the end of `made`, and gives the coefficient at `at` and
+/// what follows it in `rest`.
 fn pass<'a>(
     made: &mut Vec<Term>,
     rest: &'a [Term],

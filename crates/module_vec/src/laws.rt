@@ -1,5 +1,5 @@
-//! The laws of vectors, as contracts of functions that do nothing: what the calls of this crate give can be relied on to
-//! stand for finite maps, and the reduction of a vector to have one course.
+//! The laws of vectors, as contracts of functions that do nothing: what the calls of this crate give can be relied on
+//! to stand for finite maps, and the reduction of a vector to have one course.
 
 ghost use Rattle.std.specs.Prelude.{◌≡◌, ◌∷◌, ◌≤◌, ℕ, ◌↔◌, ◌≤ℤ◌, List, length};
 ghost use Rattle.std.specs.Cmp.{IsTotalOrder};
@@ -22,12 +22,14 @@ pub fn order_is_total()
 
 /// Multiples by one monomial stand as the places themselves do.
 pub fn order_is_kept_by_multiples()
-    ensures { (t : List ℕ) (p q : Place) → length p.m ≡ length t → length q.m ≡ length t → place_cmp (moved t p) (moved t q) ≡ place_cmp p q }
+    ensures { (t : List ℕ) (p q : Place) → length p.m ≡ length t → length q.m ≡ length t
+        → place_cmp (moved t p) (moved t q) ≡ place_cmp p q }
 {}
 
 /// A vector is determined by its coefficients.
 pub fn coefficients_determine_vectors()
-    ensures { (v w : List Term) → IsSparse v → IsSparse w → ((x : Place) → coefficient_at v x ≡ coefficient_at w x) → v ≡ w }
+    ensures { (v w : List Term) → IsSparse v → IsSparse w → ((x : Place)
+        → coefficient_at v x ≡ coefficient_at w x) → v ≡ w }
 {}
 
 /// The lead of a vector has its greatest degree.
@@ -47,6 +49,8 @@ pub fn reducers_are_determined()
 /// end make the same steps and have the same end.
 pub fn chains_are_determined()
     ensures next { (b : List (List Term)) (f : Coefficients) (s t : Step) → IsNext b f s → IsNext b f t → s ≡ t }
-    ensures end { (b : List (List Term)) (ss rs : List Step) (f g h : Coefficients) → Chain b f ss g → IsEnd b g → Chain b f rs h → IsEnd b h → (ss ≡ rs) × ((x : Place) → g x ≡ h x) }
-    ensures within_limits { (b : List (List Term)) (ss : List Step) (f g : Coefficients) → Runs b f ss g → Chain b f ss g }
+    ensures end { (b : List (List Term)) (ss rs : List Step) (f g h : Coefficients) → Chain b f ss g → IsEnd b g
+        → Chain b f rs h → IsEnd b h → (ss ≡ rs) × ((x : Place) → g x ≡ h x) }
+    ensures within_limits { (b : List (List Term)) (ss : List Step) (f g : Coefficients) → Runs b f ss g
+        → Chain b f ss g }
 {}

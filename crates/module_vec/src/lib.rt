@@ -4,8 +4,8 @@
 //! allocation, and contracts see it as the list of its terms. What a call answers is stated by coefficients, over the
 //! formal sums of the crate `formal_sums`: such a sum is given by its coefficients alone.
 //!
-//! Coefficients stand in a range of 128 bits, and a vector has a limited number of terms. A result that leaves the range
-//! is named as wide, at the greatest place where that happens, and one with too many terms as long.
+//! Coefficients stand in a range of 128 bits, and a vector has a limited number of terms. A result that leaves the
+//! range is named as wide, at the greatest place where that happens, and one with too many terms as long.
 #![tactic(auto)]
 
 mod differences;

@@ -1,6 +1,7 @@
 //! Lists of vectors, and the entry that reduces a place.
 
-ghost use Rattle.std.specs.Prelude.{◌≡◌, ◌≤◌, ◌<◌, ◌↔◌, ◌+◌, ◌++◌, ◌∷◌, [], List, IsTrue, Some, length, slice_get, take};
+ghost use Rattle.std.specs.Prelude.{◌≡◌, ◌≤◌, ◌<◌, ◌↔◌, ◌+◌, ◌++◌, ◌∷◌, [], List, IsTrue, Some, length, slice_get};
+ghost use Rattle.std.specs.Prelude.{take};
 ghost use Rattle.module_vec.specs.declared.places.Term.{Term};
 ghost use Rattle.module_vec.specs.Reducers.{IsEntry, AreEntries, Reduces, FindsReducer};
 ghost use Rattle.module_vec.specs.Scanning.{FindsCandidate};
@@ -52,7 +53,8 @@ struct Candidate {
 /// The reducer among the entries so far and `entry`, whose number is greater than theirs.
 fn better(best: Option<Candidate>, number: u32, entry: &ModVec, at: &Place) -> Option<Candidate>
     requires { IsEntry entry.now }
-    ensures { (b : List (List Term)) → length b ≡ number → FindsCandidate b at.now best → FindsCandidate (b ++ entry.now ∷ []) at.now result }
+    ensures { (b : List (List Term)) → length b ≡ number → FindsCandidate b at.now best
+        → FindsCandidate (b ++ entry.now ∷ []) at.now result }
 {
     let lead = &entry.terms()[0];
     if !reduces(lead, at) {

@@ -1,6 +1,7 @@
 //! Sums of terms in any order: terms at one place are added up.
 
-ghost use Rattle.std.specs.Prelude.{◌≡◌, ◌+◌, ◌≤◌, ◌<◌, ◌^◌, ◌+ℤ◌, length, take_while, unsigned_abs, MatchOption, MatchResult};
+ghost use Rattle.std.specs.Prelude.{◌≡◌, ◌+◌, ◌≤◌, ◌<◌, ◌^◌, ◌+ℤ◌, length, take_while, unsigned_abs, MatchOption};
+ghost use Rattle.std.specs.Prelude.{MatchResult};
 ghost use Rattle.module_vec.specs.Vectors.{coefficient_at, InRange, IsWide};
 ghost use Rattle.module_vec.specs.Results.{SumIsWide};
 ghost use Rattle.module_vec.specs.Merging.{IsFound, FailsBy};

@@ -2,7 +2,8 @@
 
 ghost use Rattle.std.specs.Prelude.{◌≡◌, ◌↔◌, IsTrue, ℤ, negsuc, ◌*ℤ◌, ◌<◌, ◌^◌, length, [], slice_get};
 ghost use Rattle.formal_sums.specs.FormalSum.{scale};
-ghost use Rattle.module_vec.specs.Vectors.{sum_of, coefficient_at, multiple_at, difference_at, InRange, IsSparse, IsVector, HasRoom};
+ghost use Rattle.module_vec.specs.Vectors.{sum_of, coefficient_at, multiple_at, difference_at, InRange, IsSparse};
+ghost use Rattle.module_vec.specs.Vectors.{IsVector, HasRoom};
 ghost use Rattle.module_vec.specs.Results.{SumIsWide, DifferenceIsWide, Makes};
 ghost use Rattle.module_vec.specs.Merging.{IsLimited};
 ghost use Rattle.module_vec.specs.Reducers.{IsEntry};

@@ -1,5 +1,6 @@
 -- A rest that is appended closes the S task that it is left of.
-use Rattle.std.proofs.Common.{◌≡◌, ◌≢◌, ℕ, Bool, true, false, cond, MatchBool, ℤ, pos, negsuc, neg_ℤ, ◌+ℤ◌, ◌*ℤ◌, List, [], ◌∷◌, ◌++◌, length, refl, sym, ap, subst, ◌∙◌, arith, append-nil, length-append}
+use Rattle.std.proofs.Common.{◌≡◌, ◌≢◌, ℕ, Bool, true, false, cond, MatchBool, ℤ, pos, negsuc, neg_ℤ, ◌+ℤ◌, ◌*ℤ◌, List, [], ◌∷◌, ◌++◌, length, refl, sym, ap}
+use Rattle.std.proofs.Common.{subst, ◌∙◌, arith, append-nil, length-append}
 use borrow.Author.Differences.{ints}
 use Rattle.std.specs.List.{AllByRecursion}
 use Rattle.std.specs.Prelude.{◌<ℤ◌}
@@ -40,7 +41,8 @@ scaled q v h x =
 abbrev factor : Bool → ℤ
 factor negated = cond negated (negsuc 0) (pos 1)
 
-given_back : (negated : Bool) (w v : List Term) → MatchBool negated (sum_of v ≡ scale (negsuc 0) (sum_of w)) (v ≡ w) → (x : Place) → factor negated *ℤ coefficient_at v x ≡ coefficient_at w x
+given_back : (negated : Bool) (w v : List Term) → MatchBool negated (sum_of v ≡ scale (negsuc 0) (sum_of w)) (v ≡ w) → (x : Place)
+    → factor negated *ℤ coefficient_at v x ≡ coefficient_at w x
 given_back true w v e x = let t = at_turned w v e x in twice (coefficient_at w x) (coefficient_at v x) t
   where
     twice : (y z : ℤ) → z ≡ neg_ℤ y → negsuc 0 *ℤ z ≡ y
@@ -51,7 +53,8 @@ given_back false w v e x = ap (λ (u : List Term). pos 1 *ℤ coefficient_at u x
     once y = omega (arith, ints)
 
 -- the rest has a coefficient at the entry's lead
-pub at_lead : (negated : Bool) (w v : List Term) → IsEntry v → MatchBool negated (sum_of v ≡ scale (negsuc 0) (sum_of w)) (v ≡ w) → coefficient_at w (lead_of v).at ≢ pos 0
+pub at_lead : (negated : Bool) (w v : List Term) → IsEntry v → MatchBool negated (sum_of v ≡ scale (negsuc 0) (sum_of w)) (v ≡ w)
+    → coefficient_at w (lead_of v).at ≢ pos 0
 at_lead negated w [] is e none = let wrong = is.is in absurd cc
 at_lead negated w (t ∷ v) is e none = by negated e
   where
@@ -66,9 +69,13 @@ at_lead negated w (t ∷ v) is e none = by negated e
 
     by : (negated : Bool) → MatchBool negated (sum_of (t ∷ v) ≡ scale (negsuc 0) (sum_of w)) (t ∷ v ≡ w) → ⊥
     by true e = let turns = at_turned w (t ∷ v) e t.at in omega (arith, ints, turns, own, positive, none)
-    by false e = let same_at : coefficient_at (t ∷ v) t.at ≡ coefficient_at w t.at = ap (λ (u : List Term). coefficient_at u t.at) e in omega (arith, ints, same_at, own, positive, none)
+    by false e = let same_at : coefficient_at (t ∷ v) t.at ≡ coefficient_at w t.at = ap (λ (u : List Term). coefficient_at u t.at) e
+        in omega (arith, ints, same_at, own, positive, none)
 
-module _ (c : List (List Term)) (i j : ℕ) (pair : IsPair c i j) (first second : Step) (are : ArePairSteps S c i j first second) (steps : List Step) (below : AreStepsBelow c (pair_place c i j) steps) (w v : List Term) (parts : (x : Place) → both_at c first second x ≡ steps_at c steps x +ℤ coefficient_at w x) (negated : Bool) (is : MatchBool negated (sum_of v ≡ scale (negsuc 0) (sum_of w)) (v ≡ w)) (entry : IsEntry v) (low : IsBelow (lead_of v).at (pair_place c i j)) where
+module _ (c : List (List Term)) (i j : ℕ) (pair : IsPair c i j) (first second : Step) (are : ArePairSteps S c i j first second) (steps : List Step)
+    (below : AreStepsBelow c (pair_place c i j) steps) (w v : List Term) (parts : (x : Place)
+    → both_at c first second x ≡ steps_at c steps x +ℤ coefficient_at w x) (negated : Bool)
+    (is : MatchBool negated (sum_of v ≡ scale (negsuc 0) (sum_of w)) (v ≡ w)) (entry : IsEntry v) (low : IsBelow (lead_of v).at (pair_place c i j)) where
   abbrev grown : List (List Term)
   grown = c ++ v ∷ []
 
@@ -103,13 +110,18 @@ module _ (c : List (List Term)) (i j : ℕ) (pair : IsPair c i j) (first second 
   all_below : AreStepsBelow grown (pair_place c i j) (steps ++ last ∷ [])
   all_below =
       let l = length-append c (v ∷ []) in
-      all_push _ steps last (stand_over (λ x. IsBelow x (pair_place c i j)) c grown steps all below) (one_length, omega (arith, l), subst (λ x. IsBelow x (pair_place c i j)) (sym last_place) low)
+      all_push _ steps last (stand_over (λ x. IsBelow x (pair_place c i j)) c grown steps all below) (
+        one_length,
+        omega (arith, l),
+        subst (λ x. IsBelow x (pair_place c i j)) (sym last_place) low,
+      )
 
   whole : (x : Place) → both_at grown first second x ≡ steps_at grown (steps ++ last ∷ []) x
   whole x =
       sym (both_same S c grown i j first second i_same j_same are x)
       ∙ parts x
-      ∙ (λ n. steps_same c grown steps all x n +ℤ (sym (given_back negated w v is x) ∙ sym (scaled (factor negated) v entry.vector.sparse.terms x) ∙ ap (λ (u : List Term). coefficient same_place (multiple (factor negated) one u ++ []) x) (sym behind)) n)
+      ∙ (λ n. steps_same c grown steps all x n +ℤ (sym (given_back negated w v is x) ∙ sym (scaled (factor negated) v entry.vector.sparse.terms x)
+      ∙ ap (λ (u : List Term). coefficient same_place (multiple (factor negated) one u ++ []) x) (sym behind)) n)
       ∙ sym (steps_at-append grown steps (last ∷ []) x)
 
   pub closes : IsClosed grown S i j

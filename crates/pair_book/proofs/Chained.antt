@@ -1,5 +1,6 @@
 -- The steps of a chain, and the recipe that they give with those of their pair.
-use Rattle.std.proofs.Common.{◌≡◌, ◌≢◌, ℕ, ◌<◌, ◌≤◌, ◌+◌, ℤ, pos, neg_ℤ, ◌+ℤ◌, ◌*ℤ◌, List, [], ◌∷◌, map, length, ◌⊎◌, inl, inr, refl, sym, ap, subst, ◌∙◌, arith}
+use Rattle.std.proofs.Common.{◌≡◌, ◌≢◌, ℕ, ◌<◌, ◌≤◌, ◌+◌, ℤ, pos, neg_ℤ, ◌+ℤ◌, ◌*ℤ◌, List, [], ◌∷◌, map, length, ◌⊎◌, inl, inr, refl, sym, ap, subst, ◌∙◌}
+use Rattle.std.proofs.Common.{arith}
 use borrow.Author.Differences.{ints}
 use Rattle.std.specs.List.{AllByRecursion}
 use Rattle.std.specs.Prelude.{◌<ℤ◌, None}
@@ -50,9 +51,13 @@ pub record IsSound (b : List (List Term)) (s : Step) : Type 0 where
 module _ (b : List (List Term)) (entries : AreEntries b) where
   one_step : (f : Coefficients) (s : Step) (n : IsNext b f s) (v : List Term) → IsSparse v → Has v f → IsSound b s
   one_step f s n v sparse is = record {
-    range = subst InRange (sym n.factor) (floor_in_range (f n.place) n.lead.k positive (subst InRange (is n.place) (in_range v sparse.terms sparse.falling n.place)));
+    range = subst InRange (sym n.factor) (floor_in_range (f n.place) n.lead.k positive
+        (subst InRange (is n.place) (in_range v sparse.terms sparse.falling n.place)));
     nonzero = λ e. n.due.moves (sym n.factor ∙ e);
-    reach = record { number = entry_number b s.by (n.lead ∷ n.others) n.due.reducer.entry; room = subst (HasRoom s.t) (sym (entry_vector b s.by (n.lead ∷ n.others) n.due.reducer.entry)) room };
+    reach = record {
+      number = entry_number b s.by (n.lead ∷ n.others) n.due.reducer.entry;
+      room = subst (HasRoom s.t) (sym (entry_vector b s.by (n.lead ∷ n.others) n.due.reducer.entry)) room;
+    };
   }
     where
       entry : IsEntry (n.lead ∷ n.others)
@@ -79,9 +84,11 @@ module _ (b : List (List Term)) (entries : AreEntries b) where
   sound (s ∷ ss) f g h v sparse is = (one_step f s h.0 v sparse is, sound ss (after b f s) g h.2 h.1.terms.v h.1.terms.sparse h.1.terms.is)
 
   -- what stands where P holds, and goes down, is left there too
-  pub end_stands : (P : Place → Type 0) → ((x y : Place) → IsBelow y x → P x → P y) → (ss : List Step) (f g : Coefficients) → Chain b f ss g → StandsAt P f → StandsAt P g
+  pub end_stands : (P : Place → Type 0) → ((x y : Place) → IsBelow y x → P x → P y) → (ss : List Step) (f g : Coefficients) → Chain b f ss g → StandsAt P f
+      → StandsAt P g
   end_stands P down [] f g h stands = λ x nz. stands x (λ e. nz (h x ∙ e))
-  end_stands P down (s ∷ ss) f g h stands = end_stands P down ss (after b f s) g h.1 (after_stands b entries P down f stands s (step_stands b entries P down f stands s h.0))
+  end_stands P down (s ∷ ss) f g h stands = end_stands P down ss (after b f s) g h.1
+      (after_stands b entries P down f stands s (step_stands b entries P down f stands s h.0))
 
 pub nonzeros : (b : List (List Term)) (ss : List Step) → AllByRecursion (IsSound b) ss → AllByRecursion (λ s. s.q ≢ pos 0) ss
 nonzeros b [] h = tt
@@ -117,16 +124,34 @@ module _ (b : List (List Term)) (entries : AreEntries b) (i j : ℕ) (pair : IsP
   lengths = lead_length b entries i i_in ∙ sym (lead_length b entries j pair.within)
 
   i_covers : Divides (lead_at b i).k (lead_at b j).k → Covers b i j i
-  i_covers d = (i_in, record { reduces = (refl, (divides_common (lead_at b i).at.m (lead_at b j).at.m lengths).0); first = divides_itself (lead_at b i).k; second = d })
+  i_covers d = (
+    i_in,
+    record {
+      reduces = (refl, (divides_common (lead_at b i).at.m (lead_at b j).at.m lengths).0);
+      first = divides_itself (lead_at b i).k;
+      second = d;
+    },
+  )
 
   j_covers : Divides (lead_at b j).k (lead_at b i).k → Covers b i j j
-  j_covers d = (pair.within, record { reduces = (sym pair.component, (divides_common (lead_at b i).at.m (lead_at b j).at.m lengths).1); first = d; second = divides_itself (lead_at b j).k })
+  j_covers d = (
+    pair.within,
+    record {
+      reduces = (sym pair.component, (divides_common (lead_at b i).at.m (lead_at b j).at.m lengths).1);
+      first = d;
+      second = divides_itself (lead_at b j).k;
+    },
+  )
 
-  pub factors : (kind : PairKind) (first second : Step) → ArePairSteps kind b i j first second → (kind ≡ G → FindsCover b (length b) i j None) → (first.q ≢ pos 0) × (second.q ≢ pos 0)
+  pub factors : (kind : PairKind) (first second : Step) → ArePairSteps kind b i j first second → (kind ≡ G → FindsCover b (length b) i j None)
+      → (first.q ≢ pos 0) × (second.q ≢ pos 0)
   factors S first second are un = by are.factors
     where
       by : AreFactors S (lead_at b i).k (lead_at b j).k first.q second.q → (first.q ≢ pos 0) × (second.q ≢ pos 0)
-      by (d, g, one, two) = (not_zero first.q (pos d) (lead_at b j).k one (above (lead_at b j).k l_above), not_zero second.q (pos d) (neg_ℤ (lead_at b i).k) two (minus_above (lead_at b i).k k_above))
+      by (d, g, one, two) = (
+        not_zero first.q (pos d) (lead_at b j).k one (above (lead_at b j).k l_above),
+        not_zero second.q (pos d) (neg_ℤ (lead_at b i).k) two (minus_above (lead_at b i).k k_above),
+      )
   factors G first second are un = by are.factors
     where
       by : AreFactors G (lead_at b i).k (lead_at b j).k first.q second.q → (first.q ≢ pos 0) × (second.q ≢ pos 0)
@@ -145,17 +170,24 @@ module _ (b : List (List Term)) (entries : AreEntries b) (i j : ℕ) (pair : IsP
           of_l = divides_abs b entries i j pair d (lead_at b j).k bezout.positive l_above bezout.divisor.1
 
           one : first.q ≢ pos 0
-          one z = un refl j pair.within (j_covers (divides_on (lead_at b j).k d (lead_at b i).k (second.q, left first.q (lead_at b i).k second.q (lead_at b j).k bezout.sum z) of_k))
+          one z = un refl j pair.within (j_covers (divides_on (lead_at b j).k d (lead_at b i).k (
+            second.q,
+            left first.q (lead_at b i).k second.q (lead_at b j).k bezout.sum z,
+          ) of_k))
 
           two : second.q ≢ pos 0
-          two z = un refl i i_in (i_covers (divides_on (lead_at b i).k d (lead_at b j).k (first.q, right first.q (lead_at b i).k second.q (lead_at b j).k bezout.sum z) of_l))
+          two z = un refl i i_in (i_covers (divides_on (lead_at b i).k d (lead_at b j).k (
+            first.q,
+            right first.q (lead_at b i).k second.q (lead_at b j).k bezout.sum z,
+          ) of_l))
 
   -- where the multiples of a pair's chain stand
   pub vector_stands : (kind : PairKind) (v : List Term) → IsPairVector kind b i j v → StandsAt (StandsFor kind (pair_place b i j)) (coefficient_at v)
   vector_stands S v is = s_stands b entries i j pair v is
   vector_stands G v is = g_stands b entries i j pair v is
 
-  pub steps_stand : (kind : PairKind) (v : List Term) → IsPairVector kind b i j v → (ss : List Step) (g : Coefficients) → Chain b (coefficient_at v) ss g → AreStepsAt (StandsFor kind (pair_place b i j)) b ss
+  pub steps_stand : (kind : PairKind) (v : List Term) → IsPairVector kind b i j v → (ss : List Step) (g : Coefficients) → Chain b (coefficient_at v) ss g
+      → AreStepsAt (StandsFor kind (pair_place b i j)) b ss
   steps_stand S v is ss g chain = chain_below b entries (pair_place b i j) ss (coefficient_at v) g (vector_stands S v is) chain
   steps_stand G v is ss g chain = chain_up_to b entries (pair_place b i j) ss (coefficient_at v) g (vector_stands G v is) chain
 
@@ -190,8 +222,16 @@ module _ (b : List (List Term)) (entries : AreEntries b) (i j : ℕ) (pair : IsP
     reached : coefficient_at v ≡ passed Add b start second
     reached n x = (made.1.is x ∙ ap (λ (f : Coefficients). f x +ℤ taken_at b second x) begun) n
 
-    pub adds_all : (ss : List Step) (w : List Term) → Runs b (coefficient_at v) ss (coefficient_at w) → Adds b zero_vector (recipe_of first second ss) (coefficient_at w)
-    adds_all ss w runs = (can_first, (can_second, subst (λ (z : Coefficients). Adds b z (map turned ss) (coefficient_at w)) reached (adds_turned b ss (coefficient_at v) (coefficient_at w) runs)))
+    pub adds_all : (ss : List Step) (w : List Term) → Runs b (coefficient_at v) ss (coefficient_at w)
+        → Adds b zero_vector (recipe_of first second ss) (coefficient_at w)
+    adds_all ss w runs = (
+      can_first,
+      (
+        can_second,
+        subst (λ (z : Coefficients). Adds b z (map turned ss) (coefficient_at w)) reached
+            (adds_turned b ss (coefficient_at v) (coefficient_at w) runs),
+      ),
+    )
 
 pub ranges : (b : List (List Term)) (ss : List Step) → AllByRecursion (IsSound b) ss → AllByRecursion (λ s. InRange s.q) ss
 ranges b [] h = tt

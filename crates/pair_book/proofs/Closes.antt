@@ -33,7 +33,8 @@ some_of (x ∷ xs) ys e h none = let f = e ∙ none in cc
 pub counted : (n : ℕ) (vs : List (List Term)) (es : List BasisEntry) → n ≡ length vs → vs ≡ vectors_of es → n ≡ length es
 counted n vs es count same = count ∙ ap length same ∙ length-map es (λ (e : BasisEntry). e.vector)
 
-pub outcome : (es : List BasisEntry) (t : Task) (steps : List Step) (used : List UsedEntry) (front : ℕ) (close : Close) → AreUsed es (t.i ∷ (t.j ∷ [])) steps used → IsPair (vectors_of es) t.i t.j →
+pub outcome : (es : List BasisEntry) (t : Task) (steps : List Step) (used : List UsedEntry) (front : ℕ) (close : Close)
+    → AreUsed es (t.i ∷ (t.j ∷ [])) steps used → IsPair (vectors_of es) t.i t.j →
     ((fs : List BasisEntry) → AllThere fs used → IsTrueOf (vectors_of fs) t close) → IsOutcome (record { task = t; front = front; used = used; close = close })
 outcome es t steps used front close are pair true_there = record {
   rising = are.rising;
@@ -41,22 +42,28 @@ outcome es t steps used front close are pair true_there = record {
   close = true_there;
 }
 
-pub works : (p : Presented) (es : List BasisEntry) (t : Task) (used : List UsedEntry) (front : ℕ) (close : Close) (o : Worked) → o ≡ record { task = t; front = front; used = used; close = close } → front ≡ length es → AllThere es used → ClosesAs p (vectors_of es) t close → AreUsedFor t close used → Works p es t (Ok o)
+pub works : (p : Presented) (es : List BasisEntry) (t : Task) (used : List UsedEntry) (front : ℕ) (close : Close) (o : Worked)
+    → o ≡ record { task = t; front = front; used = used; close = close } → front ≡ length es → AllThere es used → ClosesAs p (vectors_of es) t close
+    → AreUsedFor t close used → Works p es t (Ok o)
 works p es t used front close o is count there closes for = subst (λ (w : Worked). Works p es t (Ok w)) (sym is) (refl, count, there, closes, for)
 
-pub reduces : (b : List (List Term)) (t : Task) (first second : Step) (steps ss : List Step) (w v : List Term) → IsUncovered b t → IsCarriedOut b t first second steps w → ss ≡ steps → w ≡ v → Reduces b t ss v
+pub reduces : (b : List (List Term)) (t : Task) (first second : Step) (steps ss : List Step) (w v : List Term) → IsUncovered b t
+    → IsCarriedOut b t first second steps w → ss ≡ steps → w ≡ v → Reduces b t ss v
 reduces b t first second steps ss w v un done e f = record {
   uncovered = un;
   vector = done.vector;
   pair = done.pair;
-  rest = subst (λ (z : List Term). IsRest b (coefficient_at done.vector) z ss) f (subst (λ (z : List Step). IsRest b (coefficient_at done.vector) w z) (sym e) done.rest);
+  rest = subst (λ (z : List Term). IsRest b (coefficient_at done.vector) z ss) f
+      (subst (λ (z : List Step). IsRest b (coefficient_at done.vector) w z) (sym e) done.rest);
 }
 
 -- the fault of a chain that isn't carried out is that of the work
-faulty : (p : Presented) (es : List BasisEntry) (t : Task) (fault : WorkFault) → IsUncovered (vectors_of es) t → HaltsBy (vectors_of es) t fault → Works p es t (Err fault)
+faulty : (p : Presented) (es : List BasisEntry) (t : Task) (fault : WorkFault) → IsUncovered (vectors_of es) t → HaltsBy (vectors_of es) t fault
+    → Works p es t (Err fault)
 faulty p es t (Stop stop) un halts = (un, halts)
 faulty p es t NoMemory un halts = tt
 
-pub handed_on : (p : Presented) (es : List BasisEntry) (t : Task) (r : Result Worked WorkFault) (fault : WorkFault) → IsErr r → IsErrAnd r (λ e. e ≡ fault) → IsUncovered (vectors_of es) t → HaltsBy (vectors_of es) t fault → Works p es t r
+pub handed_on : (p : Presented) (es : List BasisEntry) (t : Task) (r : Result Worked WorkFault) (fault : WorkFault) → IsErr r → IsErrAnd r (λ e. e ≡ fault)
+    → IsUncovered (vectors_of es) t → HaltsBy (vectors_of es) t fault → Works p es t r
 handed_on p es t (Ok w) fault err is un halts = absurd (let wrong : false ≡ true = err in cc)
 handed_on p es t (Err e) fault err is un halts = subst (λ (z : WorkFault). Works p es t (Err z)) (sym is) (faulty p es t fault un halts)

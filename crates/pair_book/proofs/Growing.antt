@@ -1,5 +1,6 @@
 -- What a book keeps when an entry is appended.
-use Rattle.std.proofs.Common.{ℕ, ◌+◌, ◌<◌, ◌≤◌, ◌≡◌, inl, inr, arith, refl, sym, ap, ◌∙◌, List, [], ◌∷◌, ◌++◌, length, Bool, true, false, take, Option, Some, None, subst, length-append}
+use Rattle.std.proofs.Common.{ℕ, ◌+◌, ◌<◌, ◌≤◌, ◌≡◌, inl, inr, arith, refl, sym, ap, ◌∙◌, List, [], ◌∷◌, ◌++◌, length, Bool, true, false, take, Option, Some}
+use Rattle.std.proofs.Common.{None, subst, length-append}
 use Rattle.std.proofs.lemmas.List.{map-append, length-map}
 use Rattle.std.proofs.lemmas.List.Sums.{sum_by_push, sum_by-append}
 use Rattle.std.proofs.lemmas.Option.{slice_get_within}
@@ -31,7 +32,8 @@ use Rattle.pair_book.proofs.Strangers.{one_there}
 use Rattle.pair_book.proofs.Transport.{same_left, pair_over, closed_grows}
 
 -- what is lawful stays so where a lawful entry is appended
-pub lawful_grows : (p : Presented) (base : ℕ) (es : List BasisEntry) (e : BasisEntry) → IsLawful p base es → e.source ≡ p → IsBasisEntry e → IsNextEntry (vectors_of es) e → IsLawful p base (es ++ e ∷ [])
+pub lawful_grows : (p : Presented) (base : ℕ) (es : List BasisEntry) (e : BasisEntry) → IsLawful p base es → e.source ≡ p → IsBasisEntry e
+    → IsNextEntry (vectors_of es) e → IsLawful p base (es ++ e ∷ [])
 lawful_grows p base es e l source entry next =
     let n = length-append es (e ∷ []) in
     record {
@@ -40,12 +42,14 @@ lawful_grows p base es e l source entry next =
       within = let w = l.within in omega (arith, n, w);
       begins = subst (AreBase p) (sym (take_left es (e ∷ []) base l.within)) l.begins;
       later = λ k x le s. elim (three k (length es)) [
-        | inl lt ↦ subst (λ (xs : List BasisEntry). IsNextEntry (vectors_of xs) x) (sym (take_left es (e ∷ []) k (omega (arith, lt)))) (l.later k x le (get_back es (e ∷ []) k x lt s))
+        | inl lt ↦ subst (λ (xs : List BasisEntry). IsNextEntry (vectors_of xs) x) (sym (take_left es (e ∷ []) k (omega (arith, lt))))
+            (l.later k x le (get_back es (e ∷ []) k x lt s))
         | inr q ↦ elim q [
           | inl eq ↦
               let same : x ≡ e = one_there (es ++ e ∷ []) (length es) x e (subst (λ (m : ℕ). slice_get (es ++ e ∷ []) m ≡ Some x) eq s) (get_end es e) in
               let taken : take k (es ++ e ∷ []) ≡ es = ap (λ m. take m (es ++ e ∷ [])) eq ∙ (take_left es (e ∷ []) (length es) (omega arith) ∙ take_whole es) in
-              subst (λ (y : BasisEntry). IsNextEntry (vectors_of (take k (es ++ e ∷ []))) y) (sym same) (subst (λ (xs : List BasisEntry). IsNextEntry (vectors_of xs) e) (sym taken) next)
+              subst (λ (y : BasisEntry). IsNextEntry (vectors_of (take k (es ++ e ∷ []))) y) (sym same)
+              (subst (λ (xs : List BasisEntry). IsNextEntry (vectors_of xs) e) (sym taken) next)
           | inr gt ↦ let w = slice_get_within (es ++ e ∷ []) k x s in absurd (omega (arith, gt, w, n))
         ]
       ];
@@ -64,7 +68,8 @@ seal_none : (h : Held) (seal : Option Seal) → seal ≡ None → IsSealedBy h s
 seal_none h None e = tt
 seal_none h (Some s) e = absurd (cc)
 
-pub book_grown : (h : Held) (e : BasisEntry) (commits : ℕ) → IsBook h → h.seal ≡ None → IsBasisEntry e → e.source ≡ h.source → IsShort e → IsNextEntry (vectors_of h.entries) e → Fits h e → commits ≤ h.commits + 1 →
+pub book_grown : (h : Held) (e : BasisEntry) (commits : ℕ) → IsBook h → h.seal ≡ None → IsBasisEntry e → e.source ≡ h.source → IsShort e
+    → IsNextEntry (vectors_of h.entries) e → Fits h e → commits ≤ h.commits + 1 →
     IsBook (record h { entries = h.entries ++ e ∷ []; tasks = grown h.tasks (settled_row h.entries e.vector); commits = commits })
 book_grown h e commits b fresh entry source short next fits more =
     let es = h.entries in
@@ -90,7 +95,9 @@ book_grown h e commits b fresh entry source short next fits more =
       room = b.room;
       truly = λ u k c pair. elim (older (length es) u (down u k)) [
         | inl o ↦
-            let old : IsPair (vectors_of es) u.i u.j = let w = o.1 in pair_back (vectors_of es) (e.vector ∷ []) u.i u.j o.0 (omega (arith, w, long)) (subst (λ (x : List (List Term)). IsPair x u.i u.j) v pair) in
+            let old : IsPair (vectors_of es) u.i u.j = let w = o.1
+            in pair_back (vectors_of es) (e.vector ∷ []) u.i u.j o.0 (omega (arith, w, long))
+            (subst (λ (x : List (List Term)). IsPair x u.i u.j) v pair) in
             subst (λ (x : List (List Term)). IsClosed x u.kind u.i u.j) (sym v) (closed_grows (vectors_of es) (e.vector ∷ []) u.kind u.i u.j old
             (b.truly u o (sym (ap is_unclosed (state_old h.tasks es e.vector u b.table (task_in h u b o))) ∙ c) old))
         | inr (j, i) ↦
@@ -100,7 +107,8 @@ book_grown h e commits b fresh entry source short next fits more =
       ];
       settled = λ u k. elim (older (length es) u (down u k)) [
         | inl o ↦ ap is_never (state_old h.tasks es e.vector u b.table (task_in h u b o)) ∙ (b.settled u o ∙ sym (settled_old es e u o))
-        | inr (j, i) ↦ ap is_never (state_new h.tasks es e.vector u b.table b.count j i) ∙ (first_never (settled_of u.kind (settled_by (lead_at (vectors_of es) u.i) (lead_of e.vector))) ∙ sym (settled_new es e u j i))
+        | inr (j, i) ↦ ap is_never (state_new h.tasks es e.vector u b.table b.count j i)
+            ∙ (first_never (settled_of u.kind (settled_by (lead_at (vectors_of es) u.i) (lead_of e.vector))) ∙ sym (settled_new es e u j i))
       ];
       commits = let s = sum_by-append closed_once h.tasks.states (row_states (settled_row es e.vector)) in let o = b.commits in omega (arith, n, s, o, more);
       seal = seal_none new h.seal fresh;
@@ -117,7 +125,8 @@ after_shut false h = cc
 pub book_closed : (h : Held) (t : Task) → IsBook h → MayCommit h t → IsClosed (vectors_of h.entries) t.kind t.i t.j → IsBook (closed_by h t)
 book_closed h t b may shown = book_put h t Closed (h.commits + 1) b may.0.0 (taken_unclosed (state_of h.tasks t) may.0.1) refl (λ _ _. shown) (omega arith)
 
-pub book_appended : (h : Held) (t : Task) (e : BasisEntry) (closed : Bool) → IsBook h → MayCommit h t → IsBasisEntry e → e.source ≡ h.source → IsShort e → IsNextEntry (vectors_of h.entries) e → Fits h e →
+pub book_appended : (h : Held) (t : Task) (e : BasisEntry) (closed : Bool) → IsBook h → MayCommit h t → IsBasisEntry e → e.source ≡ h.source → IsShort e
+    → IsNextEntry (vectors_of h.entries) e → Fits h e →
     (closed ≡ true → IsClosed (vectors_of (h.entries ++ e ∷ [])) t.kind t.i t.j) → IsBook (appended_by h t e closed)
 book_appended h t e closed b may entry source short next fits shown =
     let n = length-append h.entries (e ∷ []) in

@@ -13,6 +13,13 @@ use Rattle.pair_book.specs.Faults.{reduce_as_work}
 use Rattle.pair_book.specs.Works.{HaltsBy}
 use Rattle.pair_book.proofs.Reading.{take_whole}
 
-pub halts : (b : List (List Term)) (t : Task) (v : List Term) (n : ℕ) (fault : ReduceFault) (e : WorkFault) → IsPairVector t.kind b t.i t.j v → n ≡ length b → Fails (take n b) (coefficient_at v) fault → e ≡ reduce_as_work fault → HaltsBy b t e
-halts b t v n (of_reduction.Stop stop) e pair count fails is = subst (HaltsBy b t) (sym is) (inr (v, pair, subst (λ (c : List (List Term)). ChainStops c (coefficient_at v) stop) (ap (λ k. take k b) count ∙ take_whole b) fails))
+pub halts : (b : List (List Term)) (t : Task) (v : List Term) (n : ℕ) (fault : ReduceFault) (e : WorkFault) → IsPairVector t.kind b t.i t.j v → n ≡ length b
+    → Fails (take n b) (coefficient_at v) fault → e ≡ reduce_as_work fault → HaltsBy b t e
+halts b t v n (of_reduction.Stop stop) e pair count fails is =
+    subst (HaltsBy b t) (sym is) (inr (
+      v,
+      pair,
+      subst (λ (c : List (List Term)). ChainStops c (coefficient_at v) stop) (ap (λ k. take k b) count
+          ∙ take_whole b) fails,
+    ))
 halts b t v n of_reduction.NoMemory e pair count fails is = subst (HaltsBy b t) (sym is) tt

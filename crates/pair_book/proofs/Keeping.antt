@@ -1,5 +1,6 @@
 -- What a book keeps when states change.
-use Rattle.std.proofs.Common.{ℕ, ◌+◌, ◌≤◌, ◌≡◌, ◌⊎◌, inl, inr, arith, refl, sym, ap, ◌∙◌, List, [], ◌∷◌, length, map, Bool, true, false, Option, Some, None, subst, sum_by}
+use Rattle.std.proofs.Common.{ℕ, ◌+◌, ◌≤◌, ◌≡◌, ◌⊎◌, inl, inr, arith, refl, sym, ap, ◌∙◌, List, [], ◌∷◌, length, map, Bool, true, false, Option, Some, None}
+use Rattle.std.proofs.Common.{subst, sum_by}
 use Rattle.std.proofs.lemmas.List.{length-set, length-map}
 use Rattle.std.proofs.lemmas.List.Sums.{sum_by-set, sum_by-cons}
 use Rattle.outcomes.specs.declared.tasks.Task.{Task}
@@ -68,7 +69,8 @@ seal_gone : (h new : Held) (seal : Option Seal) → (NoneIs Unclosed h.tasks →
 seal_gone h new None open_one is = tt
 seal_gone h new (Some s) open_one is = absurd (open_one is.1)
 
-seal_kept : (h new : Held) (seal : Option Seal) → new.source ≡ h.source → new.entries ≡ h.entries → (NoneIs Unclosed h.tasks → NoneIs Unclosed new.tasks) → IsSealedBy h seal → IsSealedBy new seal
+seal_kept : (h new : Held) (seal : Option Seal) → new.source ≡ h.source → new.entries ≡ h.entries → (NoneIs Unclosed h.tasks → NoneIs Unclosed new.tasks)
+    → IsSealedBy h seal → IsSealedBy new seal
 seal_kept h new None p q keep is = tt
 seal_kept h new (Some s) p q keep is = (is.0 ∙ (λ i. record { source = sym p i; entries = sym q i }), keep is.1)
 
@@ -76,8 +78,10 @@ pub table_put : (tasks : Table) (t : Task) (s : TaskState) → IsTable tasks →
 table_put tasks t s h = record { states = length-set tasks.states (number_of t) s ∙ h.states; within = h.within; most = h.most }
 
 -- an unclosed task gets another state
-pub book_put : (h : Held) (t : Task) (s : TaskState) (commits : ℕ) → IsBook h → IsTask (length h.entries) t → is_unclosed (state_of h.tasks t) ≡ true → is_never s ≡ false →
-    (is_unclosed s ≡ false → IsPair (vectors_of h.entries) t.i t.j → IsClosed (vectors_of h.entries) t.kind t.i t.j) → commits ≤ h.commits + closed_once s → IsBook (record (with_state h t s) { commits = commits })
+pub book_put : (h : Held) (t : Task) (s : TaskState) (commits : ℕ) → IsBook h → IsTask (length h.entries) t → is_unclosed (state_of h.tasks t) ≡ true
+    → is_never s ≡ false →
+    (is_unclosed s ≡ false → IsPair (vectors_of h.entries) t.i t.j → IsClosed (vectors_of h.entries) t.kind t.i t.j) → commits ≤ h.commits + closed_once s
+    → IsBook (record (with_state h t s) { commits = commits })
 book_put h t s commits b k was never shown more =
     let m = task_in h t b k in
     record {
@@ -92,11 +96,13 @@ book_put h t s commits b k was never shown more =
       room = b.room;
       truly = λ u ku c. elim (put_read h.tasks t u s b.table m (task_in h u b ku)) [
         | inl e ↦ b.truly u ku (sym (ap is_unclosed e) ∙ c)
-        | inr (e, f) ↦ subst (λ (x : Task). IsPair (vectors_of h.entries) x.i x.j → IsClosed (vectors_of h.entries) x.kind x.i x.j) (sym e) (shown (sym (ap is_unclosed f) ∙ c))
+        | inr (e, f) ↦ subst (λ (x : Task). IsPair (vectors_of h.entries) x.i x.j
+            → IsClosed (vectors_of h.entries) x.kind x.i x.j) (sym e) (shown (sym (ap is_unclosed f) ∙ c))
       ];
       settled = λ u ku. elim (put_read h.tasks t u s b.table m (task_in h u b ku)) [
         | inl e ↦ ap is_never e ∙ b.settled u ku
-        | inr (e, f) ↦ ap is_never f ∙ (never ∙ (sym (not_never (state_of h.tasks t) was) ∙ (sym (ap (λ (z : Task). is_never (state_of h.tasks z)) e) ∙ b.settled u ku)))
+        | inr (e, f) ↦ ap is_never f ∙ (never ∙ (sym (not_never (state_of h.tasks t) was)
+            ∙ (sym (ap (λ (z : Task). is_never (state_of h.tasks z)) e) ∙ b.settled u ku)))
       ];
       commits = let w = number_within t h.tasks.count m in let r = b.table.states in
           let e = sum_by-set closed_once h.tasks.states (number_of t) s Never (omega (arith, w, r)) in
@@ -121,7 +127,8 @@ given_unclosed false = refl
 
 -- a taken task is given back
 pub book_given : (h : Held) (t : Task) (hard : Bool) → IsBook h → IsTaken h t → IsBook (with_state h t (given_state hard))
-book_given h t hard b k = book_put h t (given_state hard) h.commits b k.0 (taken_unclosed (state_of h.tasks t) k.1) (given_never hard) (λ e. absurd (no_true (is_unclosed (given_state hard)) (given_unclosed hard) e)) (omega arith)
+book_given h t hard b k = book_put h t (given_state hard) h.commits b k.0 (taken_unclosed (state_of h.tasks t) k.1) (given_never hard)
+    (λ e. absurd (no_true (is_unclosed (given_state hard)) (given_unclosed hard) e)) (omega arith)
 
 once_reopened : (from : Reopened) (s : TaskState) → closed_once (reopened from s) ≡ closed_once s
 once_reopened HardOnes Open = refl
@@ -165,8 +172,10 @@ book_reopened h from b = record {
   order = b.order;
   count = b.count;
   room = b.room;
-  truly = λ u k c. b.truly u k (sym (unclosed_reopened from (state_of h.tasks u)) ∙ (sym (ap is_unclosed (state_reopened from h.tasks.states (number_of u))) ∙ c));
+  truly = λ u k c. b.truly u k (sym (unclosed_reopened from (state_of h.tasks u))
+      ∙ (sym (ap is_unclosed (state_reopened from h.tasks.states (number_of u))) ∙ c));
   settled = λ u k. ap is_never (state_reopened from h.tasks.states (number_of u)) ∙ (is_never_reopened from (state_of h.tasks u) ∙ b.settled u k);
   commits = let e = once_all from h.tasks.states in let o = b.commits in omega (arith, e, o);
-  seal = seal_kept h (record h { tasks = reopen from h.tasks }) h.seal refl refl (λ n u k. ap is_unclosed (state_reopened from h.tasks.states (number_of u)) ∙ (unclosed_reopened from (state_of h.tasks u) ∙ n u k)) b.seal;
+  seal = seal_kept h (record h { tasks = reopen from h.tasks }) h.seal refl refl (λ n u k. ap is_unclosed (state_reopened from h.tasks.states (number_of u))
+      ∙ (unclosed_reopened from (state_of h.tasks u) ∙ n u k)) b.seal;
 }

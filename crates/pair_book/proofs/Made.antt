@@ -1,5 +1,6 @@
 -- What the work of a pair has made, over the list that it was worked by.
-use Rattle.std.proofs.Common.{◌≡◌, ◌≢◌, ◌≤◌, ◌+◌, Bool, true, false, MatchBool, pos, negsuc, ◌+ℤ◌, List, [], map, length, inl, inr, refl, sym, ap, subst, ◌∙◌, arith}
+use Rattle.std.proofs.Common.{◌≡◌, ◌≢◌, ◌≤◌, ◌+◌, Bool, true, false, MatchBool, pos, negsuc, ◌+ℤ◌, List, [], map, length, inl, inr, refl, sym, ap, subst, ◌∙◌}
+use Rattle.std.proofs.Common.{arith}
 use borrow.Author.Differences.{ints}
 use Rattle.std.specs.List.{AllByRecursion}
 use Rattle.formal_sums.specs.FormalSum.{scale}
@@ -38,7 +39,8 @@ use Rattle.pair_book.specs.Works.{IsUncovered, IsCarriedOut, IsOfRest, recipe_of
 use Rattle.pair_book.proofs.Turning.{steps_turned, stand_turned, falling_turned, length_turned, value_turned, nonzero_turned, reach_turned}
 use Rattle.pair_book.proofs.Chained.{IsSound, sound, nonzeros, reaches, factors, vector_stands, steps_stand, adds_all, end_stands}
 
-module _ (b : List (List Term)) (entries : AreEntries b) (t : Task) (pair : IsPair b t.i t.j) (un : IsUncovered b t) (first second : Step) (steps : List Step) (w : List Term) (done : IsCarriedOut b t first second steps w) where
+module _ (b : List (List Term)) (entries : AreEntries b) (t : Task) (pair : IsPair b t.i t.j) (un : IsUncovered b t) (first second : Step) (steps : List Step)
+    (w : List Term) (done : IsCarriedOut b t first second steps w) where
   abbrev p : Place
   p = pair_place b t.i t.j
 
@@ -61,7 +63,10 @@ module _ (b : List (List Term)) (entries : AreEntries b) (t : Task) (pair : IsPa
   recipe_value = record {
     vector = done.rest.vector;
     nonzero = (nonzero.0, (nonzero.1, nonzero_turned steps (nonzeros b steps all_sound)));
-    reach = (record { number = done.first_reach.number; room = done.first_reach.room }, (record { number = done.second_reach.number; room = done.second_reach.room }, reach_turned b steps (reaches b steps all_sound)));
+    reach = (
+      record { number = done.first_reach.number; room = done.first_reach.room },
+      (record { number = done.second_reach.number; room = done.second_reach.room }, reach_turned b steps (reaches b steps all_sound)),
+    );
     adds = adds_all b entries t.i t.j pair first second done.vector made steps w done.rest.runs;
   }
 
@@ -86,7 +91,8 @@ module _ (b : List (List Term)) (entries : AreEntries b) (t : Task) (pair : IsPa
     is = refl;
     pair = done.pair_steps;
     stand = stand_turned (StandsFor t.kind p) b steps stand;
-    falling = falling_turned b steps (chain_falls b entries (λ x. Unit {0}) (λ x y l h. tt) steps (coefficient_at done.vector) (coefficient_at w) everywhere chain);
+    falling = falling_turned b steps (chain_falls b entries (λ x. Unit {0}) (λ x y l h. tt) steps (coefficient_at done.vector) (coefficient_at w)
+        everywhere chain);
   }
     where
       everywhere : StandsAt (λ x. Unit {0}) (coefficient_at done.vector)
@@ -97,7 +103,8 @@ module _ (b : List (List Term)) (entries : AreEntries b) (t : Task) (pair : IsPa
   parts x = sym (made.1.is x) ∙ done.rest.sum x
 
   -- ---- the rest as an entry
-  pub signed_value : (negated : Bool) (v : List Term) → MatchBool negated (sum_of v ≡ scale (negsuc 0) (sum_of w)) (v ≡ w) → IsValue b (signed negated (recipe_of first second steps)) v
+  pub signed_value : (negated : Bool) (v : List Term) → MatchBool negated (sum_of v ≡ scale (negsuc 0) (sum_of w)) (v ≡ w)
+      → IsValue b (signed negated (recipe_of first second steps)) v
   signed_value true v e = value_turned b (recipe_of first second steps) w v e recipe_value
   signed_value false v e = subst (λ (u : List Term). IsValue b (recipe_of first second steps) u) (sym e) recipe_value
 
@@ -109,14 +116,17 @@ module _ (b : List (List Term)) (entries : AreEntries b) (t : Task) (pair : IsPa
   signed_are true = steps_turned b (recipe_of first second steps) recipe_steps_are
   signed_are false = recipe_steps_are
 
-  pub signed_has : (negated : Bool) (v : List Term) → MatchBool negated (sum_of v ≡ scale (negsuc 0) (sum_of w)) (v ≡ w) → Has v (steps_at b (signed negated (recipe_of first second steps)))
+  pub signed_has : (negated : Bool) (v : List Term) → MatchBool negated (sum_of v ≡ scale (negsuc 0) (sum_of w)) (v ≡ w)
+      → Has v (steps_at b (signed negated (recipe_of first second steps)))
   signed_has negated v e = values_are_sums b v (signed negated (recipe_of first second steps)) (signed_value negated v e)
 
-  pub signed_entry : (negated : Bool) (v : List Term) → w ≢ [] → has_negative_lead w ≡ negated → MatchBool negated (sum_of v ≡ scale (negsuc 0) (sum_of w)) (v ≡ w) → IsEntry v
+  pub signed_entry : (negated : Bool) (v : List Term) → w ≢ [] → has_negative_lead w ≡ negated
+      → MatchBool negated (sum_of v ≡ scale (negsuc 0) (sum_of w)) (v ≡ w) → IsEntry v
   signed_entry true v some sign e = turned_entry w v done.rest.vector some sign e
   signed_entry false v some sign e = subst IsEntry (sym e) (positive_entry w done.rest.vector some sign)
 
-  pub signed_recipe : (negated : Bool) (r : Recipe) → MatchBool negated (r ≡ Sum (map turned (recipe_of first second steps))) (r ≡ Sum (recipe_of first second steps)) → r ≡ Sum (signed negated (recipe_of first second steps))
+  pub signed_recipe : (negated : Bool) (r : Recipe) → MatchBool negated (r ≡ Sum (map turned (recipe_of first second steps))) (r
+      ≡ Sum (recipe_of first second steps)) → r ≡ Sum (signed negated (recipe_of first second steps))
   signed_recipe true r h = h
   signed_recipe false r h = h
 

@@ -1,5 +1,6 @@
 -- Entries that are collected by their marks.
-use Rattle.std.proofs.Common.{ℕ, zero, suc, ◌+◌, ◌<◌, ◌≤◌, ◌≡◌, ◌⊎◌, inl, inr, arith, refl, sym, ap, List, [], ◌∷◌, ◌++◌, length, Bool, true, false, Some, subst, get_or, set}
+use Rattle.std.proofs.Common.{ℕ, zero, suc, ◌+◌, ◌<◌, ◌≤◌, ◌≡◌, ◌⊎◌, inl, inr, arith, refl, sym, ap, List, [], ◌∷◌, ◌++◌, length, Bool, true, false, Some}
+use Rattle.std.proofs.Common.{subst, get_or, set}
 use Rattle.std.specs.List.{slice_get}
 use Rattle.std.proofs.lemmas.Option.{slice_get_within}
 use Rattle.basis_entry.specs.Entries.{BasisEntry}
@@ -71,7 +72,8 @@ module _ (es : List BasisEntry) (marks : List Bool) (n : ℕ) (used : List UsedE
       rising : AreRising (used ++ next n e ∷ [])
       rising m k u v l h g = by (last_or used (next n e) m u h) (last_or used (next n e) k v g)
         where
-          by : (slice_get used m ≡ Some u) ⊎ ((m ≡ length used) × (u ≡ next n e)) → (slice_get used k ≡ Some v) ⊎ ((k ≡ length used) × (v ≡ next n e)) → u.number < v.number
+          by : (slice_get used m ≡ Some u) ⊎ ((m ≡ length used) × (u ≡ next n e)) → (slice_get used k ≡ Some v) ⊎ ((k ≡ length used) × (v ≡ next n e))
+              → u.number < v.number
           by (inl p) (inl q) = is.rising m k u v l p q
           by (inl p) (inr (at, q)) = let b = is.low m u p in let s = ap (λ (z : UsedEntry). z.number) q in omega (arith, b, s)
           by (inr (at, p)) (inl q) = let w = slice_get_within used k v q in absurd (omega (arith, w, at, l))
@@ -103,7 +105,8 @@ module _ (es : List BasisEntry) (marks : List Bool) (n : ℕ) (used : List UsedE
           by (inr (inr above)) = absurd (omega (arith, above, l))
 
 -- all are collected
-pub all_marked : (es : List BasisEntry) (marks : List Bool) (n : ℕ) (used : List UsedEntry) → length marks ≤ n → AreMarkedBelow es marks n used → AreMarked es marks used
+pub all_marked : (es : List BasisEntry) (marks : List Bool) (n : ℕ) (used : List UsedEntry) → length marks ≤ n → AreMarkedBelow es marks n used
+    → AreMarked es marks used
 all_marked es marks n used long is = record {
   there = is.there;
   rising = is.rising;

@@ -1,5 +1,6 @@
 -- The book of the generator entries.
-use Rattle.std.proofs.Common.{ℕ, zero, suc, ◌<◌, ◌≤◌, ◌≡◌, ◌⊎◌, inl, inr, arith, refl, sym, ap, ◌∙◌, List, [], ◌∷◌, length, Bool, true, false, not, ◌||◌, Some, None, subst, eq-eqb}
+use Rattle.std.proofs.Common.{ℕ, zero, suc, ◌<◌, ◌≤◌, ◌≡◌, ◌⊎◌, inl, inr, arith, refl, sym, ap, ◌∙◌, List, [], ◌∷◌, length, Bool, true, false, not, ◌||◌, Some}
+use Rattle.std.proofs.Common.{None, subst, eq-eqb}
 use borrow.Author.Differences.{ints}
 use Rattle.std.proofs.lemmas.Bool.{eqb-true}
 use Rattle.std.proofs.lemmas.List.Sums.{sum_by-cons}
@@ -75,10 +76,13 @@ settled_closed b all t pair e = by_kind t.kind refl where
   settled k = settled_of k (settled_by (lead_at b t.i) (lead_at b t.j))
 
   by_kind : (k : PairKind) → t.kind ≡ k → IsClosed b t.kind t.i t.j
-  by_kind S s = absurd (not_same (lead_at b t.i).at.c (lead_at b t.j).at.c pair.component (sym (ap (λ (k : PairKind). settled_of k (settled_by (lead_at b t.i) (lead_at b t.j))) s) ∙ e))
+  by_kind S s = absurd (not_same (lead_at b t.i).at.c (lead_at b t.j).at.c pair.component
+      (sym (ap (λ (k : PairKind). settled_of k (settled_by (lead_at b t.i) (lead_at b t.j))) s) ∙ e))
   by_kind G g =
-      let f : settled_of G (settled_by (lead_at b t.i) (lead_at b t.j)) ≡ true = sym (ap (λ (k : PairKind). settled_of k (settled_by (lead_at b t.i) (lead_at b t.j))) g) ∙ e in
-      elim (either_true (not (nat_eq (lead_at b t.i).at.c (lead_at b t.j).at.c)) (divides_number (lead_at b t.i).k (lead_at b t.j).k || divides_number (lead_at b t.j).k (lead_at b t.i).k) f) [
+      let f : settled_of G (settled_by (lead_at b t.i) (lead_at b t.j)) ≡ true =
+      sym (ap (λ (k : PairKind). settled_of k (settled_by (lead_at b t.i) (lead_at b t.j))) g) ∙ e in
+      elim (either_true (not (nat_eq (lead_at b t.i).at.c (lead_at b t.j).at.c)) (divides_number (lead_at b t.i).k (lead_at b t.j).k || divides_number
+      (lead_at b t.j).k (lead_at b t.i).k) f) [
         | inl x ↦ absurd (not_same (lead_at b t.i).at.c (lead_at b t.j).at.c pair.component x)
         | inr x ↦ subst (λ (k : PairKind). IsClosed b k t.i t.j) (sym g) (closed_from_start b all G t.i t.j pair (divided x))
       ]
@@ -111,8 +115,17 @@ lawful_base p es base all = record {
   later = λ k e le s. let w = slice_get_within es k e s in absurd (omega (arith, le, w));
 }
 
-pub book_new : (p : Presented) (limits : Limits) (es : List BasisEntry) (tasks : Table) → AreBase p es → AllByRecursion IsBasisEntry es → AreNew es tasks → length es ≤ limits.entries → terms_of es ≤ limits.terms →
-    tasks.order ≡ limits.order → tasks.room ≡ limits.entries → IsBook (record { source = p; limits = limits; base = length es; entries = es; tasks = tasks; commits = 0; seal = None })
+pub book_new : (p : Presented) (limits : Limits) (es : List BasisEntry) (tasks : Table) → AreBase p es → AllByRecursion IsBasisEntry es → AreNew es tasks
+    → length es ≤ limits.entries → terms_of es ≤ limits.terms →
+    tasks.order ≡ limits.order → tasks.room ≡ limits.entries → IsBook (record {
+      source = p;
+      limits = limits;
+      base = length es;
+      entries = es;
+      tasks = tasks;
+      commits = 0;
+      seal = None;
+    })
 book_new p limits es tasks base all fresh few terms order room = record {
   lawful = lawful_base p es base all;
   short = all_from IsShort es (λ i e s. let z = base_steps p es base i e s in omega (arith, z));
@@ -123,7 +136,8 @@ book_new p limits es tasks base all fresh few terms order room = record {
   order = order;
   count = fresh.count;
   room = room;
-  truly = λ t k c pair. settled_closed (vectors_of es) (are_entries es all) t pair (first_shut (settled_at (vectors_of es) t) (sym (ap is_unclosed (fresh.each t k)) ∙ c));
+  truly = λ t k c pair. settled_closed (vectors_of es) (are_entries es all) t pair
+      (first_shut (settled_at (vectors_of es) t) (sym (ap is_unclosed (fresh.each t k)) ∙ c));
   settled = λ t k. ap is_never (fresh.each t k) ∙ first_never (settled_at (vectors_of es) t);
   commits = omega arith;
   seal = tt;
@@ -138,7 +152,8 @@ or_right true b e = refl
 or_right false b e = e
 
 -- the test of two leads is right
-pub settled_right : (b : List (List Term)) → AreEntries b → (kind : PairKind) (i j : ℕ) → IsPair b i j → (settled_of kind (settled_by (lead_at b i) (lead_at b j)) ≡ true) ↔ IsClosedFromStart b kind i j
+pub settled_right : (b : List (List Term)) → AreEntries b → (kind : PairKind) (i j : ℕ) → IsPair b i j
+    → (settled_of kind (settled_by (lead_at b i) (lead_at b j)) ≡ true) ↔ IsClosedFromStart b kind i j
 settled_right b all S i j pair = ((λ e. absurd (not_same (lead_at b i).at.c (lead_at b j).at.c pair.component e)), (λ h. absurd h))
 settled_right b all G i j pair = (forth, back) where
   first : pos 0 <ℤ (lead_at b i).k
@@ -159,7 +174,11 @@ settled_right b all G i j pair = (forth, back) where
   forth : (apart || (one || two)) ≡ true → IsClosedFromStart b G i j
   forth e = elim (either_true apart (one || two) e) [
     | inl x ↦ absurd (not_same (lead_at b i).at.c (lead_at b j).at.c pair.component x)
-    | inr x ↦ elim (either_true one two x) [ inl y ↦ inl (number_divides (lead_at b i).k (lead_at b j).k first second y) | inr y ↦ inr (number_divides (lead_at b j).k (lead_at b i).k second first y) ]
+    | inr x ↦ elim (either_true one two x) [
+      | inl y ↦ inl (number_divides (lead_at b i).k (lead_at b j).k first second y)
+      | inr y ↦ inr
+          (number_divides (lead_at b j).k (lead_at b i).k second first y)
+    ]
   ]
 
   back : IsClosedFromStart b G i j → (apart || (one || two)) ≡ true
@@ -172,12 +191,14 @@ differs m n false p ne = ap not p
 
 pub settled_apart : (d e : Term) (kind : PairKind) → (d.at.c ≡ e.at.c → ⊥) → settled_of kind (settled_by d e) ≡ true
 settled_apart d e S ne = differs d.at.c e.at.c (nat_eq d.at.c e.at.c) refl ne
-settled_apart d e G ne = or_left (not (nat_eq d.at.c e.at.c)) (divides_number d.k e.k || divides_number e.k d.k) (differs d.at.c e.at.c (nat_eq d.at.c e.at.c) refl ne)
+settled_apart d e G ne = or_left (not (nat_eq d.at.c e.at.c)) (divides_number d.k e.k || divides_number e.k d.k)
+    (differs d.at.c e.at.c (nat_eq d.at.c e.at.c) refl ne)
 
 -- limits on entries and terms that no generator entries pass
 pub within : (p : Presented) (limits : Limits) → IsPresented p → BASE ≤ limits.entries → BASE_TERMS ≤ limits.terms → AreWithin p limits
 within p limits h many long es base = (omega (arith, base.few, many), omega (arith, few_terms p es h base, long))
 
 -- what is true of one list of the generator entries is true of each
-pub each_within : (p : Presented) (limits : Limits) (es : List BasisEntry) → AreBase p es → length es ≤ limits.entries → terms_of es ≤ limits.terms → AreWithin p limits
+pub each_within : (p : Presented) (limits : Limits) (es : List BasisEntry) → AreBase p es → length es ≤ limits.entries → terms_of es ≤ limits.terms
+    → AreWithin p limits
 each_within p limits es base many long fs other = let like = bases_alike p es fs base other in (omega (arith, like.0, many), omega (arith, like.1, long))

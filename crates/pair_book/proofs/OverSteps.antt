@@ -1,5 +1,6 @@
 -- The steps that work makes are over the generators of the entries.
-use Rattle.std.proofs.Common.{◌≡◌, ◌≢◌, ◌⊎◌, inl, inr, ℕ, zero, suc, Bool, true, false, ℤ, pos, negsuc, ◌+ℤ◌, ◌-ℤ◌, List, [], ◌∷◌, map, refl, sym, subst, ◌∙◌, arith}
+use Rattle.std.proofs.Common.{◌≡◌, ◌≢◌, ◌⊎◌, inl, inr, ℕ, zero, suc, Bool, true, false, ℤ, pos, negsuc, ◌+ℤ◌, ◌-ℤ◌, List, [], ◌∷◌, map, refl, sym, subst, ◌∙◌}
+use Rattle.std.proofs.Common.{arith}
 use borrow.Author.Differences.{ints}
 use Rattle.std.proofs.Math.IntN.{+ℤ_idl}
 use Rattle.std.specs.List.{AllByRecursion}
@@ -68,15 +69,18 @@ module _ (n : ℕ) (b : List (List Term)) (entries : AreEntries b) (over : AllBy
 
   -- ---- the two steps of a pair
   abbrev place_over : (i j : ℕ) → MonoIsOver n (pair_place b i j).m
-  place_over i j = common_multiple_over n (lead_at b i).at.m (lead_at b j).at.m (lead_over n (vector_at b i) (vector_over n b i over)) (lead_over n (vector_at b j) (vector_over n b j over))
+  place_over i j = common_multiple_over n (lead_at b i).at.m (lead_at b j).at.m (lead_over n (vector_at b i) (vector_over n b i over))
+      (lead_over n (vector_at b j) (vector_over n b j over))
 
   pub first_over : (t : Task) (first second : Step) → ArePairSteps t.kind b t.i t.j first second → MonoIsOver n first.t
   first_over t first second are =
-      subst (MonoIsOver n) (sym are.first_monomial) (quotient_over n (pair_place b t.i t.j).m (lead_at b t.i).at.m (place_over t.i t.j) (lead_over n (vector_at b t.i) (vector_over n b t.i over)))
+      subst (MonoIsOver n) (sym are.first_monomial) (quotient_over n (pair_place b t.i t.j).m (lead_at b t.i).at.m (place_over t.i t.j)
+      (lead_over n (vector_at b t.i) (vector_over n b t.i over)))
 
   pub second_over : (t : Task) (first second : Step) → ArePairSteps t.kind b t.i t.j first second → MonoIsOver n second.t
   second_over t first second are =
-      subst (MonoIsOver n) (sym are.second_monomial) (quotient_over n (pair_place b t.i t.j).m (lead_at b t.j).at.m (place_over t.i t.j) (lead_over n (vector_at b t.j) (vector_over n b t.j over)))
+      subst (MonoIsOver n) (sym are.second_monomial) (quotient_over n (pair_place b t.i t.j).m (lead_at b t.j).at.m (place_over t.i t.j)
+      (lead_over n (vector_at b t.j) (vector_over n b t.j over)))
 
   pub both_supported : (first second : Step) → MonoIsOver n first.t → MonoIsOver n second.t → IsSupported n (both_at b first second)
   unfolding IsSupported
@@ -86,7 +90,8 @@ module _ (n : ℕ) (b : List (List Term)) (entries : AreEntries b) (over : AllBy
   pub pair_supported : (t : Task) (v : List Term) → IsPairVector t.kind b t.i t.j v → IsSupported n (coefficient_at v)
   unfolding IsSupported
   pair_supported t v pair x some =
-      both_supported pair.first pair.second (first_over t pair.first pair.second pair.steps) (second_over t pair.first pair.second pair.steps) x (λ z. some (pair.made.1.is x ∙ z))
+      both_supported pair.first pair.second (first_over t pair.first pair.second pair.steps) (second_over t pair.first pair.second pair.steps) x
+      (λ z. some (pair.made.1.is x ∙ z))
 
   -- ---- chains
   pub next_over : (f : Coefficients) (s : Step) → IsSupported n f → IsNext b f s → MonoIsOver n s.t
@@ -96,7 +101,8 @@ module _ (n : ℕ) (b : List (List Term)) (entries : AreEntries b) (over : AllBy
       let of : MonoIsOver n next.lead.at.m = reducer_over b s.by over next.due.reducer.entry in
       subst (MonoIsOver n) (sym next.monomial) (quotient_over n next.place.m next.lead.at.m here.mono of)
     where
-      reducer_over : (c : List (List Term)) (i : ℕ) → AllByRecursion (VectorIsOver n) c → slice_get c i ≡ Some (next.lead ∷ next.others) → MonoIsOver n next.lead.at.m
+      reducer_over : (c : List (List Term)) (i : ℕ) → AllByRecursion (VectorIsOver n) c → slice_get c i ≡ Some (next.lead ∷ next.others)
+          → MonoIsOver n next.lead.at.m
       reducer_over [] i all is = absurd cc
       reducer_over (u ∷ c) zero all is = let e : u ≡ next.lead ∷ next.others = cc in (subst (VectorIsOver n) e all.0).0.mono
       reducer_over (u ∷ c) (suc i) all is = reducer_over c i all.1 is
@@ -127,7 +133,8 @@ module _ (n : ℕ) (b : List (List Term)) (entries : AreEntries b) (over : AllBy
   signed_by true ss h = turned_over ss h
   signed_by false ss h = h
 
-  pub signed_over : (t : Task) (first second : Step) (steps : List Step) (w : List Term) → IsCarriedOut b t first second steps w → (negated : Bool) → MonosAreOver n (signed negated (recipe_of first second steps))
+  pub signed_over : (t : Task) (first second : Step) (steps : List Step) (w : List Term) → IsCarriedOut b t first second steps w → (negated : Bool)
+      → MonosAreOver n (signed negated (recipe_of first second steps))
   signed_over t first second steps w done negated =
       signed_by negated (recipe_of first second steps) (
         first_over t first second done.pair_steps,

@@ -23,13 +23,18 @@ use Rattle.pair_book.specs.Logs.{turned, StandsFor, IsPairRecipe, IsFromPair, Is
 use Rattle.pair_book.specs.Outcomes.{UsedEntry, AllThere, Zeroes, IsRestOf}
 use Rattle.pair_book.specs.Works.{IsUncovered, IsCarriedOut, IsOfRest, IsAmong, recipe_of, signed}
 use Rattle.pair_book.proofs.Reading.{vector_of, all_from}
-use Rattle.pair_book.proofs.Transport.{Same, AllSame, place_same, pair_over, pair_steps_over, both_same, steps_same, stand_over, places_same, value_over, covers_over}
+use Rattle.pair_book.proofs.Transport.{Same, AllSame, place_same, pair_over, pair_steps_over, both_same, steps_same, stand_over, places_same, value_over}
+use Rattle.pair_book.proofs.Transport.{covers_over}
 use Rattle.pair_book.proofs.Made.{made_for, short, kind_s, stand_s, rest_below, parts, zero_s, not_g, signed_entry}
 use Rattle.pair_book.proofs.Appended.{at_lead, closes}
 
 -- both lists have the entry that has been used
-same_among : (es fs : List BasisEntry) (used : List UsedEntry) → AllThere es used → AllThere fs used → (n : ℕ) → IsAmong used n → Same (vectors_of es) (vectors_of fs) n
-same_among es fs used here there n (m, u, get, e) = subst (Same (vectors_of es) (vectors_of fs)) e (omega (arith, within, long), vector_of fs u.number u.entry (there m u get) ∙ sym (vector_of es u.number u.entry (here m u get)))
+same_among : (es fs : List BasisEntry) (used : List UsedEntry) → AllThere es used → AllThere fs used → (n : ℕ) → IsAmong used n
+    → Same (vectors_of es) (vectors_of fs) n
+same_among es fs used here there n (m, u, get, e) = subst (Same (vectors_of es) (vectors_of fs)) e (
+  omega (arith, within, long),
+  vector_of fs u.number u.entry (there m u get) ∙ sym (vector_of es u.number u.entry (here m u get)),
+)
   where
     within : u.number < length fs
     within = slice_get_within fs u.number u.entry (there m u get)
@@ -37,8 +42,10 @@ same_among es fs used here there n (m, u, get, e) = subst (Same (vectors_of es) 
     long : length (vectors_of fs) ≡ length fs
     long = length-map fs (λ (e : BasisEntry). e.vector)
 
-same_steps_among : (es fs : List BasisEntry) (used : List UsedEntry) → AllThere es used → AllThere fs used → (ss : List Step) → ((k : ℕ) (s : Step) → slice_get ss k ≡ Some s → IsAmong used s.by) → AllSame (vectors_of es) (vectors_of fs) ss
-same_steps_among es fs used here there ss h = all_from (λ s. Same (vectors_of es) (vectors_of fs) s.by) ss (λ k s get. same_among es fs used here there s.by (h k s get))
+same_steps_among : (es fs : List BasisEntry) (used : List UsedEntry) → AllThere es used → AllThere fs used → (ss : List Step)
+    → ((k : ℕ) (s : Step) → slice_get ss k ≡ Some s → IsAmong used s.by) → AllSame (vectors_of es) (vectors_of fs) ss
+same_steps_among es fs used here there ss h = all_from (λ s. Same (vectors_of es) (vectors_of fs) s.by) ss
+    (λ k s get. same_among es fs used here there s.by (h k s get))
 
 -- ---- over to another list
 
@@ -69,7 +76,8 @@ module _ (b c : List (List Term)) (i j : ℕ) (hi : Same b c i) (hj : Same b c j
     further = r.further;
     is = r.is;
     pair = pair_steps_over kind b c i j r.first r.second hi hj r.pair;
-    stand = subst (λ p. AreStepsAt (StandsFor kind p) c r.further) place (stand_over (StandsFor kind (pair_place b i j)) b c r.further (further_same kind ss all r) r.stand);
+    stand = subst (λ p. AreStepsAt (StandsFor kind p) c r.further) place (stand_over (StandsFor kind (pair_place b i j)) b c r.further
+        (further_same kind ss all r) r.stand);
     falling = subst (Falling IsBelow) (places_same b c r.further (further_same kind ss all r)) r.falling;
   }
 
@@ -81,13 +89,20 @@ module _ (b c : List (List Term)) (i j : ℕ) (hi : Same b c i) (hj : Same b c j
       back [] h = tt
       back (x ∷ xs) h = (h.0, back xs h.1)
 
-made_over : (b c : List (List Term)) (t : Task) (e : BasisEntry) → Same b c t.i → Same b c t.j → (made : IsMadeFor b t e) → AllSame b c made.steps → IsMadeFor c t e
-made_over b c t e hi hj made all = record { steps = made.steps; recipe = made.recipe; value = value_over b c made.steps e.vector all made.value; from = from_over b c t.i t.j hi hj t.kind made.steps all made.from }
+made_over : (b c : List (List Term)) (t : Task) (e : BasisEntry) → Same b c t.i → Same b c t.j → (made : IsMadeFor b t e) → AllSame b c made.steps
+    → IsMadeFor c t e
+made_over b c t e hi hj made all = record {
+  steps = made.steps;
+  recipe = made.recipe;
+  value = value_over b c made.steps e.vector all made.value;
+  from = from_over b c t.i t.j hi hj t.kind made.steps all made.from;
+}
 
 -- ---- the outcomes
 
 -- the work of a task by a list: the pair's entries are used
-module _ (es : List BasisEntry) (t : Task) (used : List UsedEntry) (there : AllThere es used) (first_used : IsAmong used t.i) (second_used : IsAmong used t.j) (pair : IsPair (vectors_of es) t.i t.j) (fs : List BasisEntry) (others : AllThere fs used) where
+module _ (es : List BasisEntry) (t : Task) (used : List UsedEntry) (there : AllThere es used) (first_used : IsAmong used t.i) (second_used : IsAmong used t.j)
+    (pair : IsPair (vectors_of es) t.i t.j) (fs : List BasisEntry) (others : AllThere fs used) where
   abbrev b : List (List Term)
   b = vectors_of es
 
@@ -106,7 +121,8 @@ module _ (es : List BasisEntry) (t : Task) (used : List UsedEntry) (there : AllT
   pub covered_there : (by : ℕ) → IsAmong used by → Covers b t.i t.j by → Covers c t.i t.j by
   covered_there by among covers = covers_over b c t.i t.j by i_same j_same (same_among es fs used there others by among) covers
 
-  module _ (entries : AllByRecursion IsBasisEntry es) (un : IsUncovered b t) (first second : Step) (steps : List Step) (w : List Term) (done : IsCarriedOut b t first second steps w) (steps_used : (k : ℕ) (s : Step) → slice_get steps k ≡ Some s → IsAmong used s.by) where
+  module _ (entries : AllByRecursion IsBasisEntry es) (un : IsUncovered b t) (first second : Step) (steps : List Step) (w : List Term)
+      (done : IsCarriedOut b t first second steps w) (steps_used : (k : ℕ) (s : Step) → slice_get steps k ≡ Some s → IsAmong used s.by) where
     are : AreEntries b
     are = are_entries es entries
 
@@ -124,7 +140,13 @@ module _ (es : List BasisEntry) (t : Task) (used : List UsedEntry) (there : AllT
         by G k = absurd (not_g b are t pair un first second steps w done e k)
 
     recipe_same : AllSame b c (recipe_of first second steps)
-    recipe_same = (subst (Same b c) (sym done.pair_steps.first_number) i_same, (subst (Same b c) (sym done.pair_steps.second_number) j_same, all_turned b c steps all))
+    recipe_same = (
+      subst (Same b c) (sym done.pair_steps.first_number) i_same,
+      (
+        subst (Same b c) (sym done.pair_steps.second_number) j_same,
+        all_turned b c steps all,
+      ),
+    )
 
     signed_same : (negated : Bool) → AllSame b c (signed negated (recipe_of first second steps))
     signed_same true = all_turned b c (recipe_of first second steps) recipe_same
@@ -146,8 +168,11 @@ module _ (es : List BasisEntry) (t : Task) (used : List UsedEntry) (there : AllT
             closes c t.i t.j pair_there first second
             (pair_steps_over S b c t.i t.j first second i_same j_same steps_s)
             steps
-            (subst (λ p. AreStepsBelow c p steps) (place_same b c t.i t.j i_same j_same) (stand_over (λ x. IsBelow x (pair_place b t.i t.j)) b c steps all (stand_s b are t pair un first second steps w done k)))
+            (subst (λ p. AreStepsBelow c p steps) (place_same b c t.i t.j i_same j_same)
+            (stand_over (λ x. IsBelow x (pair_place b t.i t.j)) b c steps all (stand_s b are t pair un first second steps w done k)))
             w e.vector
-            (λ x. sym (both_same S b c t.i t.j first second i_same j_same steps_s x) ∙ parts b are t pair un first second steps w done x ∙ ap (λ z. z +ℤ coefficient_at w x) (steps_same b c steps all x))
+            (λ x. sym (both_same S b c t.i t.j first second i_same j_same steps_s x) ∙ parts b are t pair un first second steps w done x
+            ∙ ap (λ z. z +ℤ coefficient_at w x) (steps_same b c steps all x))
             (has_negative_lead w) is.vector entry
-            (subst (IsBelow (lead_of e.vector).at) (place_same b c t.i t.j i_same j_same) (rest_below b are t pair un first second steps w done k (lead_of e.vector).at (at_lead (has_negative_lead w) w e.vector entry is.vector)).1)
+            (subst (IsBelow (lead_of e.vector).at) (place_same b c t.i t.j i_same j_same)
+            (rest_below b are t pair un first second steps w done k (lead_of e.vector).at (at_lead (has_negative_lead w) w e.vector entry is.vector)).1)

@@ -17,7 +17,8 @@ one_there [] i x y p q = absurd (omega (arith, slice_get_within [] i x p))
 one_there (z ∷ xs) zero x y p q = let e : z ≡ x = cc in let f : z ≡ y = cc in sym e ∙ f
 one_there (z ∷ xs) (suc i) x y p q = one_there xs i x y p q
 
-pub stranger_at : (es : List BasisEntry) (used : List UsedEntry) (i : ℕ) (one : UsedEntry) → AreRising used → slice_get used i ≡ Some one → (IsThere es one → ⊥) →
+pub stranger_at : (es : List BasisEntry) (used : List UsedEntry) (i : ℕ) (one : UsedEntry) → AreRising used → slice_get used i ≡ Some one
+    → (IsThere es one → ⊥) →
     ((m : ℕ) (u : UsedEntry) → m < i → slice_get used m ≡ Some u → IsThere es u) → IsStranger es used one.number
 stranger_at es used i one rising found differs before = record {
   place = i;
@@ -36,7 +37,8 @@ stranger_at es used i one rising found differs before = record {
 }
 
 pub there_more : (es : List BasisEntry) (used : List UsedEntry) (i : ℕ) (one : UsedEntry) → slice_get used i ≡ Some one → IsThere es one →
-    ((m : ℕ) (u : UsedEntry) → m < i → slice_get used m ≡ Some u → IsThere es u) → (m : ℕ) (u : UsedEntry) → m < i + 1 → slice_get used m ≡ Some u → IsThere es u
+    ((m : ℕ) (u : UsedEntry) → m < i → slice_get used m ≡ Some u → IsThere es u) → (m : ℕ) (u : UsedEntry) → m < i + 1 → slice_get used m ≡ Some u
+    → IsThere es u
 there_more es used i one found there before m u lt s = elim (three m i) [
   | inl p ↦ before m u p s
   | inr q ↦ elim q [
@@ -45,5 +47,6 @@ there_more es used i one found there before m u lt s = elim (three m i) [
   ]
 ]
 
-pub there_all : (es : List BasisEntry) (used : List UsedEntry) (i : ℕ) → length used ≤ i → ((m : ℕ) (u : UsedEntry) → m < i → slice_get used m ≡ Some u → IsThere es u) → AllThere es used
+pub there_all : (es : List BasisEntry) (used : List UsedEntry) (i : ℕ) → length used ≤ i
+    → ((m : ℕ) (u : UsedEntry) → m < i → slice_get used m ≡ Some u → IsThere es u) → AllThere es used
 there_all es used i h before m u s = let w = slice_get_within used m u s in before m u (omega (arith, h, w)) s

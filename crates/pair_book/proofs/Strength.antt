@@ -30,7 +30,8 @@ up_to_sign : (b : Bool) (g v : List Term) → MatchBool b (sum_of v ≡ scale (n
 up_to_sign true g v h = inr h
 up_to_sign false g v h = inl h
 
-member_at : (p : Presented) (es : List BasisEntry) → AllByRecursion IsBasisEntry es → AreOf p es → (j : ℕ) → j < length (vectors_of es) → IsMember p (sum_of (vector_at (vectors_of es) j))
+member_at : (p : Presented) (es : List BasisEntry) → AllByRecursion IsBasisEntry es → AreOf p es → (j : ℕ) → j < length (vectors_of es)
+    → IsMember p (sum_of (vector_at (vectors_of es) j))
 member_at p [] all of j h = absurd (omega (arith, h))
 member_at p (e ∷ es) all of zero h = subst (λ (q : Presented). IsMember q (sum_of e.vector)) of.0 all.0.member
 member_at p (e ∷ es) all of (suc j) h = member_at p es all.1 of.1 j (omega (arith, h))
@@ -45,8 +46,12 @@ generating p base es l = record {
       let there = get_take base i es s.0 s.1 in
       let same = vector_of es i s.0 there in
       let long = length-map es (λ (e : BasisEntry). e.vector) in
-      let within = slice_get_within es i s.0 there in
-      (i, omega (arith, within, long), subst (λ (v : List Term). IsUpToSign (vector_at l.begins.gens i) v) (sym same) (up_to_sign (has_negative_lead (vector_at l.begins.gens i)) (vector_at l.begins.gens i) s.0.vector of.vector));
+      let within = slice_get_within es i s.0 there in (
+        i,
+        omega (arith, within, long),
+        subst (λ (v : List Term). IsUpToSign (vector_at l.begins.gens i) v) (sym same)
+            (up_to_sign (has_negative_lead (vector_at l.begins.gens i)) (vector_at l.begins.gens i) s.0.vector of.vector),
+      );
   others = λ j lt. inr (member_listed p l.begins.gens (sum_of (vector_at (vectors_of es) j)) l.begins.generators (member_at p es l.entries l.source j lt));
 }
 

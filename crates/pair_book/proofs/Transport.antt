@@ -34,15 +34,22 @@ pub place_same : (b c : List (List Term)) (i j : ℕ) → Same b c i → Same b 
 place_same b c i j h k = λ x. meeting_place (lead_same b c i h x) (lead_same b c j k x)
 
 pub pair_over : (b c : List (List Term)) (i j : ℕ) → Same b c i → Same b c j → IsPair b i j → IsPair c i j
-pair_over b c i j h k p = record { order = p.order; within = k.0; component = sym (ap (λ (t : Term). t.at.c) (lead_same b c i h)) ∙ (p.component ∙ ap (λ (t : Term). t.at.c) (lead_same b c j k)) }
+pair_over b c i j h k p = record {
+  order = p.order;
+  within = k.0;
+  component = sym (ap (λ (t : Term). t.at.c) (lead_same b c i h))
+      ∙ (p.component ∙ ap (λ (t : Term). t.at.c) (lead_same b c j k));
+}
 
-pub pair_steps_over : (kind : PairKind) (b c : List (List Term)) (i j : ℕ) (first second : Step) → Same b c i → Same b c j → ArePairSteps kind b i j first second → ArePairSteps kind c i j first second
+pub pair_steps_over : (kind : PairKind) (b c : List (List Term)) (i j : ℕ) (first second : Step) → Same b c i → Same b c j
+    → ArePairSteps kind b i j first second → ArePairSteps kind c i j first second
 pair_steps_over kind b c i j first second h k a =
     let e = lead_same b c i h in
     let f = lead_same b c j k in
     let p = place_same b c i j h k in
     record {
-      factors = subst (λ (t : Term). AreFactors kind t.k (lead_at c j).k first.q second.q) e (subst (λ (t : Term). AreFactors kind (lead_at b i).k t.k first.q second.q) f a.factors);
+      factors = subst (λ (t : Term). AreFactors kind t.k (lead_at c j).k first.q second.q) e
+          (subst (λ (t : Term). AreFactors kind (lead_at b i).k t.k first.q second.q) f a.factors);
       first_monomial = a.first_monomial ∙ (λ x. quotient (p x).m (e x).at.m);
       second_monomial = a.second_monomial ∙ (λ x. quotient (p x).m (f x).at.m);
       first_number = a.first_number;
@@ -52,7 +59,8 @@ pair_steps_over kind b c i j first second h k a =
 taken_same : (b c : List (List Term)) (s : Step) → Same b c s.by → taken_at b s ≡ taken_at c s
 taken_same b c s h = ap (multiple_at s.q s.t) (sym h.1)
 
-pub both_same : (kind : PairKind) (b c : List (List Term)) (i j : ℕ) (first second : Step) → Same b c i → Same b c j → ArePairSteps kind b i j first second → (x : Place) → both_at b first second x ≡ both_at c first second x
+pub both_same : (kind : PairKind) (b c : List (List Term)) (i j : ℕ) (first second : Step) → Same b c i → Same b c j → ArePairSteps kind b i j first second
+    → (x : Place) → both_at b first second x ≡ both_at c first second x
 both_same kind b c i j first second h k a x =
     let one : Same b c first.by = subst (Same b c) (sym a.first_number) h in
     let two : Same b c second.by = subst (Same b c) (sym a.second_number) k in
@@ -95,13 +103,19 @@ reach_over b c [] h a = tt
 reach_over b c (s ∷ ss) h a = (record { number = h.0.0; room = subst (HasRoom s.t) (sym h.0.1) a.0.room }, reach_over b c ss h.1 a.1)
 
 pub value_over : (b c : List (List Term)) (ss : List Step) (v : List Term) → AllSame b c ss → IsValue b ss v → IsValue c ss v
-value_over b c ss v h a = record { vector = a.vector; nonzero = a.nonzero; reach = reach_over b c ss h a.reach; adds = adds_over b c ss zero_vector (coefficient_at v) h a.adds }
+value_over b c ss v h a = record {
+  vector = a.vector;
+  nonzero = a.nonzero;
+  reach = reach_over b c ss h a.reach;
+  adds = adds_over b c ss zero_vector (coefficient_at v) h a.adds;
+}
 
 pub covers_over : (b c : List (List Term)) (i j k : ℕ) → Same b c i → Same b c j → Same b c k → Covers b i j k → Covers c i j k
 covers_over b c i j k h l m a = (
   m.0,
   subst (λ (t : Term). CoversLeads (lead_at c k) t (lead_at c j)) (lead_same b c i h)
-      (subst (λ (t : Term). CoversLeads (lead_at c k) (lead_at b i) t) (lead_same b c j l) (subst (λ (t : Term). CoversLeads t (lead_at b i) (lead_at b j)) (lead_same b c k m) a.1)),
+      (subst (λ (t : Term). CoversLeads (lead_at c k) (lead_at b i) t) (lead_same b c j l)
+      (subst (λ (t : Term). CoversLeads t (lead_at b i) (lead_at b j)) (lead_same b c k m) a.1)),
 )
 
 -- ---- lists that have grown

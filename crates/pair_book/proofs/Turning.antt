@@ -1,5 +1,6 @@
 -- Steps with their signs turned, and what they add up to.
-use Rattle.std.proofs.Common.{◌≡◌, ◌≢◌, ℕ, suc, ◌≤◌, ℤ, pos, negsuc, neg_ℤ, ◌+ℤ◌, ◌-ℤ◌, ◌*ℤ◌, List, [], ◌∷◌, map, length, inl, inr, refl, sym, ap, subst, ◌∙◌, arith}
+use Rattle.std.proofs.Common.{◌≡◌, ◌≢◌, ℕ, suc, ◌≤◌, ℤ, pos, negsuc, neg_ℤ, ◌+ℤ◌, ◌-ℤ◌, ◌*ℤ◌, List, [], ◌∷◌, map, length, inl, inr, refl, sym, ap, subst, ◌∙◌}
+use Rattle.std.proofs.Common.{arith}
 use borrow.Author.Differences.{ints}
 use Rattle.std.specs.List.{AllByRecursion}
 use Rattle.formal_sums.specs.FormalSum.{Falling, AllBelow, coefficient, scale}
@@ -74,7 +75,13 @@ terms_turned f n short h = record {
 pub adds_negative : (b : List (List Term)) (ss : List Step) (f g : Coefficients) → Adds b f ss g → Adds b (negative f) (map turned ss) (negative g)
 adds_negative b [] f g h = λ x. ap neg_ℤ (h x)
 adds_negative b (s ∷ ss) f g h = (
-  record { narrow = narrow; count = h.0.count; terms = subst (λ (z : Coefficients). HasTerms z h.0.count) same (terms_turned (passed Add b f s) h.0.count h.0.short h.0.terms); short = h.0.short },
+  record {
+    narrow = narrow;
+    count = h.0.count;
+    terms = subst (λ (z : Coefficients). HasTerms z h.0.count) same
+        (terms_turned (passed Add b f s) h.0.count h.0.short h.0.terms);
+    short = h.0.short;
+  },
   subst (λ (z : Coefficients). Adds b z (map turned ss) (negative g)) same (adds_negative b ss (passed Add b f s) g h.1),
 )
   where
@@ -125,10 +132,12 @@ length_turned [] = refl
 length_turned (s ∷ ss) = ap suc (length_turned ss)
 
 -- the value of a recipe with all signs turned
-pub value_turned : (b : List (List Term)) (ss : List Step) (v w : List Term) → sum_of w ≡ scale (negsuc 0) (sum_of v) → IsValue b ss v → IsValue b (map turned ss) w
+pub value_turned : (b : List (List Term)) (ss : List Step) (v w : List Term) → sum_of w ≡ scale (negsuc 0) (sum_of v) → IsValue b ss v
+    → IsValue b (map turned ss) w
 value_turned b ss v w e h = record {
   vector = turned_vector v w e h.vector;
   nonzero = nonzero_turned ss h.nonzero;
   reach = reach_turned b ss h.reach;
-  adds = subst (λ (z : Coefficients). Adds b (negative zero_vector) (map turned ss) z) (λ i x. sym (at_turned v w e x) i) (adds_negative b ss zero_vector (coefficient_at v) h.adds);
+  adds = subst (λ (z : Coefficients). Adds b (negative zero_vector) (map turned ss) z) (λ i x. sym (at_turned v w e x) i)
+      (adds_negative b ss zero_vector (coefficient_at v) h.adds);
 }

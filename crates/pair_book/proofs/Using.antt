@@ -1,5 +1,6 @@
 -- Which entries an outcome says were used: those that its pair and its close name.
-use Rattle.std.proofs.Common.{◌≡◌, ◌≢◌, ◌⊎◌, ◌↔◌, inl, inr, ℕ, zero, suc, Bool, true, false, MatchBool, List, [], ◌∷◌, ◌++◌, map, Contains, Some, refl, sym, ap, subst, ◌∙◌, arith}
+use Rattle.std.proofs.Common.{◌≡◌, ◌≢◌, ◌⊎◌, ◌↔◌, inl, inr, ℕ, zero, suc, Bool, true, false, MatchBool, List, [], ◌∷◌, ◌++◌, map, Contains, Some, refl, sym, ap}
+use Rattle.std.proofs.Common.{subst, ◌∙◌, arith}
 use Rattle.std.proofs.lemmas.List.Elements.{Contains-append_cases, Contains-append_left, Contains-append_right}
 use Rattle.std.proofs.lemmas.Option.{slice_get_within, slice_get-map, get_or_from_slice_get}
 use Rattle.std.specs.List.{slice_get}
@@ -83,7 +84,8 @@ signed_numbers : (b : Bool) (r : Recipe) (steps : List Step) → MatchBool b (r 
 signed_numbers true r steps is = ap recipe_numbers is ∙ turned_numbers steps
 signed_numbers false r steps is = ap recipe_numbers is
 
-pub rest_numbers : (p : Presented) (b : List (List Term)) (t : Task) (first second : Step) (steps : List Step) (w : List Term) (e : BasisEntry) → ArePairSteps t.kind b t.i t.j first second
+pub rest_numbers : (p : Presented) (b : List (List Term)) (t : Task) (first second : Step) (steps : List Step) (w : List Term) (e : BasisEntry)
+    → ArePairSteps t.kind b t.i t.j first second
     → IsOfRest p w (recipe_of first second steps) e → recipe_numbers e.recipe ≡ t.i ∷ (t.j ∷ numbers_of steps)
 rest_numbers p b t first second steps w e pair is =
     signed_numbers (has_negative_lead w) e.recipe (recipe_of first second steps) is.recipe
@@ -119,13 +121,18 @@ pub same_numbers : (ms ns : List ℕ) → ms ≡ ns → (n : ℕ) → Contains m
 same_numbers ms ns e n = (λ c. subst (λ (ks : List ℕ). Contains ks n) e c, λ c. subst (λ (ks : List ℕ). Contains ks n) (sym e) c)
 
 pub named_twice : (t : Task) (ms ns rs : List ℕ) → ms ≡ t.i ∷ (t.j ∷ ns) → rs ≡ t.i ∷ (t.j ∷ ns) → (n : ℕ) → Contains ms n ↔ Contains (t.i ∷ (t.j ∷ rs)) n
-named_twice t ms ns rs e f n = subst (λ (ks : List ℕ). Contains ms n ↔ Contains (t.i ∷ (t.j ∷ ks)) n) (sym f) (subst (λ (ks : List ℕ). Contains ks n ↔ Contains (t.i ∷ (t.j ∷ (t.i ∷ (t.j ∷ ns)))) n) (sym e) (twice t.i t.j n ns))
+named_twice t ms ns rs e f n = subst (λ (ks : List ℕ). Contains ms n ↔ Contains (t.i ∷ (t.j ∷ ks)) n) (sym f)
+    (subst (λ (ks : List ℕ). Contains ks n ↔ Contains (t.i ∷ (t.j ∷ (t.i ∷ (t.j ∷ ns)))) n) (sym e) (twice t.i t.j n ns))
 
 -- ---- what is marked was named
-pub used_by_marks : (es : List BasisEntry) (numbers : List ℕ) (steps : List Step) (before mid marks : List Bool) (used : List UsedEntry) → ((n : ℕ) → slice_get before n ≢ Some true)
-    → ((k n : ℕ) → slice_get numbers k ≡ Some n → slice_get mid n ≡ Some true) → ((n : ℕ) → slice_get mid n ≡ Some true → (slice_get before n ≡ Some true) ⊎ Contains numbers n)
-    → ((k : ℕ) (s : Step) → slice_get steps k ≡ Some s → slice_get marks s.by ≡ Some true) → ((n : ℕ) → slice_get mid n ≡ Some true → slice_get marks n ≡ Some true)
-    → ((n : ℕ) → slice_get marks n ≡ Some true → (slice_get mid n ≡ Some true) ⊎ Contains (numbers_of steps) n) → AreMarked es marks used → AreUsed es numbers steps used
+pub used_by_marks : (es : List BasisEntry) (numbers : List ℕ) (steps : List Step) (before mid marks : List Bool) (used : List UsedEntry)
+    → ((n : ℕ) → slice_get before n ≢ Some true)
+    → ((k n : ℕ) → slice_get numbers k ≡ Some n → slice_get mid n ≡ Some true)
+    → ((n : ℕ) → slice_get mid n ≡ Some true → (slice_get before n ≡ Some true) ⊎ Contains numbers n)
+    → ((k : ℕ) (s : Step) → slice_get steps k ≡ Some s → slice_get marks s.by ≡ Some true)
+    → ((n : ℕ) → slice_get mid n ≡ Some true → slice_get marks n ≡ Some true)
+    → ((n : ℕ) → slice_get marks n ≡ Some true → (slice_get mid n ≡ Some true) ⊎ Contains (numbers_of steps) n) → AreMarked es marks used
+    → AreUsed es numbers steps used
 used_by_marks es numbers steps before mid marks used none set only further kept others are = record {
   there = are.there;
   rising = are.rising;

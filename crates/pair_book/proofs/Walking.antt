@@ -31,7 +31,8 @@ fellow_through h b x a ne d =
       | inr u ↦ let l = subst L u.1 d.chained.leads in sym l.reduces.0
     ]
 
-third_fellow : (n : ℕ) (h : Held) (a b : ℕ) (u : Task) (d : IsDueFrom n h a b u) → (d.third < length h.entries) × (component_at h.entries d.third ≡ component_at h.entries a)
+third_fellow : (n : ℕ) (h : Held) (a b : ℕ) (u : Task) (d : IsDueFrom n h a b u) → (d.third < length h.entries)
+    × (component_at h.entries d.third ≡ component_at h.entries a)
 third_fellow n h a b u d = elim d.either [
   | inl z ↦ fellow_due h a d.third b (λ q. d.not_first (sym q)) z.1
   | inr z ↦ ((fellow_due h b d.third a (λ q. d.not_second (sym q)) z.1).0, fellow_through h b d.third a (λ q. d.not_second (sym q)) z.1)
@@ -39,10 +40,17 @@ third_fellow n h a b u d = elim d.either [
 
 module _ (mid cur : Held) (a b : ℕ) where
   -- entries of other components are passed over
-  chain_down : (n m : ℕ) → m ≤ n → ((k : ℕ) → m ≤ k → k < n → component_at mid.entries k ≢ component_at mid.entries a) → AreChainedFrom n mid a b cur → AreChainedFrom m mid a b cur
+  chain_down : (n m : ℕ) → m ≤ n → ((k : ℕ) → m ≤ k → k < n → component_at mid.entries k ≢ component_at mid.entries a) → AreChainedFrom n mid a b cur
+      → AreChainedFrom m mid a b cur
   chain_down n m le none c = record { rest = c.rest; closed = λ u k d. c.closed u k (raised u d); same = λ u k d. c.same u k (λ z. d (lowered u z)) } where
     lowered : (u : Task) → IsDueFrom n mid a b u → IsDueFrom m mid a b u
-    lowered u d = record { third = d.third; from = let w = d.from in omega (arith, w, le); not_first = d.not_first; not_second = d.not_second; either = d.either }
+    lowered u d = record {
+      third = d.third;
+      from = let w = d.from in omega (arith, w, le);
+      not_first = d.not_first;
+      not_second = d.not_second;
+      either = d.either;
+    }
 
     raised : (u : Task) → IsDueFrom m mid a b u → IsDueFrom n mid a b u
     raised u d = record {
@@ -57,7 +65,8 @@ module _ (mid cur : Held) (a b : ℕ) where
     }
 
   -- the next third entry is that which is found
-  pub walk_on : (n c : ℕ) (o : Option ℕ) → c ≡ component_at mid.entries a → FindsLast (component_at mid.entries) n c o → AreChainedFrom n mid a b cur → AreChainedFrom (done_from o) mid a b cur
+  pub walk_on : (n c : ℕ) (o : Option ℕ) → c ≡ component_at mid.entries a → FindsLast (component_at mid.entries) n c o → AreChainedFrom n mid a b cur
+      → AreChainedFrom (done_from o) mid a b cur
   walk_on n c None e h = chain_down n 0 (omega arith) (λ k le lt q. h k lt (q ∙ sym e))
   walk_on n c (Some y) e h = chain_down n (y + 1) (let w = h.0 in omega (arith, w)) (λ k le lt q. h.2 k (omega (arith, le)) lt (q ∙ sym e))
 
@@ -72,9 +81,15 @@ module _ (mid cur : Held) (a b : ℕ) where
 
 -- no third entry is done yet
 pub walk_start : (mid : Held) (a b : ℕ) → AreChainedFrom (length mid.entries) mid a b mid
-walk_start mid a b = record { rest = refl; closed = λ u k d. let w = (third_fellow (length mid.entries) mid a b u d).0 in let v = d.from in absurd (omega (arith, w, v)); same = λ u k d. refl }
+walk_start mid a b = record {
+  rest = refl;
+  closed = λ u k d. let w = (third_fellow (length mid.entries) mid a b u d).0 in let v = d.from
+      in absurd (omega (arith, w, v));
+  same = λ u k d. refl;
+}
 
-pub fellow_found : (mid : Held) (a n c : ℕ) (o : Option ℕ) → c ≡ component_at mid.entries a → n ≤ length mid.entries → FindsLast (component_at mid.entries) n c o → IsFellow mid.entries a o
+pub fellow_found : (mid : Held) (a n c : ℕ) (o : Option ℕ) → c ≡ component_at mid.entries a → n ≤ length mid.entries
+    → FindsLast (component_at mid.entries) n c o → IsFellow mid.entries a o
 fellow_found mid a n c None e le h = tt
 fellow_found mid a n c (Some k) e le h = (let w = h.0 in omega (arith, w, le), h.1 ∙ e)
 

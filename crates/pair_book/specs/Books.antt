@@ -22,8 +22,8 @@ use Rattle.pair_book.specs.Settled.{settled_by}
 use Rattle.pair_book.specs.Outcomes.{IsShort}
 use Rattle.pair_book.specs.LogEntries.{terms_of, steps_of}
 
--- the presentation, the limits, the number of generator entries, the entries of the log, the tasks, the number of commits
--- and the seal
+-- the presentation, the limits, the number of generator entries, the entries of the log, the tasks, the number of
+-- commits and the seal
 pub record Held : Type 0 where
   pub source : Presented
   pub limits : Limits
@@ -61,8 +61,10 @@ pub record IsBook (h : Held) : Type 0 where
   pub order : h.tasks.order ≡ h.limits.order
   pub count : h.tasks.count ≡ length h.entries
   pub room : h.tasks.room ≡ h.limits.entries
-  pub truly : (t : Task) → IsTask (length h.entries) t → is_unclosed (state_of h.tasks t) ≡ false → IsPair (vectors_of h.entries) t.i t.j → IsClosed (vectors_of h.entries) t.kind t.i t.j
-  pub settled : (t : Task) → IsTask (length h.entries) t → is_never (state_of h.tasks t) ≡ settled_of t.kind (settled_by (lead_at (vectors_of h.entries) t.i) (lead_at (vectors_of h.entries) t.j))
+  pub truly : (t : Task) → IsTask (length h.entries) t → is_unclosed (state_of h.tasks t) ≡ false
+      → IsPair (vectors_of h.entries) t.i t.j → IsClosed (vectors_of h.entries) t.kind t.i t.j
+  pub settled : (t : Task) → IsTask (length h.entries) t → is_never (state_of h.tasks t)
+      ≡ settled_of t.kind (settled_by (lead_at (vectors_of h.entries) t.i) (lead_at (vectors_of h.entries) t.j))
   pub commits : h.commits + h.base ≤ length h.entries + closed_later h.tasks
   pub seal : IsSealedBy h h.seal
 
@@ -72,7 +74,8 @@ with_state h t s = record h { tasks = put h.tasks t s }
 
 -- the least open task is taken, where a task is open
 abbrev pub TakesTask : Held → Option Task → Held → Type 0
-TakesTask old answer new = (new ≡ record old { tasks = new.tasks }) × Takes (vectors_of old.entries) old.tasks answer new.tasks
+TakesTask old answer new = (new ≡ record old { tasks = new.tasks })
+    × Takes (vectors_of old.entries) old.tasks answer new.tasks
 
 abbrev pub given_state : Bool → TaskState
 given_state true = Hard
@@ -89,7 +92,8 @@ pub record GivesBack (old : Held) (t : Task) (hard : Bool) (new : Held) : Type 0
 
 -- the book has the seal of all its entries, and every task is closed
 abbrev pub IsSealed : Held → Seal → Held → Type 0
-IsSealed old s new = NoneIs Unclosed old.tasks × (s ≡ record { source = old.source; entries = old.entries }) × (new ≡ record old { seal = Some s })
+IsSealed old s new = NoneIs Unclosed old.tasks × (s ≡ record { source = old.source; entries = old.entries })
+    × (new ≡ record old { seal = Some s })
 
 -- the least task that isn't closed is named
 abbrev pub IsNotSealed : Held → SealFault → Held → Type 0
@@ -106,10 +110,19 @@ AreWithin p limits = (es : List BasisEntry) → AreBase p es → (length es ≤ 
 pub record AreNew (es : List BasisEntry) (tasks : Table) : Type 0 where
   pub table : IsTable tasks
   pub count : tasks.count ≡ length es
-  pub each : (t : Task) → IsTask (length es) t → state_of tasks t ≡ first_state (settled_of t.kind (settled_by (lead_at (vectors_of es) t.i) (lead_at (vectors_of es) t.j)))
+  pub each : (t : Task) → IsTask (length es) t → state_of tasks t
+      ≡ first_state (settled_of t.kind (settled_by (lead_at (vectors_of es) t.i) (lead_at (vectors_of es) t.j)))
 
 -- the book of the generator entries, without commits
 pub record IsOpened (p : Presented) (limits : Limits) (h : Held) : Type 0 where
   pub base : AreBase p h.entries
   pub tasks : AreNew h.entries h.tasks
-  pub is : h ≡ record { source = p; limits = limits; base = length h.entries; entries = h.entries; tasks = h.tasks; commits = 0; seal = None }
+  pub is : h ≡ record {
+    source = p;
+    limits = limits;
+    base = length h.entries;
+    entries = h.entries;
+    tasks = h.tasks;
+    commits = 0;
+    seal = None;
+  }

@@ -1,5 +1,6 @@
 -- The tasks that the chain rule closes behind a commit.
-use Rattle.std.specs.Prelude.{◌≡◌, ◌≢◌, ◌⊎◌, ◌↔◌, ℕ, ◌+◌, ◌<◌, ◌≤◌, Option, Some, None, Bool, true, false, cond, nat_lt, List, length}
+use Rattle.std.specs.Prelude.{◌≡◌, ◌≢◌, ◌⊎◌, ◌↔◌, ℕ, ◌+◌, ◌<◌, ◌≤◌, Option, Some, None, Bool, true, false, cond, nat_lt}
+use Rattle.std.specs.Prelude.{List, length}
 use Rattle.outcomes.specs.declared.kinds.PairKind.TheVariants.{S, G}
 use Rattle.outcomes.specs.declared.tasks.Task.{Task}
 use Rattle.chain_rule.specs.ClosedPairs.{pairs_where}
@@ -45,16 +46,19 @@ pub record IsDue (n : ℕ) (h : Held) (a b : ℕ) (u : Task) : Type 0 where
   pub not_second : third ≢ b
   pub either : ((u ≡ s_task a third) × IsDueBy h a third b) ⊎ ((u ≡ s_task b third) × IsDueBy h b third a)
 
--- the S task of a and b was closed, and then each task that is due with a third entry below n is closed; no other changes
+-- the S task of a and b was closed, and then each task that is due with a third entry below n is closed; no other
+-- changes
 pub record AreChained (n : ℕ) (mid : Held) (a b : ℕ) (new : Held) : Type 0 where
   pub rest : new ≡ record mid { tasks = record mid.tasks { states = new.tasks.states } }
   pub closed : (u : Task) → IsTask (length mid.entries) u → IsDue n mid a b u → state_of new.tasks u ≡ Closed
-  pub same : (u : Task) → IsTask (length mid.entries) u → (IsDue n mid a b u → ⊥) → state_of new.tasks u ≡ state_of mid.tasks u
+  pub same : (u : Task) → IsTask (length mid.entries) u → (IsDue n mid a b u → ⊥)
+      → state_of new.tasks u ≡ state_of mid.tasks u
 
 -- what the chain rule leaves where a task was closed, or not
 abbrev pub ClosesChained : Held → Task → Bool → Held → Type 0
 ClosesChained mid t false new = new ≡ mid
-ClosesChained mid t true new = ((t.kind ≡ S) × AreChained (length mid.entries) mid t.i t.j new) ⊎ ((t.kind ≡ G) × (new ≡ mid))
+ClosesChained mid t true new = ((t.kind ≡ S) × AreChained (length mid.entries) mid t.i t.j new)
+    ⊎ ((t.kind ≡ G) × (new ≡ mid))
 
 abbrev pub closed_if : Bool → Held → Task → Held
 closed_if due h t = cond due (with_state h t Closed) h
@@ -84,7 +88,8 @@ pub record IsDueFrom (n : ℕ) (h : Held) (a b : ℕ) (u : Task) : Type 0 where
 pub record AreChainedFrom (n : ℕ) (mid : Held) (a b : ℕ) (new : Held) : Type 0 where
   pub rest : new ≡ record mid { tasks = record mid.tasks { states = new.tasks.states } }
   pub closed : (u : Task) → IsTask (length mid.entries) u → IsDueFrom n mid a b u → state_of new.tasks u ≡ Closed
-  pub same : (u : Task) → IsTask (length mid.entries) u → (IsDueFrom n mid a b u → ⊥) → state_of new.tasks u ≡ state_of mid.tasks u
+  pub same : (u : Task) → IsTask (length mid.entries) u → (IsDueFrom n mid a b u → ⊥)
+      → state_of new.tasks u ≡ state_of mid.tasks u
 
 -- where the third entry comes next that is given, those from this number on are done
 abbrev pub done_from : Option ℕ → ℕ

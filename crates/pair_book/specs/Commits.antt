@@ -1,5 +1,6 @@
 -- What a commit answers and does.
-use Rattle.std.specs.Prelude.{◌≡◌, ◌≢◌, ◌⊎◌, ◌↔◌, ◌+◌, ◌<◌, ◌≤◌, ℕ, List, [], ◌∷◌, ◌++◌, Bool, true, IsTrue, Option, Some, None, length, slice_get, Result, Ok, Err, cond}
+use Rattle.std.specs.Prelude.{◌≡◌, ◌≢◌, ◌⊎◌, ◌↔◌, ◌+◌, ◌<◌, ◌≤◌, ℕ, List, [], ◌∷◌, ◌++◌, Bool, true, IsTrue, Option}
+use Rattle.std.specs.Prelude.{Some, None, length, slice_get, Result, Ok, Err, cond}
 use Rattle.std.specs.Arc.{arc_value}
 use Rattle.outcomes.specs.declared.ends.Measure.{Measure}
 use Rattle.outcomes.specs.declared.ends.Measure.TheVariants.{Entries, Terms, Steps}
@@ -68,11 +69,14 @@ pub record IsFresh (h : Held) (w : Worked) (e : BasisEntry) : Type 0 where
 -- with the entry the log would have so many entries, terms or recipe steps, which is too many
 abbrev pub Passes : Held → BasisEntry → Measure → ℕ → Type 0
 Passes h e Entries c = (c ≡ length h.entries + 1) × (h.limits.entries < c)
-Passes h e Terms c = (length h.entries + 1 ≤ h.limits.entries) × (c ≡ terms_of h.entries + length e.vector) × (h.limits.terms < c)
-Passes h e Steps c = (length h.entries + 1 ≤ h.limits.entries) × (terms_of h.entries + length e.vector ≤ h.limits.terms) × (c ≡ steps_of h.entries + recipe_steps e.recipe) × (h.limits.steps < c)
+Passes h e Terms c = (length h.entries + 1 ≤ h.limits.entries) × (c ≡ terms_of h.entries + length e.vector)
+    × (h.limits.terms < c)
+Passes h e Steps c = (length h.entries + 1 ≤ h.limits.entries) × (terms_of h.entries + length e.vector ≤ h.limits.terms)
+    × (c ≡ steps_of h.entries + recipe_steps e.recipe) × (h.limits.steps < c)
 
 abbrev pub Fits : Held → BasisEntry → Type 0
-Fits h e = (length h.entries + 1 ≤ h.limits.entries) × (terms_of h.entries + length e.vector ≤ h.limits.terms) × (steps_of h.entries + recipe_steps e.recipe ≤ h.limits.steps)
+Fits h e = (length h.entries + 1 ≤ h.limits.entries) × (terms_of h.entries + length e.vector ≤ h.limits.terms)
+    × (steps_of h.entries + recipe_steps e.recipe ≤ h.limits.steps)
 
 -- the refusal that comes, or none
 abbrev pub Refuses : Held → Worked → Option CommitFault → Type 0
@@ -81,9 +85,12 @@ Refuses h w (Some (Spent n)) = MayCommit h w.task × (h.limits.budget ≡ Some h
 Refuses h w (Some (Stranger k)) = HasBudget h w.task × (IsStranger h.entries w.used k
     ⊎ (AllThere h.entries w.used × OnRest w.close (λ e. (e.source ≢ h.source) × (k ≡ length h.entries)))
     ⊎ OnRest w.close (λ e. IsFresh h w e × IsLeadDivisor h.entries e k))
-Refuses h w (Some (Stale front now)) = HasBudget h w.task × AllThere h.entries w.used × OnRest w.close (λ e. (e.source ≡ h.source) × (front ≡ w.front) × (now ≡ length h.entries) × (front < now))
-Refuses h w (Some (Full m c)) = OnRest w.close (λ e. IsFresh h w e × NoneDivides (vectors_of h.entries) (lead_of e.vector) × Passes h e m c)
-Refuses h w None = HasBudget h w.task × AllThere h.entries w.used × IfRest w.close (λ e. IsFresh h w e × NoneDivides (vectors_of h.entries) (lead_of e.vector) × Fits h e)
+Refuses h w (Some (Stale front now)) = HasBudget h w.task × AllThere h.entries w.used
+    × OnRest w.close (λ e. (e.source ≡ h.source) × (front ≡ w.front) × (now ≡ length h.entries) × (front < now))
+Refuses h w (Some (Full m c)) = OnRest w.close (λ e. IsFresh h w e
+    × NoneDivides (vectors_of h.entries) (lead_of e.vector) × Passes h e m c)
+Refuses h w None = HasBudget h w.task × AllThere h.entries w.used
+    × IfRest w.close (λ e. IsFresh h w e × NoneDivides (vectors_of h.entries) (lead_of e.vector) × Fits h e)
 
 -- the refusal that comes of a task, or none, whatever its outcome is
 abbrev pub RefusesTask : Held → Task → Option CommitFault → Type 0
@@ -98,9 +105,12 @@ RefusesTask h t (Some (Full m c)) = ⊥
 abbrev pub RefusesRest : Held → Worked → BasisEntry → Option CommitFault → Type 0
 RefusesRest h w e (Some NotTaken) = ⊥
 RefusesRest h w e (Some (Spent n)) = ⊥
-RefusesRest h w e (Some (Stranger k)) = ((e.source ≢ h.source) × (k ≡ length h.entries)) ⊎ (IsFresh h w e × IsLeadDivisor h.entries e k)
-RefusesRest h w e (Some (Stale front now)) = (e.source ≡ h.source) × (front ≡ w.front) × (now ≡ length h.entries) × (front < now)
-RefusesRest h w e (Some (Full m c)) = IsFresh h w e × NoneDivides (vectors_of h.entries) (lead_of e.vector) × Passes h e m c
+RefusesRest h w e (Some (Stranger k)) = ((e.source ≢ h.source) × (k ≡ length h.entries))
+    ⊎ (IsFresh h w e × IsLeadDivisor h.entries e k)
+RefusesRest h w e (Some (Stale front now)) = (e.source ≡ h.source) × (front ≡ w.front) × (now ≡ length h.entries)
+    × (front < now)
+RefusesRest h w e (Some (Full m c)) = IsFresh h w e × NoneDivides (vectors_of h.entries) (lead_of e.vector)
+    × Passes h e m c
 RefusesRest h w e None = IsFresh h w e × NoneDivides (vectors_of h.entries) (lead_of e.vector) × Fits h e
 
 -- ---- what a commit does
@@ -114,12 +124,19 @@ closed_by h t = record (with_state h t Closed) { commits = h.commits + 1 }
 
 -- the entry and its tasks are added, and the task is closed or open again
 abbrev pub appended_by : Held → Task → BasisEntry → Bool → Held
-appended_by h t e closed = record h { entries = h.entries ++ e ∷ []; tasks = put (grown h.tasks (settled_row h.entries e.vector)) t (state_after closed); commits = h.commits + 1 }
+appended_by h t e closed = record h {
+  entries = h.entries ++ e ∷ [];
+  tasks = put (grown h.tasks (settled_row h.entries e.vector)) t (state_after closed);
+  commits = h.commits + 1;
+}
 
 -- what is left where the outcome isn't refused
 abbrev pub IsCommitted : Held → Worked → Committed → Held → Type 0
-IsCommitted old w done.Closed new = Refuses old w None × (OnRest w.close (λ e. Unit {0}) → ⊥) × ClosesChained (closed_by old w.task) w.task true new
-IsCommitted old w (done.Appended k closed) new = Refuses old w None × (k ≡ length old.entries) × OnRest w.close (λ e. (IsTrue closed ↔ IsClosed (vectors_of (old.entries ++ e ∷ [])) w.task.kind w.task.i w.task.j) ×
+IsCommitted old w done.Closed new = Refuses old w None × (OnRest w.close (λ e. Unit {0}) → ⊥)
+    × ClosesChained (closed_by old w.task) w.task true new
+IsCommitted old w (done.Appended k closed) new = Refuses old w None × (k ≡ length old.entries)
+    × OnRest w.close (λ e. (IsTrue closed ↔ IsClosed (vectors_of (old.entries ++ e ∷ [])) w.task.kind
+    w.task.i w.task.j) ×
     ClosesChained (appended_by old w.task e closed) w.task closed new)
 
 abbrev pub Commits : Held → Worked → Result Committed (CommitFault × Worked) → Held → Type 0

@@ -12,7 +12,8 @@ abbrev pub FindsLast : (ℕ → ℕ) → ℕ → ℕ → Option ℕ → Type 0
 FindsLast component n c None = (m : ℕ) → m < n → component m ≢ c
 FindsLast component n c (Some k) = (k < n) × (component k ≡ c) × ((m : ℕ) → k < m → m < n → component m ≢ c)
 
--- of n entries each has the last one before it in its component, and each component, a number of eight bits, its last one
+-- of n entries each has the last one before it in its component, and each component, a number of eight bits, its last
+-- one
 pub record AreLinked (component : ℕ → ℕ) (n : ℕ) (before last : List (Option ℕ)) : Type 0 where
   pub count : length before ≡ n
   pub each : (k : ℕ) → k < n → FindsLast component k (component k) (slice_index_or before k None)

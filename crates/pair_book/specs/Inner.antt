@@ -7,7 +7,15 @@ use Rattle.pair_book.specs.Books.{Held, IsBook, seal_value}
 
 -- what callers see
 abbrev pub held_of : Inside → Held
-held_of b = record { source = b.source.value; limits = b.limits; base = b.base; entries = b.log.entries; tasks = b.tasks; commits = b.commits; seal = seal_value arc_value b.seal }
+held_of b = record {
+  source = b.source.value;
+  limits = b.limits;
+  base = b.base;
+  entries = b.log.entries;
+  tasks = b.tasks;
+  commits = b.commits;
+  seal = seal_value arc_value b.seal;
+}
 
 pub record IsKept (b : Inside) : Type 0 where
   pub book : IsBook (held_of b)

@@ -24,7 +24,8 @@ logged l = record { room = l.room; entries = map arc_value l.entries.items }
 pub record IsRoomy (l : Inside) : Type 0 where
   pub logged : IsLogged (logged l)
   pub capacity : l.room ≤ vec_capacity l.entries
-  pub links : AreLinked (component_at (map arc_value l.entries.items)) (length (map arc_value l.entries.items)) l.links.before.items l.links.last.items
+  pub links : AreLinked (component_at (map arc_value l.entries.items)) (length (map arc_value l.entries.items))
+      l.links.before.items l.links.last.items
   pub links_capacity : l.room ≤ vec_capacity l.links.before
 
 -- the terms and the recipe steps of all entries

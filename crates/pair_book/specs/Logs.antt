@@ -27,8 +27,8 @@ DividesLead d e = Reduces d e.at × Divides d.k e.k
 abbrev pub NoneDivides : List (List Term) → Term → Type 0
 NoneDivides b e = (m : ℕ) → m < length b → DividesLead (lead_at b m) e → ⊥
 
--- where the multiples of a recipe stand that come behind those of its pair: below the pair's place for an S-vector, and up
--- to it for a G-vector
+-- where the multiples of a recipe stand that come behind those of its pair: below the pair's place for an S-vector, and
+-- up to it for a G-vector
 abbrev pub StandsFor : PairKind → Place → Place → Type 0
 StandsFor S p x = IsBelow x p
 StandsFor G p x = IsUpTo x p
@@ -48,7 +48,8 @@ pub record IsPairRecipe (kind : PairKind) (b : List (List Term)) (i j : ℕ) (st
 
 -- the steps are such a recipe, or one with all signs turned
 abbrev pub IsFromPair : PairKind → List (List Term) → ℕ → ℕ → List Step → Type 0
-IsFromPair kind b i j steps = IsPairRecipe kind b i j steps ⊎ ((others : List Step) × IsPairRecipe kind b i j others × (steps ≡ map turned others))
+IsFromPair kind b i j steps = IsPairRecipe kind b i j steps
+    ⊎ ((others : List Step) × IsPairRecipe kind b i j others × (steps ≡ map turned others))
 
 -- e is the value of a recipe from the task's pair, over entries with these vectors
 pub record IsMadeFor (b : List (List Term)) (t : Task) (e : BasisEntry) : Type 0 where

@@ -36,7 +36,8 @@ AllThere es used = (m : ℕ) (u : UsedEntry) → slice_get used m ≡ Some u →
 
 -- the numbers rise strictly
 abbrev pub AreRising : List UsedEntry → Type 0
-AreRising used = (m n : ℕ) (u v : UsedEntry) → m < n → slice_get used m ≡ Some u → slice_get used n ≡ Some v → u.number < v.number
+AreRising used = (m n : ℕ) (u v : UsedEntry) → m < n → slice_get used m ≡ Some u → slice_get used n ≡ Some v
+    → u.number < v.number
 
 -- an outcome as its callers see it
 pub record Worked : Type 0 where

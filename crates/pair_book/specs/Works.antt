@@ -1,5 +1,6 @@
 -- What the work of a task comes to.
-use Rattle.std.specs.Prelude.{◌≡◌, ◌≢◌, ◌⊎◌, ◌↔◌, ℕ, MatchBool, negsuc, List, [], ◌∷◌, ◌++◌, map, length, Contains, Bool, true, cond, slice_get, Option, Some, None, Result, Ok, Err}
+use Rattle.std.specs.Prelude.{◌≡◌, ◌≢◌, ◌⊎◌, ◌↔◌, ℕ, MatchBool, negsuc, List, [], ◌∷◌, ◌++◌, map, length, Contains}
+use Rattle.std.specs.Prelude.{Bool, true, cond, slice_get, Option, Some, None, Result, Ok, Err}
 use Rattle.std.specs.Arc.{arc_value}
 use Rattle.formal_sums.specs.FormalSum.{scale}
 use Rattle.presentation.specs.Presented.{Presented}
@@ -65,7 +66,8 @@ ClosesAs p b t (Rest e) = LeavesRest p b t (arc_value e)
 
 -- the pair has no vector, or its vector's chain stops
 abbrev pub Halts : List (List Term) → Task → TheStop → Type 0
-Halts b t stop = MakesPair t.kind b t.i t.j (Err (of_pair.Stop stop)) ⊎ ((v : List Term) × IsPairVector t.kind b t.i t.j v × ChainStops b (coefficient_at v) stop)
+Halts b t stop = MakesPair t.kind b t.i t.j (Err (of_pair.Stop stop))
+    ⊎ ((v : List Term) × IsPairVector t.kind b t.i t.j v × ChainStops b (coefficient_at v) stop)
 
 abbrev pub Stops : List (List Term) → Task → TheStop → Type 0
 Stops b t stop = IsUncovered b t × Halts b t stop
@@ -84,14 +86,17 @@ close_numbers (Covered by) = by ∷ []
 close_numbers (Zero steps) = numbers_of steps
 close_numbers (Rest e) = recipe_numbers (arc_value e).recipe
 
--- the entries used are the two of the pair and those that the close names, each once, by rising numbers, and no further ones
+-- the entries used are the two of the pair and those that the close names, each once, by rising numbers, and no further
+-- ones
 pub record AreUsedFor (t : Task) (close : Close) (used : List UsedEntry) : Type 0 where
   pub rising : AreRising used
-  pub exactly : (n : ℕ) → Contains (map (λ (u : UsedEntry). u.number) used) n ↔ Contains (t.i ∷ (t.j ∷ close_numbers close)) n
+  pub exactly : (n : ℕ) → Contains (map (λ (u : UsedEntry). u.number) used) n
+      ↔ Contains (t.i ∷ (t.j ∷ close_numbers close)) n
 
 -- the work of a task by a list of entries
 abbrev pub Works : Presented → List BasisEntry → Task → Result Worked WorkFault → Type 0
-Works p es t (Ok w) = (w.task ≡ t) × (w.front ≡ length es) × AllThere es w.used × ClosesAs p (vectors_of es) t w.close × AreUsedFor t w.close w.used
+Works p es t (Ok w) = (w.task ≡ t) × (w.front ≡ length es) × AllThere es w.used × ClosesAs p (vectors_of es) t w.close
+    × AreUsedFor t w.close w.used
 Works p es t (Err (Stop stop)) = Stops (vectors_of es) t stop
 Works p es t (Err NoMemory) = Unit {0}
 
@@ -115,7 +120,8 @@ HaltsBy b t NoMemory = Unit {0}
 abbrev pub IsAmong : List UsedEntry → ℕ → Type 0
 IsAmong used n = (m : ℕ) × (u : UsedEntry) × (slice_get used m ≡ Some u) × (u.number ≡ n)
 
--- the used entries are the list's, by rising numbers; they have the numbers given and those that the steps name, and no others
+-- the used entries are the list's, by rising numbers; they have the numbers given and those that the steps name, and no
+-- others
 pub record AreUsed (es : List BasisEntry) (numbers : List ℕ) (steps : List Step) (used : List UsedEntry) : Type 0 where
   pub there : AllThere es used
   pub rising : AreRising used
@@ -131,7 +137,8 @@ pub record AreMarked (es : List BasisEntry) (marks : List Bool) (used : List Use
   pub only : (m : ℕ) (u : UsedEntry) → slice_get used m ≡ Some u → slice_get marks u.number ≡ Some true
 
 -- the two steps of a pair, and the steps and the rest of the chain of its vector
-pub record IsCarriedOut (b : List (List Term)) (t : Task) (first second : Step) (steps : List Step) (w : List Term) : Type 0 where
+pub record IsCarriedOut (b : List (List Term)) (t : Task) (first second : Step) (steps : List Step)
+    (w : List Term) : Type 0 where
   pub pair_steps : ArePairSteps t.kind b t.i t.j first second
   pub first_reach : IsInReach b first
   pub second_reach : IsInReach b second

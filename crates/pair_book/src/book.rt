@@ -1,6 +1,7 @@
 //! `Book`: what a completion has come to.
 
-ghost use Rattle.std.specs.Prelude.{◌≡◌, ◌≤◌, ◌<◌, ◌↔◌, ◌++◌, ◌∷◌, [], IsTrue, map, length, slice_get, Some, None, MatchOption, MatchResult, IfOk};
+ghost use Rattle.std.specs.Prelude.{◌≡◌, ◌≤◌, ◌<◌, ◌↔◌, ◌++◌, ◌∷◌, [], IsTrue, map, length, slice_get, Some, None};
+ghost use Rattle.std.specs.Prelude.{MatchOption, MatchResult, IfOk};
 ghost use Rattle.std.proofs.Common.{refl};
 ghost use Rattle.std.specs.Arc.{arc_value};
 ghost use Rattle.task_table.specs.declared.TheConstants.{ENTRIES as MOST};
@@ -9,7 +10,8 @@ ghost use Rattle.task_table.specs.declared.states.Reopened.TheVariants.{HardOnes
 ghost use Rattle.task_table.specs.Tables.{FindsLeast, reopen, reopened_count};
 ghost use Rattle.basis_entry.specs.Base.{AreBase};
 ghost use Rattle.basis_entry.specs.Entries.{vectors_of};
-ghost use Rattle.pair_book.specs.Books.{IsBook, AreWithin, IsOpened, IsTaken, TakesTask, GivesBack, given_state, IsSealed, IsNotSealed};
+ghost use Rattle.pair_book.specs.Books.{IsBook, AreWithin, IsOpened, IsTaken, TakesTask, GivesBack, given_state};
+ghost use Rattle.pair_book.specs.Books.{IsSealed, IsNotSealed};
 
 use crate::log::Log;
 use crate::newcomers::enter;

@@ -8,7 +8,8 @@ ghost use Rattle.task_table.specs.Tables.{state_of};
 ghost use Rattle.basis_entry.specs.Entries.{vectors_of};
 ghost use Rattle.pair_book.specs.Books.{IsBook};
 ghost use Rattle.pair_book.specs.Fellows.{FindsLast, component_at};
-ghost use Rattle.pair_book.specs.Chaining.{IsDueBy, ChainsWith, ChainsAt, AreChained, ClosesChained, s_task, closed_if, is_waiting};
+ghost use Rattle.pair_book.specs.Chaining.{IsDueBy, ChainsWith, ChainsAt, AreChained, ClosesChained, s_task, closed_if};
+ghost use Rattle.pair_book.specs.Chaining.{is_waiting};
 
 use crate::Book;
 use chain_rule::{Shut, chained};
@@ -47,8 +48,8 @@ impl Book {
         }
     }
 
-    /// Closes what is due behind the S task of two entries. Third entries of other components are passed over: nothing is due
-    /// with them.
+    /// Closes what is due behind the S task of two entries. Third entries of other components are passed over: nothing
+    /// is due with them.
     fn chain(&mut self, a: u32, b: u32)
         requires order { a < b }
         requires within { b < length self.old.entries }
@@ -64,7 +65,8 @@ impl Book {
     /// The last entry in the component of this one.
     fn last_fellow(&self, at: u32) -> Option<u32>
         requires { at < length self.now.entries }
-        ensures { FindsLast (component_at self.now.entries) (length self.now.entries) (component_at self.now.entries at) result }
+        ensures { FindsLast (component_at self.now.entries) (length self.now.entries)
+            (component_at self.now.entries at) result }
     {
         self.log.last_fellow(at)
     }

@@ -6,7 +6,8 @@ ghost use Rattle.outcomes.specs.declared.kinds.PairKind.TheVariants.{S};
 ghost use Rattle.strong_pairs.specs.Pairs.{IsPair, lead_of};
 ghost use Rattle.strong_pairs.specs.Tasks.{IsClosed};
 ghost use Rattle.basis_entry.specs.Entries.{vectors_of};
-ghost use Rattle.pair_book.specs.Commits.{MayCommit, Fits, Commits, IsCommitted, Refuses, IfRest, closed_by, appended_by, state_after};
+ghost use Rattle.pair_book.specs.Commits.{MayCommit, Fits, Commits, IsCommitted, Refuses, IfRest, closed_by};
+ghost use Rattle.pair_book.specs.Commits.{appended_by, state_after};
 ghost use Rattle.pair_book.specs.Logs.{NoneDivides};
 ghost use Rattle.pair_book.specs.Outcomes.{AllThere, IsRestOf};
 
@@ -24,9 +25,9 @@ use task_table::TaskState;
 impl Book {
     /// Commits an outcome of a task that is taken in this book, or hands it back. It takes no memory.
     ///
-    /// `Closed` comes exactly where the outcome has no rest. Otherwise the rest is appended to the log, with its tasks. Where
-    /// an S task is closed so, the open and hard S tasks that the chain rule then shows are closed too. The refusals come in
-    /// the order of [`CommitFault`], but that the lead terms of the log are tried after `Stale`.
+    /// `Closed` comes exactly where the outcome has no rest. Otherwise the rest is appended to the log, with its tasks.
+    /// Where an S task is closed so, the open and hard S tasks that the chain rule then shows are closed too. The
+    /// refusals come in the order of [`CommitFault`], but that the lead terms of the log are tried after `Stale`.
     pub fn commit(&mut self, o: Outcome) -> Result<Committed, (CommitFault, Outcome)>
         ensures { Commits self.old o result self.new }
     {
@@ -92,7 +93,8 @@ impl Book {
         requires source { (arc_value entry).source ≡ (self.old).source }
         requires undivided { NoneDivides (vectors_of self.old.entries) (lead_of (arc_value entry).vector) }
         requires fits { Fits self.old (arc_value entry) }
-        ensures closed { IsTrue result ↔ IsClosed (vectors_of (self.old.entries ++ arc_value entry ∷ [])) task.kind task.i task.j }
+        ensures closed { IsTrue result ↔ IsClosed (vectors_of (self.old.entries ++ arc_value entry ∷ [])) task.kind
+            task.i task.j }
         ensures new { self.new ≡ appended_by self.old task (arc_value entry) result }
     {
         let commits = self.commits + 1;

@@ -23,29 +23,34 @@ ghost use Rattle.pair_book.specs.Works.{Stops};
 
 /// What is truly closed of a list stays so when further vectors are appended.
 pub fn closed_tasks_stay_closed()
-    ensures { (b more : List (List Term)) (kind : TheKind) (i j : ℕ) → IsPair b i j → IsClosed b kind i j → IsClosed (b ++ more) kind i j }
+    ensures { (b more : List (List Term)) (kind : TheKind) (i j : ℕ) → IsPair b i j → IsClosed b kind i j
+        → IsClosed (b ++ more) kind i j }
 {}
 
 /// A lawful log stays lawful when an entry is appended that may stand behind it.
 pub fn lawful_logs_grow()
-    ensures { (p : Presented) (base : ℕ) (es : List BasisEntry) (e : BasisEntry) → IsLawful p base es → e.source ≡ p → IsBasisEntry e →
+    ensures { (p : Presented) (base : ℕ) (es : List BasisEntry) (e : BasisEntry) → IsLawful p base es → e.source ≡ p
+        → IsBasisEntry e →
         IsNextEntry (vectors_of es) e → IsLawful p base (es ++ e ∷ []) }
 {}
 
-/// The place at which the work of a task by entries of a presentation leaves the range is over the presentation's generators.
+/// The place at which the work of a task by entries of a presentation leaves the range is over the presentation's
+/// generators.
 pub fn places_of_stops_are_over()
-    ensures { (p : Presented) (es : List BasisEntry) (t : TheTask) (place : Place) (step : ℕ) → AllByRecursion IsBasisEntry es → AreOf p es →
+    ensures { (p : Presented) (es : List BasisEntry) (t : TheTask) (place : Place) (step : ℕ)
+        → AllByRecursion IsBasisEntry es → AreOf p es →
         Stops (vectors_of es) t (Wide place step) → PlaceIsOver (length p.names) place }
 {}
 
-/// Limits on entries and terms that allow what any presentation's generator entries can have, with which a book of any can be
-/// opened.
+/// Limits on entries and terms that allow what any presentation's generator entries can have, with which a book of any
+/// can be opened.
 pub fn generator_entries_are_within()
-    ensures { (p : Presented) (limits : TheLimits) → IsPresented p → BASE ≤ limits.entries → BASE_TERMS ≤ limits.terms → AreWithin p limits }
+    ensures { (p : Presented) (limits : TheLimits) → IsPresented p → BASE ≤ limits.entries → BASE_TERMS ≤ limits.terms
+        → AreWithin p limits }
 {}
 
-/// The test of two leads is right: of a pair the tasks that are closed from the start are settled, and where the components
-/// differ both tasks are.
+/// The test of two leads is right: of a pair the tasks that are closed from the start are settled, and where the
+/// components differ both tasks are.
 pub fn tests_of_leads_are_right()
     ensures pair { (b : List (List Term)) → AreEntries b → (kind : TheKind) (i j : ℕ) → IsPair b i j →
         (settled_of kind (settled_by (lead_at b i) (lead_at b j)) ≡ true) ↔ IsClosedFromStart b kind i j }

@@ -1,9 +1,9 @@
 //! The book of a completion: a lawful log, the states of its tasks, the commits and the seal.
 //!
 //! [`Book::take`] gives out the least open task, [`work`] works it by a list of entries, and [`Book::commit`] takes the
-//! outcome back: it closes the task, or appends an entry to the log, and closes what the chain rule then shows. A task is
-//! closed in the book only where it is truly closed, so a book whose tasks are all closed can be sealed: its log is a
-//! strong basis (Buchberger 1965; over the integers Möller 1988, Lichtblau 2012).
+//! outcome back: it closes the task, or appends an entry to the log, and closes what the chain rule then shows. A task
+//! is closed in the book only where it is truly closed, so a book whose tasks are all closed can be sealed: its log is
+//! a strong basis (Buchberger 1965; over the integers Möller 1988, Lichtblau 2012).
 #![tactic(auto)]
 
 mod book;

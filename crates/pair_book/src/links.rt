@@ -1,6 +1,7 @@
 //! `Links`: which entries of a log have one lead component.
 
-ghost use Rattle.std.specs.Prelude.{◌≡◌, ℕ, ◌<◌, ◌≤◌, ◌+◌, ◌^◌, length, Option, None, IfOk, slice_index_or, vec_capacity};
+ghost use Rattle.std.specs.Prelude.{◌≡◌, ℕ, ◌<◌, ◌≤◌, ◌+◌, ◌^◌, length, Option, None, IfOk, slice_index_or};
+ghost use Rattle.std.specs.Prelude.{vec_capacity};
 ghost use Rattle.pair_book.specs.Fellows.{AreLinked};
 
 use std::alloc::{AllocError, Global};
@@ -15,7 +16,8 @@ pub struct Links {
 impl Links {
     /// The links of no entries, with room for so many.
     pub fn with_room(alloc: Global, room: u32) -> Result<Links, AllocError>
-        ensures linked { IfOk result (λ links. (component : ℕ → ℕ) → AreLinked component 0 links.before.items links.last.items) }
+        ensures linked { IfOk result (λ links. (component : ℕ → ℕ)
+            → AreLinked component 0 links.before.items links.last.items) }
         ensures room { IfOk result (λ links. room ≤ vec_capacity links.before) }
     {
         let before = Vec::with_capacity(alloc, room as usize)?;
@@ -28,7 +30,8 @@ impl Links {
         requires room { length self.old.before.items < vec_capacity self.old.before }
         requires few { length self.old.before.items + 1 < 2 ^ 32 }
         requires components { length self.old.last.items ≡ 2 ^ 8 }
-        ensures linked { (components : ℕ → ℕ) (n : ℕ) → AreLinked components n self.old.before.items self.old.last.items → components n ≡ component →
+        ensures linked { (components : ℕ → ℕ) (n : ℕ) → AreLinked components n self.old.before.items self.old.last.items
+            → components n ≡ component →
             AreLinked components (n + 1) self.new.before.items self.new.last.items }
         ensures room { vec_capacity self.new.before ≡ vec_capacity self.old.before }
     {

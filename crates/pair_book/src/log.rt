@@ -78,7 +78,8 @@ impl Log {
     /// The last entry in the component of the one with this number.
     pub fn last_fellow(&self, at: u32) -> Option<u32>
         requires { at < length self.now.entries }
-        ensures { FindsLast (component_at self.now.entries) (length self.now.entries) (component_at self.now.entries at) result }
+        ensures { FindsLast (component_at self.now.entries) (length self.now.entries)
+            (component_at self.now.entries at) result }
     {
         let component = lead(self, at).at.c;
         self.links.last(component)

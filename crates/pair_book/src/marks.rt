@@ -46,7 +46,8 @@ fn mark_numbers(marks: &mut Vec<bool>, numbers: &[u32])
     requires { AllByRecursion (λ n. n < length marks.old.items) numbers.now }
     ensures length { length marks.new.items ≡ length marks.old.items }
     ensures set { (k n : ℕ) → slice_get numbers.now k ≡ Some n → slice_get marks.new.items n ≡ Some true }
-    ensures only { (n : ℕ) → slice_get marks.new.items n ≡ Some true → (slice_get marks.old.items n ≡ Some true) ⊎ Contains numbers.now n }
+    ensures only { (n : ℕ) → slice_get marks.new.items n ≡ Some true
+        → (slice_get marks.old.items n ≡ Some true) ⊎ Contains numbers.now n }
 {
     for number in numbers {
         marks[*number as usize] = true;
@@ -59,7 +60,8 @@ fn mark_steps(marks: &mut Vec<bool>, steps: &[Step])
     ensures length { length marks.new.items ≡ length marks.old.items }
     ensures set { (k : ℕ) (s : AStep) → slice_get steps.now k ≡ Some s → slice_get marks.new.items s.by ≡ Some true }
     ensures kept { (n : ℕ) → slice_get marks.old.items n ≡ Some true → slice_get marks.new.items n ≡ Some true }
-    ensures only { (n : ℕ) → slice_get marks.new.items n ≡ Some true → (slice_get marks.old.items n ≡ Some true) ⊎ Contains (numbers_of steps.now) n }
+    ensures only { (n : ℕ) → slice_get marks.new.items n ≡ Some true
+        → (slice_get marks.old.items n ≡ Some true) ⊎ Contains (numbers_of steps.now) n }
 {
     for step in steps {
         marks[step.by as usize] = true;

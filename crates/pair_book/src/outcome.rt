@@ -36,9 +36,19 @@ impl Model for Outcome {
 
     ghost Value = { Worked };
 
-    ghost view = { λ o. record { task = o.task; front = o.front; used = map used_entry o.used.items; close = o.close } };
+    ghost view = { λ o. record {
+      task = o.task;
+      front = o.front;
+      used = map used_entry o.used.items;
+      close = o.close;
+    } };
 
-    ghost invariant = { λ o. IsOutcome (record { task = o.task; front = o.front; used = map used_entry o.used.items; close = o.close }) };
+    ghost invariant = { λ o. IsOutcome (record {
+      task = o.task;
+      front = o.front;
+      used = map used_entry o.used.items;
+      close = o.close;
+    }) };
 }
 
 impl Outcome {

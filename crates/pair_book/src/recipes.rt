@@ -9,8 +9,8 @@ ghost use Rattle.pair_book.specs.Works.{recipe_of, signed};
 use module_vec::Step;
 use std::alloc::{AllocError, Global};
 
-/// The recipe of a rest: the two steps of its pair, and those of the chain with their signs turned; all signs are turned
-/// where the rest was negated.
+/// The recipe of a rest: the two steps of its pair, and those of the chain with their signs turned; all signs are
+/// turned where the rest was negated.
 pub fn recipe(
     alloc: Global,
     first: Step,

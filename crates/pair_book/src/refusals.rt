@@ -4,7 +4,8 @@ ghost use Rattle.std.specs.Prelude.{◌≡◌, ◌≢◌, ◌<◌, ◌↔◌, Is
 ghost use Rattle.std.specs.Arc.{arc_value};
 ghost use Rattle.module_vec.specs.declared.places.Term.{Term as TheTerm};
 ghost use Rattle.basis_entry.specs.Entries.{vectors_of};
-ghost use Rattle.pair_book.specs.Commits.{IsStranger, IsLeadDivisor, Passes, Fits, HasBudget, Refuses, RefusesTask, RefusesRest, IfRest};
+ghost use Rattle.pair_book.specs.Commits.{IsStranger, IsLeadDivisor, Passes, Fits, HasBudget, Refuses, RefusesTask};
+ghost use Rattle.pair_book.specs.Commits.{RefusesRest, IfRest};
 ghost use Rattle.pair_book.specs.Logs.{DividesLead, NoneDivides};
 ghost use Rattle.pair_book.specs.Outcomes.{used_entry, AllThere, AreRising, IsThere, recipe_steps};
 ghost use Rattle.strong_pairs.specs.Pairs.{lead_of};
@@ -27,7 +28,8 @@ fn is_there(log: &Log, used: &Used) -> bool
 /// The least number of a used entry that isn't the log's.
 fn first_stranger(log: &Log, used: &[Used]) -> Option<u32>
     requires { AreRising (map used_entry used.now) }
-    ensures { MatchOption result (AllThere log.now.entries (map used_entry used.now)) (λ k. IsStranger log.now.entries (map used_entry used.now) k) }
+    ensures { MatchOption result (AllThere log.now.entries (map used_entry used.now))
+        (λ k. IsStranger log.now.entries (map used_entry used.now) k) }
 {
     for one in used {
         if !is_there(log, one) {
@@ -48,7 +50,8 @@ fn divides_lead(d: &Term, e: &Term) -> bool
 
 /// The least number of an entry whose lead term divides that of another one.
 fn first_divisor(log: &Log, entry: &Entry) -> Option<u32>
-    ensures { MatchOption result (NoneDivides (vectors_of log.now.entries) (lead_of (entry.now).vector)) (λ k. IsLeadDivisor log.now.entries entry.now k) }
+    ensures { MatchOption result (NoneDivides (vectors_of log.now.entries) (lead_of (entry.now).vector))
+        (λ k. IsLeadDivisor log.now.entries entry.now k) }
 {
     let e = entry_lead(entry);
     for k in 0..log.count() {
@@ -71,7 +74,8 @@ pub fn steps_in(recipe: &Recipe) -> usize
 
 /// The least number of an entry that the outcome used and the log doesn't have.
 fn stranger(log: &Log, o: &Outcome) -> Option<u32>
-    ensures { MatchOption result (AllThere log.now.entries (o.now).used) (λ k. IsStranger log.now.entries (o.now).used k) }
+    ensures { MatchOption result (AllThere log.now.entries (o.now).used)
+        (λ k. IsStranger log.now.entries (o.now).used k) }
 {
     let _ = o.task();
     first_stranger(log, o.used())
@@ -117,7 +121,8 @@ impl Book {
         self.refused_rest(o, entry)
     }
 
-    /// Why an outcome can't be committed now whose used entries are the log's, and whose rest is of the book's presentation.
+    /// Why an outcome can't be committed now whose used entries are the log's, and whose rest is of the book's
+    /// presentation.
     pub(crate) fn refusal_of_known(&self, o: &Outcome) -> Option<CommitFault>
         requires there { AllThere self.now.entries o.now.used }
         requires source { IfRest o.now.close (λ e. e.source ≡ self.now.source) }

@@ -14,7 +14,8 @@ impl Book {
     /// Seals the book where every task is closed: the entries of its log are then a strong basis. The book keeps the
     /// seal for good, and answers it again. `StillOpen` comes exactly where a task isn't closed.
     pub fn seal(&mut self, alloc: Global) -> Result<Arc<Sealed>, SealFault>
-        ensures { MatchResult result (λ s. IsSealed self.old (arc_value s) self.new) (λ fault. IsNotSealed self.old fault self.new) }
+        ensures { MatchResult result (λ s. IsSealed self.old (arc_value s) self.new)
+            (λ fault. IsNotSealed self.old fault self.new) }
     {
         if let Some(task) = self.tasks.least(&self.log, Wanted::Unclosed) {
             return Err(SealFault::StillOpen { task });

@@ -1,6 +1,7 @@
 //! Work on tasks.
 
-ghost use Rattle.std.specs.Prelude.{◌≡◌, ◌≢◌, ℕ, ◌<◌, IfOk, MatchBool, MatchResult, List, [], Some, Ok, negsuc, cond, map, length, slice_get, true};
+ghost use Rattle.std.specs.Prelude.{◌≡◌, ◌≢◌, ℕ, ◌<◌, IfOk, MatchBool, MatchResult, List, [], Some, Ok, negsuc, cond};
+ghost use Rattle.std.specs.Prelude.{map, length, slice_get, true};
 ghost use Rattle.std.specs.Arc.{arc_value};
 ghost use Rattle.std.specs.List.{AllByRecursion};
 ghost use Rattle.formal_sums.specs.FormalSum.{scale};
@@ -23,8 +24,8 @@ use std::sync::Arc;
 use step_lists::Steps;
 use strong_pairs::{covers, pair_steps, pair_vector};
 
-/// Works a task by a list of entries of the presentation: a G task is covered, or the pair's vector is reduced by the whole
-/// list. The outcome's front is the number of entries, and each entry used is the list's.
+/// Works a task by a list of entries of the presentation: a G task is covered, or the pair's vector is reduced by the
+/// whole list. The outcome's front is the number of entries, and each entry used is the list's.
 ///
 /// `Stop` is the limit that the pair's vector meets, or its reduction.
 pub fn work<F: Front>(
@@ -67,7 +68,8 @@ struct CarriedOut {
 /// Makes the pair's vector and reduces it.
 fn carry_out<L: VecList>(alloc: Global, list: &L, task: Task) -> Result<CarriedOut, WorkFault>
     requires { IsPair (L.vectors list.now) task.i task.j }
-    ensures { MatchResult result (λ done. IsCarriedOut (L.vectors list.now) task done.first done.second done.steps.items done.rest)
+    ensures { MatchResult result (λ done. IsCarriedOut (L.vectors list.now) task done.first done.second
+        done.steps.items done.rest)
         (λ fault. HaltsBy (L.vectors list.now) task fault) }
 {
     let (first, second) = pair_steps(list, task.kind, task.i, task.j)?;
@@ -108,7 +110,8 @@ fn close<F: Front>(
     requires entries { AreOf (arc_value p.now) (F.entries list.now) }
     requires pair { IsPair (vectors_of (F.entries list.now)) task.i task.j }
     requires uncovered { IsUncovered (vectors_of (F.entries list.now)) task }
-    requires done { IsCarriedOut (vectors_of (F.entries list.now)) task done.first done.second done.steps.items done.rest }
+    requires done { IsCarriedOut (vectors_of (F.entries list.now)) task done.first done.second
+        done.steps.items done.rest }
     ensures { IfOk result (λ outcome. Works (arc_value p.now) (F.entries list.now) task (Ok outcome)) }
 {
     // The proof needs what holds of the entries, and the call says so.
@@ -133,9 +136,11 @@ fn rest_entry<F: Front>(
     requires entries { AreOf (arc_value p.now) (F.entries list.now) }
     requires pair { IsPair (vectors_of (F.entries list.now)) task.i task.j }
     requires uncovered { IsUncovered (vectors_of (F.entries list.now)) task }
-    requires done { IsCarriedOut (vectors_of (F.entries list.now)) task done.first done.second done.steps.items done.rest }
+    requires done { IsCarriedOut (vectors_of (F.entries list.now)) task done.first done.second
+        done.steps.items done.rest }
     requires some { done.rest ≢ [] }
-    ensures { IfOk result (λ entry. IsOfRest (arc_value p.now) done.rest (recipe_of done.first done.second done.steps.items) (arc_value entry)) }
+    ensures { IfOk result (λ entry. IsOfRest (arc_value p.now) done.rest
+        (recipe_of done.first done.second done.steps.items) (arc_value entry)) }
 {
     // The proof needs what holds of the entries, and the call says so.
     let _ = list.front();

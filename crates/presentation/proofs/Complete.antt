@@ -1,5 +1,6 @@
 -- What is in the grammar is read.
-use Rattle.std.proofs.Common.{◌≡◌, ◌==◌, ◌||◌, ℕ, zero, suc, ◌+◌, ◌<◌, ◌≤◌, true, false, nat_le, nat_lt, List, [], ◌∷◌, ◌++◌, length, drop, Ok, refl, ◌∙◌, ap, append_assoc, length-append, codes, arith}
+use Rattle.std.proofs.Common.{◌≡◌, ◌==◌, ◌||◌, ℕ, zero, suc, ◌+◌, ◌<◌, ◌≤◌, true, false, nat_le, nat_lt, List, [], ◌∷◌, ◌++◌, length, drop, Ok, refl, ◌∙◌, ap}
+use Rattle.std.proofs.Common.{append_assoc, length-append, codes, arith}
 use Rattle.std.specs.List.{list_any}
 use Rattle.std.specs.Str.{bytes_eq}
 use Rattle.std.proofs.lemmas.Bool.Decides.{nat_tests}
@@ -10,7 +11,8 @@ use Rattle.word_text.specs.Scan.{first_is, after_blanks, name_at, after_name, di
 use Rattle.word_text.specs.Machine.{Find, finding}
 use Rattle.presentation.specs.declared.TheConstants.{RELATORS, MODULUS}
 use Rattle.presentation.specs.Presented.{Presented, AreDistinct}
-use Rattle.presentation.specs.Reading.{new_name, name_behind, names_from, names_at, equation_at, relator_at, relators_from, relators_at, presentation_at, ending, modulus_number, modulus_at, presentation_text}
+use Rattle.presentation.specs.Reading.{new_name, name_behind, names_from, names_at, equation_at, relator_at, relators_from, relators_at, presentation_at}
+use Rattle.presentation.specs.Reading.{ending, modulus_number, modulus_at, presentation_text}
 use Rattle.presentation.specs.Grammar.{NameAt, NamesAt, RelatorAt, SomeRelatorsAt, RelatorsAt, PresentationAt, ModulusAt, IsPresentation}
 use Rattle.presentation.proofs.Distinct.{distinct_before}
 use Rattle.presentation.proofs.Quotients.{quotient_again}
@@ -50,7 +52,8 @@ names_again (x ∷ m ∷ ns) seen (suc n) bs rest h f room few d =
     rw (here, h.2) (names_again (m ∷ ns) (seen ++ x ∷ []) n (drop 1 h.0) rest h.3 f (omega (arith, length-append seen (x ∷ [])))
     (rw same few) (rw same d) ∙ ap (λ (l : List (List ℕ)). Ok (l, rest)) same)
 
-pub names_at_again : (bs : List ℕ) (ns : List (List ℕ)) (rest : List ℕ) → NamesAt bs ns rest → first_is 44 rest ≡ false → length ns ≤ GENERATORS → AreDistinct ns
+pub names_at_again : (bs : List ℕ) (ns : List (List ℕ)) (rest : List ℕ) → NamesAt bs ns rest → first_is 44 rest ≡ false → length ns ≤ GENERATORS
+    → AreDistinct ns
     → names_at bs ≡ Ok (ns, rest)
 unfolding names_at
 names_at_again bs ns rest h f few d = names_again ns [] (suc GENERATORS) bs rest h f refl few d
@@ -79,7 +82,8 @@ some_again (r ∷ q ∷ rs) before (suc n) find bs rest h e room few =
     (some_again (q ∷ rs) (before ++ r ∷ []) n find (drop 1 h.0) rest h.3 e (omega (arith, length-append before (r ∷ []))) (rw same few)
     ∙ ap (λ (l : List (List Letter)). Ok (l, rest)) same)
 
-pub relators_again : (find : Find) (bs : List ℕ) (rs : List (List Letter)) (rest : List ℕ) → RelatorsAt find bs rs rest → first_is 62 rest ≡ true → length rs ≤ RELATORS
+pub relators_again : (find : Find) (bs : List ℕ) (rs : List (List Letter)) (rest : List ℕ) → RelatorsAt find bs rs rest → first_is 62 rest ≡ true
+    → length rs ≤ RELATORS
     → relators_at find bs ≡ Ok (rs, rest)
 unfolding relators_at
 relators_again find bs [] rest h e few = rw (h.0, h.1) refl

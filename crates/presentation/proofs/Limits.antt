@@ -86,7 +86,8 @@ is_presented bs names relators rest h = record {
 name_end : (bs n rest : List ℕ) → NameAt bs n rest → Tail bs rest
 name_end bs n rest h =
     let here : List ℕ = after_blanks bs in
-    rw (h.leaves) (join bs here (after_blanks (after_name here)) (blanks bs) (join here (after_name here) (after_blanks (after_name here)) (name here) (blanks (after_name here))))
+    rw (h.leaves) (join bs here (after_blanks (after_name here)) (blanks bs) (join here (after_name here) (after_blanks (after_name here)) (name here)
+    (blanks (after_name here))))
 
 names_end : (bs : List ℕ) (ns : List (List ℕ)) (rest : List ℕ) → NamesAt bs ns rest → Tail bs rest
 names_end bs [] rest h = absurd h
@@ -111,7 +112,8 @@ relators_end : (find : Find) (bs : List ℕ) (rs : List (List Letter)) (rest : L
 relators_end find bs [] rest h = rw (h.1) (blanks bs)
 relators_end find bs (r ∷ rs) rest h = some_end find bs (r ∷ rs) rest h.1
 
-pub presentation_end : (bs : List ℕ) (names : List (List ℕ)) (relators : List (List Letter)) (rest : List ℕ) → PresentationAt bs names relators rest → Tail bs rest
+pub presentation_end : (bs : List ℕ) (names : List (List ℕ)) (relators : List (List Letter)) (rest : List ℕ) → PresentationAt bs names relators rest
+    → Tail bs rest
 presentation_end bs names relators rest h =
     let begin : List ℕ = after_blanks bs in
     rw (h.leaves)

@@ -1,5 +1,6 @@
 -- What is read is in the grammar.
-use Rattle.std.proofs.Common.{◌≡◌, ℕ, zero, suc, ◌<◌, ◌≤◌, Bool, true, false, nat_le, nat_lt, List, [], ◌∷◌, ◌++◌, length, drop, Ok, Err, refl, sym, ◌∙◌, ap, subst, append_assoc, length-append, arith, if◌then◌else◌}
+use Rattle.std.proofs.Common.{◌≡◌, ℕ, zero, suc, ◌<◌, ◌≤◌, Bool, true, false, nat_le, nat_lt, List, [], ◌∷◌, ◌++◌, length, drop, Ok, Err, refl, sym, ◌∙◌, ap}
+use Rattle.std.proofs.Common.{subst, append_assoc, length-append, arith, if◌then◌else◌}
 use Rattle.std.specs.List.{list_any}
 use Rattle.std.specs.Str.{bytes_eq}
 use Rattle.std.proofs.lemmas.Bool.Decides.{nat_tests}
@@ -102,11 +103,13 @@ names_by n seen bs name mid all rest false t h e goes =
       distinct = λ d. rw is at (distinct_push seen name d h.new);
     }
 
-pub names_sound : (n : ℕ) (seen : List (List ℕ)) (bs : List ℕ) (all : List (List ℕ)) (rest : List ℕ) → names_from n seen bs ≡ Ok (all, rest) → NewNames seen bs all rest
+pub names_sound : (n : ℕ) (seen : List (List ℕ)) (bs : List ℕ) (all : List (List ℕ)) (rest : List ℕ) → names_from n seen bs ≡ Ok (all, rest)
+    → NewNames seen bs all rest
 unfolding names_from
 names_sound zero seen bs all rest e = cc
 names_sound (suc n) seen bs all rest e =
-    let x = bind_ok (name_behind seen bs) (λ (x : List ℕ × List ℕ). if first_is 44 x.1 then names_from n (seen ++ x.0 ∷ []) (drop 1 x.1) else Ok (seen ++ x.0 ∷ [], x.1)) (all, rest) e in
+    let x = bind_ok (name_behind seen bs) (λ (x : List ℕ × List ℕ). if first_is 44 x.1 then names_from n (seen ++ x.0 ∷ []) (drop 1 x.1) else Ok
+    (seen ++ x.0 ∷ [], x.1)) (all, rest) e in
     names_by n seen bs x.0.0 x.0.1 all rest (first_is 44 x.0.1) refl (name_sound seen bs x.0.0 x.0.1 x.1) x.2
     (λ g. names_sound n (seen ++ x.0.0 ∷ []) (drop 1 x.0.1) all rest g)
 

@@ -1,5 +1,6 @@
 -- A written word is read back.
-use Rattle.std.proofs.Common.{IsTrue, ◌≡◌, ℕ, zero, suc, ◌<◌, ◌≤◌, Bool, true, false, List, [], ◌∷◌, ◌++◌, length, map, Ok, refl, ap, ◌∙◌, arith, append_assoc, append-nil, length-append, codes}
+use Rattle.std.proofs.Common.{IsTrue, ◌≡◌, ℕ, zero, suc, ◌<◌, ◌≤◌, Bool, true, false, List, [], ◌∷◌, ◌++◌, length, map, Ok, refl, ap, ◌∙◌, arith, append_assoc}
+use Rattle.std.proofs.Common.{append-nil, length-append, codes}
 use Rattle.std.specs.List.{AllByRecursion}
 use Rattle.free_words.specs.declared.letter.Letter.{Letter}
 use Rattle.free_words.specs.Words.{IsOver, copies}
@@ -38,7 +39,8 @@ unfolding is_blank is_name_byte is_letter is_digit
 space = (refl, refl)
 
 -- a run behind a space
-after_space : (names : List (List ℕ)) (r : Run) (rest : List ℕ) → IsName (name_of names r.letter.g) → after_blanks (32 ∷ text_of names r rest) ≡ text_of names r rest
+after_space : (names : List (List ℕ)) (r : Run) (rest : List ℕ) → IsName (name_of names r.letter.g)
+    → after_blanks (32 ∷ text_of names r rest) ≡ text_of names r rest
 after_space names r rest h =
     skipped 32 (text_of names r rest) space.0 ∙ name_plain (name_of names r.letter.g) (written_exponent r.letter.inv r.count ++ rest) h
 
@@ -60,7 +62,8 @@ chain names known r [] outer spot rest (suc fuel) over le ends lt =
     let f = name_found names r.letter.g known.distinct over.0 in
     let short : length (outer ++ letters_of r) ≤ written = rw (append-nil (letters_of r)) at le in
     run_step (finding names) (name_of names r.letter.g) r outer spot rest fuel h f short ends.apart
-    ∙ rw (append-nil (letters_of r)) (word_ends (finding names) fuel (outer ++ letters_of r) rest (omega (arith, run_longer (name_of names r.letter.g) r rest h)) ends)
+    ∙ rw (append-nil (letters_of r)) (word_ends (finding names) fuel (outer ++ letters_of r) rest
+    (omega (arith, run_longer (name_of names r.letter.g) r rest h)) ends)
 chain names known r (q ∷ rs) outer spot rest (suc fuel) over le ends lt =
     let h = name_holds IsName names r.letter.g known.each over.0 in
     let f = name_found names r.letter.g known.distinct over.0 in
@@ -76,7 +79,8 @@ chain names known r (q ∷ rs) outer spot rest (suc fuel) over le ends lt =
     ∙ rw (after_space names q (more names rs rest) k, ← assoc) (chain names known q rs (outer ++ letters_of r) After rest fuel over.1 all ends room))
 
 -- blanks at the head are skipped
-skips : (find : Find) (fuel : ℕ) (text bs : List ℕ) → after_blanks text ≡ bs → 0 < fuel → word_from written fuel find (at [] Start) text ≡ word_from written fuel find (at [] Start) bs
+skips : (find : Find) (fuel : ℕ) (text bs : List ℕ) → after_blanks text ≡ bs → 0 < fuel
+    → word_from written fuel find (at [] Start) text ≡ word_from written fuel find (at [] Start) bs
 unfolding word_from turn
 skips find zero text bs e lt = absurd (omega arith)
 skips find (suc fuel) text bs e lt = rw (← e, blanks_once text) refl

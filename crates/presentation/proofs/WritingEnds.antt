@@ -1,5 +1,6 @@
 -- What follows a written word.
-use Rattle.std.proofs.Common.{◌≡◌, ◌⊎◌, inl, inr, ℕ, ◌≤◌, ◌==◌, ◌||◌, Bool, true, false, not, if◌then◌else◌, List, [], ◌∷◌, length, take_while, refl, sym, ◌∙◌, arith, length-drop}
+use Rattle.std.proofs.Common.{◌≡◌, ◌⊎◌, inl, inr, ℕ, ◌≤◌, ◌==◌, ◌||◌, Bool, true, false, not, if◌then◌else◌, List, [], ◌∷◌, length, take_while, refl, sym, ◌∙◌}
+use Rattle.std.proofs.Common.{arith, length-drop}
 use Rattle.std.proofs.lemmas.Bool.Decides.{nat_tests}
 use Rattle.std.proofs.lemmas.List.Sums.{take_while-cons}
 use Rattle.word_text.specs.declared.scan.Mark.{Mark}
@@ -113,10 +114,14 @@ begins_none b e =
 no_more : (b : ℕ) → is_of_word b ≡ false → (is_name_byte b ≡ false) × ((b == 94) ≡ false)
 no_more b e = or_false (is_name_byte b) (b == 94) (or_false _ (b == 42) (or_false _ (b == 40) (or_false _ (b == 91) e).0).0).0
 
-ends_by : (b : ℕ) (bs : List ℕ) (t : Bool) → is_blank b ≡ t → (if t then ends_word bs else not (is_of_word b)) ≡ true → (ends_word bs ≡ true → Ends bs) → Ends (b ∷ bs)
+ends_by : (b : ℕ) (bs : List ℕ) (t : Bool) → is_blank b ≡ t → (if t then ends_word bs else not (is_of_word b)) ≡ true → (ends_word bs ≡ true → Ends bs)
+    → Ends (b ∷ bs)
 ends_by b bs true blank e again =
     let h = again e in
-    record { apart = record { name = blank_no_name b (blank_cases b blank); power = rw (skipped b bs blank) h.apart.power }; factor = rw (skipped b bs blank) h.factor }
+    record {
+      apart = record { name = blank_no_name b (blank_cases b blank); power = rw (skipped b bs blank) h.apart.power };
+      factor = rw (skipped b bs blank) h.factor;
+    }
 ends_by b bs false blank e again =
     let o = not_true (is_of_word b) e in
     record { apart = record { name = (no_more b o).0; power = rw (kept b bs blank) (no_more b o).1 }; factor = rw (kept b bs blank) (begins_none b o) }

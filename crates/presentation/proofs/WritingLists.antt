@@ -1,5 +1,6 @@
 -- Written names and relators are read one after another.
-use Rattle.std.proofs.Common.{◌≡◌, ℕ, zero, suc, ◌<◌, ◌≤◌, true, false, nat_le, List, [], ◌∷◌, ◌++◌, length, map, Contains, Ok, refl, ap, ◌∙◌, arith, append_assoc, length-append, codes}
+use Rattle.std.proofs.Common.{◌≡◌, ℕ, zero, suc, ◌<◌, ◌≤◌, true, false, nat_le, List, [], ◌∷◌, ◌++◌, length, map, Contains, Ok, refl, ap, ◌∙◌, arith}
+use Rattle.std.proofs.Common.{append_assoc, length-append, codes}
 use Rattle.std.proofs.lemmas.Bool.Decides.{nat_tests}
 use Rattle.std.proofs.lemmas.List.Elements.{Contains-append_right}
 use Rattle.std.specs.List.{AllByRecursion, list_any}
@@ -35,7 +36,8 @@ room : (m : ℕ) (seen : List (List ℕ)) → length seen < m → nat_le m (leng
 room m seen lt = grind (arith, nat_tests)
 
 -- a name behind others
-pub name_new : (seen : List (List ℕ)) (n text more : List ℕ) → IsName n → Stops is_name_byte more → length seen < GENERATORS → list_any (bytes_eq n) seen ≡ false
+pub name_new : (seen : List (List ℕ)) (n text more : List ℕ) → IsName n → Stops is_name_byte more → length seen < GENERATORS
+    → list_any (bytes_eq n) seen ≡ false
     → after_blanks text ≡ n ++ more → name_behind seen text ≡ Ok (n, after_blanks more)
 unfolding name_behind
 name_new seen n text more h s lt fresh e =

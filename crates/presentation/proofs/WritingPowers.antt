@@ -57,7 +57,13 @@ unfolding powers_from exponent_at
 positive_read fuel start g n rest le apart =
     let num = decimal_is n (omega arith) in
     let p = digits_plain (decimal n) rest num.some num.digits in
-    rw (p.0, p.1, size_read false (decimal n) rest n num le (stops_digit rest apart.name), made_ok written start (copies n (letter g false ∷ [])) (short n (letter g false) le), apart.power) refl
+    rw (
+      p.0,
+      p.1,
+      size_read false (decimal n) rest n num le (stops_digit rest apart.name),
+      made_ok written start (copies n (letter g false ∷ [])) (short n (letter g false) le),
+      apart.power,
+    ) refl
 
 minus : is_blank 45 ≡ false
 unfolding is_blank
@@ -69,7 +75,13 @@ unfolding powers_from exponent_at
 inverse_read fuel start g n rest le apart =
     let num = decimal_is n (omega arith) in
     let p = digits_plain (decimal n) rest num.some num.digits in
-    rw (kept 45 (decimal n ++ rest) minus, p.0, size_read true (decimal n) rest n num le (stops_digit rest apart.name), made_ok written start (copies n (letter g true ∷ [])) (short n (letter g true) le), apart.power) refl
+    rw (
+      kept 45 (decimal n ++ rest) minus,
+      p.0,
+      size_read true (decimal n) rest n num le (stops_digit rest apart.name),
+      made_ok written start (copies n (letter g true ∷ [])) (short n (letter g true) le),
+      apart.power,
+    ) refl
 
 -- one letter has no exponent
 single_read : (fuel start g : ℕ) (rest : List ℕ) → Apart rest

@@ -1,5 +1,6 @@
 -- Written runs are read one after another.
-use Rattle.std.proofs.Common.{◌≡◌, ℕ, zero, suc, ◌<◌, ◌≤◌, ◌==◌, Bool, true, false, if◌then◌else◌, List, [], ◌∷◌, ◌++◌, length, Some, Ok, refl, arith, length-append, decimal}
+use Rattle.std.proofs.Common.{◌≡◌, ℕ, zero, suc, ◌<◌, ◌≤◌, ◌==◌, Bool, true, false, if◌then◌else◌, List, [], ◌∷◌, ◌++◌, length, Some, Ok, refl, arith}
+use Rattle.std.proofs.Common.{length-append, decimal}
 use Rattle.free_words.specs.declared.letter.Letter.{Letter}
 use Rattle.free_words.specs.Words.{copies}
 use Rattle.free_words.proofs.WordLemmas.{length_copies}
@@ -79,18 +80,26 @@ name_some : (n : List ℕ) → IsName n → 0 < length n
 name_some [] h = cc h.0
 name_some (b ∷ bs) h = omega arith
 
-pub run_step : (find : Find) (name : List ℕ) (r : Run) (outer : List Letter) (spot : Spot) (rest : List ℕ) (fuel : ℕ) → IsName name → find name ≡ Some r.letter.g
+pub run_step : (find : Find) (name : List ℕ) (r : Run) (outer : List Letter) (spot : Spot) (rest : List ℕ) (fuel : ℕ) → IsName name
+    → find name ≡ Some r.letter.g
     → length (outer ++ letters_of r) ≤ written → Apart rest
-    → word_from written (suc fuel) find (at outer spot) (run_text name r rest) ≡ word_from written fuel find (at (outer ++ letters_of r) After) (after_blanks rest)
+    → word_from written (suc fuel) find (at outer spot) (run_text name r rest)
+    ≡ word_from written fuel find (at (outer ++ letters_of r) After) (after_blanks rest)
 unfolding word_from
 run_step find name r outer spot rest fuel h found le apart = rw (run_turn find name r outer spot rest h found le apart) refl
 
 pub run_longer : (name : List ℕ) (r : Run) (rest : List ℕ) → IsName name → length rest < length (run_text name r rest)
 run_longer name r rest h =
-    omega (arith, name_some name h, length-append name (written_exponent r.letter.inv r.count ++ rest), length-append (written_exponent r.letter.inv r.count) rest)
+    omega (
+      arith,
+      name_some name h,
+      length-append name (written_exponent r.letter.inv r.count ++ rest),
+      length-append (written_exponent r.letter.inv r.count) rest,
+    )
 
 -- where no factor begins the word ends
-ends_by : (find : Find) (m : Mark) (w : List Letter) (bs : List ℕ) → BeginsNone m → turn_on written find m (at w After) bs ≡ Ok (record { state = at w After; ended = true; rest = bs })
+ends_by : (find : Find) (m : Mark) (w : List Letter) (bs : List ℕ) → BeginsNone m
+    → turn_on written find m (at w After) bs ≡ Ok (record { state = at w After; ended = true; rest = bs })
 ends_by find marks.Letter w bs n = absurd n
 ends_by find marks.One w bs n = absurd n
 ends_by find marks.Round w bs n = absurd n
@@ -99,7 +108,8 @@ ends_by find marks.Star w bs n = absurd n
 ends_by find marks.Bad w bs n = refl
 ends_by find marks.Other w bs n = refl
 
-pub word_ends : (find : Find) (fuel : ℕ) (w : List Letter) (rest : List ℕ) → 0 < fuel → Ends rest → word_from written fuel find (at w After) (after_blanks rest) ≡ Ok (w, after_blanks rest)
+pub word_ends : (find : Find) (fuel : ℕ) (w : List Letter) (rest : List ℕ) → 0 < fuel → Ends rest
+    → word_from written fuel find (at w After) (after_blanks rest) ≡ Ok (w, after_blanks rest)
 unfolding word_from turn
 word_ends find zero w rest lt ends = absurd (omega arith)
 word_ends find (suc fuel) w rest lt ends = rw (blanks_once rest, ends_by find (mark_of (after_blanks rest)) w (after_blanks rest) ends.factor) refl

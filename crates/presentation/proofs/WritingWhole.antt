@@ -1,5 +1,6 @@
 -- A written presentation is read back.
-use Rattle.std.proofs.Common.{◌≡◌, inl, inr, ℕ, ◌<◌, ◌≤◌, ◌==◌, ◌||◌, Bool, true, false, nat_lt, if◌then◌else◌, List, [], ◌∷◌, ◌++◌, length, map, take_while, Ok, refl, sym, ap, ◌∙◌, subst, arith, append_assoc, append-nil, codes, decimal}
+use Rattle.std.proofs.Common.{◌≡◌, inl, inr, ℕ, ◌<◌, ◌≤◌, ◌==◌, ◌||◌, Bool, true, false, nat_lt, if◌then◌else◌, List, [], ◌∷◌, ◌++◌, length, map, take_while}
+use Rattle.std.proofs.Common.{Ok, refl, sym, ap, ◌∙◌, subst, arith, append_assoc, append-nil, codes, decimal}
 use Rattle.std.proofs.lemmas.Bool.Decides.{nat_tests}
 use Rattle.std.proofs.lemmas.List.{drop_all}
 use Rattle.std.specs.List.{AllByRecursion}
@@ -21,7 +22,8 @@ use Rattle.presentation.specs.Grammar.{IsPresentation}
 use Rattle.presentation.proofs.SoundWhole.{text_sound}
 use Rattle.presentation.proofs.WritingLists.{EndsNames, names_after, names_chain, relators_after, relators_chain}
 
-marks_plain : (is_blank 32 ≡ true) × (is_blank 60 ≡ false) × (is_blank 62 ≡ false) × (is_blank 124 ≡ false) × (is_name_byte 32 ≡ false) × (is_name_byte 62 ≡ false)
+marks_plain : (is_blank 32 ≡ true) × (is_blank 60 ≡ false) × (is_blank 62 ≡ false) × (is_blank 124 ≡ false) × (is_name_byte 32 ≡ false)
+    × (is_name_byte 62 ≡ false)
 unfolding is_blank is_name_byte is_letter is_digit
 marks_plain = (refl, refl, refl, refl, refl, refl)
 

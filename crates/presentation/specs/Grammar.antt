@@ -1,5 +1,5 @@
--- The grammar of presentations between bytes and values, apart from any reader. A part stands at bytes, has a value, and
--- leaves the bytes after it.
+-- The grammar of presentations between bytes and values, apart from any reader. A part stands at bytes, has a value,
+-- and leaves the bytes after it.
 use Rattle.std.specs.Prelude.{◌≡◌, ℕ, zero, suc, ◌<◌, ◌≤◌, true, false, codes, List, [], ◌∷◌, ◌++◌, length, drop}
 use Rattle.free_words.specs.declared.letter.Letter.{Letter}
 use Rattle.free_words.specs.declared.TheConstants.{GENERATORS, WRITTEN}
@@ -22,13 +22,17 @@ pub record NameAt (bs name rest : List ℕ) : Type 0 where
 abbrev pub NamesAt : List ℕ → List (List ℕ) → List ℕ → Type 0
 NamesAt bs [] rest = ⊥
 NamesAt bs (n ∷ []) rest = NameAt bs n rest
-NamesAt bs (n ∷ m ∷ ns) rest = (mid : List ℕ) × NameAt bs n mid × (first_is 44 mid ≡ true) × NamesAt (drop 1 mid) (m ∷ ns) rest
+NamesAt bs (n ∷ m ∷ ns) rest = (mid : List ℕ) × NameAt bs n mid × (first_is 44 mid ≡ true)
+    × NamesAt (drop 1 mid) (m ∷ ns) rest
 
 -- a word, or two words u and v with `=` between them, which say that u v^-1 is a relator
 pub data RelatorAt (find : Find) : List ℕ → List Letter → List ℕ → Type 0 where
-  word : (s : Spot) (bs rest : List ℕ) (w : List Letter) → Spelled find (Product s) (after_blanks bs) w rest → RelatorAt find bs w rest
-  equation : (s t : Spot) (bs mid rest : List ℕ) (u v : List Letter) → Spelled find (Product s) (after_blanks bs) u mid → first_is 61 mid ≡ true
-      → Spelled find (Product t) (after_blanks (drop 1 mid)) v rest → length (u ++ inverse v) ≤ WRITTEN → RelatorAt find bs (u ++ inverse v) rest
+  word : (s : Spot) (bs rest : List ℕ) (w : List Letter) → Spelled find (Product s) (after_blanks bs) w rest
+      → RelatorAt find bs w rest
+  equation : (s t : Spot) (bs mid rest : List ℕ) (u v : List Letter) → Spelled find (Product s) (after_blanks bs) u mid
+      → first_is 61 mid ≡ true
+      → Spelled find (Product t) (after_blanks (drop 1 mid)) v rest → length (u ++ inverse v) ≤ WRITTEN
+      → RelatorAt find bs (u ++ inverse v) rest
 
 -- one relator or more with commas between them
 abbrev pub SomeRelatorsAt : Find → List ℕ → List (List Letter) → List ℕ → Type 0
@@ -43,7 +47,8 @@ RelatorsAt find bs [] rest = (first_is 62 (after_blanks bs) ≡ true) × (rest �
 RelatorsAt find bs (r ∷ rs) rest = (first_is 62 (after_blanks bs) ≡ false) × SomeRelatorsAt find bs (r ∷ rs) rest
 
 -- a presentation without its modulus, within the limits: `<`, the names, `|`, the relators over them, and `>`
-pub record PresentationAt (bs : List ℕ) (names : List (List ℕ)) (relators : List (List Letter)) (rest : List ℕ) : Type 0 where
+pub record PresentationAt (bs : List ℕ) (names : List (List ℕ)) (relators : List (List Letter))
+    (rest : List ℕ) : Type 0 where
   pub opens : first_is 60 (after_blanks bs) ≡ true
   pub bar : List ℕ
   pub names_stand : NamesAt (drop 1 (after_blanks bs)) names bar

@@ -1,5 +1,6 @@
 -- Parts of a longer line, read one after another.
-use Rattle.std.specs.Prelude.{◌≡◌, ℕ, ◌≤◌, ◌==◌, nat_lt, Bool, codes, List, length, take, drop, Option, Some, None, Result, Ok, Err, if◌then◌else◌}
+use Rattle.std.specs.Prelude.{◌≡◌, ℕ, ◌≤◌, ◌==◌, nat_lt, Bool, codes, List, length, take, drop, Option, Some, None}
+use Rattle.std.specs.Prelude.{Result, Ok, Err, if◌then◌else◌}
 use Rattle.std.specs.Str.{bytes_eq}
 use Rattle.word_text.specs.declared.fault.Fault.{Fault}
 use Rattle.word_text.specs.declared.fault.TextKind.TheVariants.{Expected, UnknownName}
@@ -19,10 +20,12 @@ IsEnd bs rest = (n : ℕ) × (n ≤ length bs) × (rest ≡ drop n bs)
 -- What a reader answers that stands at the place `old` of a line, and the place `new` where it then stands. It has read
 -- what is read from the old place on, and stands before what is left of it. After a fault, whose column is one of this
 -- line, and where memory ran out, it stands where it stood.
-abbrev pub ReadsOn : {X Y : Type 0} → (X → Y) → List ℕ → ℕ → ℕ → ℕ → Result (Y × List ℕ) Fault → Result X ReadFault → Type 0
+abbrev pub ReadsOn : {X Y : Type 0} → (X → Y) → List ℕ → ℕ → ℕ → ℕ → Result (Y × List ℕ) Fault
+    → Result X ReadFault → Type 0
 ReadsOn view text line old new read (Ok x) = (new ≤ length text) × (read ≡ Ok (view x, drop new text))
 ReadsOn view text line old new read (Err faults.NoMemory) = new ≡ old
-ReadsOn view text line old new read (Err (faults.Text f)) = (new ≡ old) × (e : Fault) × (read ≡ Err e) × (f ≡ on_line text line e)
+ReadsOn view text line old new read (Err (faults.Text f)) = (new ≡ old) × (e : Fault) × (read ≡ Err e)
+    × (f ≡ on_line text line e)
 
 -- the same of what takes no memory and knows no line: the value, or the fault
 abbrev pub Reads : {X Y : Type 0} → (X → Y) → Result X Fault → Result Y Fault → Type 0
@@ -63,7 +66,10 @@ is_end bs = length (after_blanks bs) == 0
 abbrev pub letter_of : Option ℕ → List ℕ → Result (Letter × List ℕ) Fault
 letter_of None bs = Err (record { kind = UnknownName; left = length bs })
 letter_of (Some g) bs =
-    let rest : List ℕ = after_name bs in Ok (record { g = g; inv = comes_next (codes "^-1") rest }, after_mark (codes "^-1") rest)
+    let rest : List ℕ = after_name bs in Ok (
+      record { g = g; inv = comes_next (codes "^-1") rest },
+      after_mark (codes "^-1") rest,
+    )
 
 abbrev pub letter_on : Find → Mark → List ℕ → Result (Letter × List ℕ) Fault
 letter_on find marks.Letter bs = letter_of (find (name_at bs)) bs

@@ -1,15 +1,18 @@
 -- Reading a presentation from left to right: the value of each part and what follows it, or the first fault.
-use Rattle.std.specs.Prelude.{ℕ, zero, suc, ◌==◌, nat_le, nat_lt, ◌||◌, codes, List, [], ◌∷◌, ◌++◌, length, drop, Result, Ok, Err, if◌then◌else◌}
+use Rattle.std.specs.Prelude.{ℕ, zero, suc, ◌==◌, nat_le, nat_lt, ◌||◌, codes, List, [], ◌∷◌, ◌++◌, length, drop}
+use Rattle.std.specs.Prelude.{Result, Ok, Err, if◌then◌else◌}
 use Rattle.std.specs.List.{list_any}
 use Rattle.std.specs.Str.{bytes_eq}
 use Rattle.free_words.specs.declared.letter.Letter.{Letter}
 use Rattle.free_words.specs.declared.TheConstants.{GENERATORS, WRITTEN}
 use Rattle.free_words.specs.Words.{inverse}
 use Rattle.word_text.specs.declared.fault.Fault.{Fault}
-use Rattle.word_text.specs.declared.fault.TextKind.TheVariants.{TooManyNames, RepeatedName, TooManyRelators, ModulusOutOfRange, WordTooLong}
+use Rattle.word_text.specs.declared.fault.TextKind.TheVariants.{TooManyNames, RepeatedName, TooManyRelators}
+use Rattle.word_text.specs.declared.fault.TextKind.TheVariants.{ModulusOutOfRange, WordTooLong}
 use Rattle.word_text.specs.declared.scan.Mark.{Mark}
 use Rattle.word_text.specs.declared.scan.Mark.TheVariants as marks
-use Rattle.word_text.specs.Scan.{◌>>=◌, first_is, after_blanks, name_at, after_name, digits_at, after_digits, mark_of, number, due}
+use Rattle.word_text.specs.Scan.{◌>>=◌, first_is, after_blanks, name_at, after_name, digits_at, after_digits, mark_of}
+use Rattle.word_text.specs.Scan.{number, due}
 use Rattle.word_text.specs.Machine.{Find, finding, word_at}
 use Rattle.presentation.specs.declared.TheConstants.{RELATORS, MODULUS}
 use Rattle.presentation.specs.Presented.{Presented}
@@ -42,7 +45,8 @@ name_behind seen bs = name_on (mark_of (after_blanks bs)) seen (after_blanks bs)
 unfoldable pub names_from : ℕ → List (List ℕ) → List ℕ → Result (List (List ℕ) × List ℕ) Fault
 names_from zero seen bs = Err (due bs)
 names_from (suc n) seen bs =
-    name_behind seen bs >>= λ x. if first_is 44 x.1 then names_from n (seen ++ x.0 ∷ []) (drop 1 x.1) else Ok (seen ++ x.0 ∷ [], x.1)
+    name_behind seen bs >>= λ x. if first_is 44 x.1 then names_from n (seen ++ x.0 ∷ []) (drop 1 x.1) else Ok
+    (seen ++ x.0 ∷ [], x.1)
 
 -- names with commas between them, and what follows them and their blanks. One turn more than there may be names tells
 -- that there are too many.
@@ -52,7 +56,10 @@ names_at bs = names_from (suc GENERATORS) [] bs
 -- the word u v^-1, where it isn't too long for a written one
 abbrev pub quotient : ℕ → List Letter → List Letter → Result (List Letter) Fault
 quotient start u v =
-    if nat_lt WRITTEN (length (u ++ inverse v)) then Err (record { kind = WordTooLong; left = start }) else Ok (u ++ inverse v)
+    if nat_lt WRITTEN (length (u ++ inverse v)) then Err (record {
+      kind = WordTooLong;
+      left = start;
+    }) else Ok (u ++ inverse v)
 
 -- the equation of a word with the word behind the `=` that stands here
 unfoldable pub equation_at : Find → List Letter → List ℕ → Result (List Letter × List ℕ) Fault
@@ -68,13 +75,17 @@ relators_from zero find before bs = Err (due bs)
 relators_from (suc n) find before bs =
     relator_at find bs >>= λ r.
     if first_is 44 r.1
-    then (if nat_le RELATORS (length (before ++ r.0 ∷ [])) then Err (record { kind = TooManyRelators; left = length r.1 })
+    then (if nat_le RELATORS (length (before ++ r.0 ∷ [])) then Err (record {
+      kind = TooManyRelators;
+      left = length r.1;
+    })
     else relators_from n find (before ++ r.0 ∷ []) (drop 1 r.1))
     else Ok (before ++ r.0 ∷ [], r.1)
 
 -- no relators where `>` comes next, and else relators with commas between them
 unfoldable pub relators_at : Find → List ℕ → Result (List (List Letter) × List ℕ) Fault
-relators_at find bs = if first_is 62 (after_blanks bs) then Ok ([], after_blanks bs) else relators_from RELATORS find [] bs
+relators_at find bs = if first_is 62 (after_blanks bs) then Ok ([], after_blanks bs) else relators_from
+    RELATORS find [] bs
 
 -- a presentation without a modulus, and what follows its `>`
 unfoldable pub presentation_at : List ℕ → Result (Presented × List ℕ) Fault
@@ -92,14 +103,19 @@ ending m bs = if length (after_blanks bs) == 0 then Ok m else Err (due (after_bl
 unfoldable pub modulus_number : List ℕ → Result ℕ Fault
 modulus_number bs =
     if length (digits_at bs) == 0 then Err (due bs)
-    else if nat_lt (number 0 (digits_at bs)) 2 || nat_lt MODULUS (number 0 (digits_at bs)) then Err (record { kind = ModulusOutOfRange; left = length bs })
+    else if nat_lt (number 0 (digits_at bs)) 2 || nat_lt MODULUS (number 0 (digits_at bs)) then Err (record {
+      kind =
+          ModulusOutOfRange;
+      left = length bs;
+    })
     else ending (number 0 (digits_at bs)) (after_digits bs)
 
 -- blanks alone, or the word `modulus` and its number
 unfoldable pub modulus_at : List ℕ → Result ℕ Fault
 modulus_at bs =
     if length (after_blanks bs) == 0 then Ok 0
-    else if bytes_eq (name_at (after_blanks bs)) (codes "modulus") then modulus_number (after_blanks (after_name (after_blanks bs)))
+    else if bytes_eq (name_at (after_blanks bs)) (codes "modulus") then modulus_number
+    (after_blanks (after_name (after_blanks bs)))
     else Err (due (after_blanks bs))
 
 -- the presentation that is the whole text

@@ -1,5 +1,6 @@
 -- The one form in which words and presentations are written.
-use Rattle.std.specs.Prelude.{ℕ, suc, ◌<◌, Bool, true, false, not, ◌&&◌, ◌||◌, ◌==◌, List, [], ◌∷◌, ◌++◌, map, slice_get, unwrap_or, if◌then◌else◌, codes, decimal}
+use Rattle.std.specs.Prelude.{ℕ, suc, ◌<◌, Bool, true, false, not, ◌&&◌, ◌||◌, ◌==◌, List, [], ◌∷◌, ◌++◌, map}
+use Rattle.std.specs.Prelude.{slice_get, unwrap_or, if◌then◌else◌, codes, decimal}
 use Rattle.std.specs.List.{AllByRecursion}
 use Rattle.free_words.specs.declared.letter.Letter.{Letter}
 use Rattle.word_text.specs.Scan.{is_blank, is_name_byte}
@@ -61,7 +62,8 @@ written_modulus m = if m == 0 then [] else codes " modulus " ++ decimal m
 
 -- `<`, names, ` | `, relators and `>`
 abbrev pub written_bare : List (List ℕ) → List (List Letter) → List ℕ
-written_bare names relators = codes "<" ++ joined (codes ", ") names ++ codes " | " ++ joined (codes ", ") (map (written_word names) relators) ++ codes ">"
+written_bare names relators = codes "<" ++ joined (codes ", ") names ++ codes " | "
+    ++ joined (codes ", ") (map (written_word names) relators) ++ codes ">"
 
 -- the same, and the modulus where there is one
 abbrev pub written_presentation : Presented → List ℕ
@@ -71,7 +73,8 @@ written_presentation p = written_bare p.names p.relators ++ written_modulus p.mo
 abbrev pub is_of_word : ℕ → Bool
 is_of_word b = is_name_byte b || (b == 94) || (b == 42) || (b == 40) || (b == 91)
 
--- what may follow a written word in a longer text: blanks, and then nothing or a byte at which no factor begins or goes on
+-- what may follow a written word in a longer text: blanks, and then nothing or a byte at which no factor begins or goes
+-- on
 abbrev pub ends_word : List ℕ → Bool
 ends_word [] = true
 ends_word (b ∷ bs) = if is_blank b then ends_word bs else not (is_of_word b)

@@ -17,7 +17,8 @@ impl<'a> WordReader<'a> {
     pub fn at_keyword(&mut self, word: &str) -> bool
         requires { self.old.at ≤ length self.old.text.now }
         ensures answer { result ≡ is_word word.now (drop self.old.at self.old.text.now) }
-        ensures found { IsTrue result → drop self.new.at self.old.text.now ≡ after_word (drop self.old.at self.old.text.now) }
+        ensures found { IsTrue result → drop self.new.at self.old.text.now
+            ≡ after_word (drop self.old.at self.old.text.now) }
         ensures stays { IsFalse result → self.new.at ≡ self.old.at }
         ensures inside { self.new.at ≤ length self.old.text.now }
         ensures text { self.new.text ≡ self.old.text }
@@ -43,7 +44,8 @@ impl<'a> WordReader<'a> {
     /// The fault of what stands here, behind blanks, and can't. It takes no memory.
     pub fn unexpected(&self) -> ReadFault
         requires { self.now.at ≤ length self.now.text.now }
-        ensures { result ≡ ReadFault.Text (on_line self.now.text.now self.now.line (due (after_blanks (drop self.now.at self.now.text.now)))) }
+        ensures { result ≡ ReadFault.Text (on_line self.now.text.now self.now.line
+            (due (after_blanks (drop self.now.at self.now.text.now)))) }
     {
         ReadFault::Text(on_line(self.text, self.line, due(skip_blanks(self.rest()))))
     }

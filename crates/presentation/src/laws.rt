@@ -31,7 +31,8 @@ pub fn head_is_spelled()
 
 /// A presentation of the grammar without a modulus is read at the head of a text, whatever follows it.
 pub fn spelled_head_is_read()
-    ensures { (text : List ℕ) (names : List (List ℕ)) (relators : List (List Letter)) (rest : List ℕ) → PresentationAt text names relators rest
+    ensures { (text : List ℕ) (names : List (List ℕ)) (relators : List (List Letter)) (rest : List ℕ)
+        → PresentationAt text names relators rest
         → presentation_at text ≡ Ok (record { names = names; relators = relators; modulus = 0 }, rest) }
 {}
 

@@ -20,16 +20,32 @@ impl Model for Presentation {
 
     ghost Value = { Presented };
 
-    ghost view = { λ p. record { names = map string_bytes p.names.items; relators = p.relators.items; modulus = p.modulus } };
+    ghost view = { λ p. record {
+      names = map string_bytes p.names.items;
+      relators = p.relators.items;
+      modulus = p.modulus;
+    } };
 
-    ghost invariant = { λ p. IsPresented (record { names = map string_bytes p.names.items; relators = p.relators.items; modulus = p.modulus }) };
+    ghost invariant = { λ p. IsPresented (record {
+      names = map string_bytes p.names.items;
+      relators = p.relators.items;
+      modulus = p.modulus;
+    }) };
 }
 
 impl Presentation {
     /// The presentation of these names, relators and modulus.
     pub(crate) fn of(names: Vec<String>, relators: Vec<Word>, modulus: u32) -> Presentation
-        requires { IsPresented (record { names = map string_bytes names.items; relators = relators.items; modulus = modulus }) }
-        ensures { result ≡ record { names = map string_bytes names.items; relators = relators.items; modulus = modulus } }
+        requires { IsPresented (record {
+          names = map string_bytes names.items;
+          relators = relators.items;
+          modulus = modulus;
+        }) }
+        ensures { result ≡ record {
+          names = map string_bytes names.items;
+          relators = relators.items;
+          modulus = modulus;
+        } }
     {
         Presentation {
             names,

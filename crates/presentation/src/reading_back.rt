@@ -28,15 +28,18 @@ pub fn written_word_is_read()
 /// A written word is read back at the head of a longer text, where no factor begins or goes on behind it.
 #[tactic(auto, using(crate::proofs::WritingBack::word_read_first))]
 pub fn written_word_is_read_first()
-    ensures { (p : Presented) (w : List Letter) (rest : List ℕ) → IsPresented p → IsWritten (length p.names) w → IsTrue (ends_word rest)
+    ensures { (p : Presented) (w : List Letter) (rest : List ℕ) → IsPresented p → IsWritten (length p.names) w
+        → IsTrue (ends_word rest)
         → word_at (finding p.names) (written_word p.names w ++ rest) ≡ Ok (w, after_blanks rest) }
 {}
 
 /// The same behind blanks.
 #[tactic(auto, using(crate::proofs::WritingBack::word_read_before))]
 pub fn written_word_is_read_behind_blanks()
-    ensures { (p : Presented) (w : List Letter) (text rest : List ℕ) → IsPresented p → IsWritten (length p.names) w → IsTrue (ends_word rest)
-        → after_blanks text ≡ written_word p.names w ++ rest → word_at (finding p.names) text ≡ Ok (w, after_blanks rest) }
+    ensures { (p : Presented) (w : List Letter) (text rest : List ℕ) → IsPresented p → IsWritten (length p.names) w
+        → IsTrue (ends_word rest)
+        → after_blanks text ≡ written_word p.names w ++ rest → word_at (finding p.names) text
+        ≡ Ok (w, after_blanks rest) }
 {}
 
 /// A written presentation is read back.
@@ -53,11 +56,13 @@ pub fn written_presentation_is_spelled()
 
 /// A written presentation without a modulus is read back at the head of a longer text.
 pub fn written_presentation_is_read_first()
-    ensures { (p : Presented) (rest : List ℕ) → IsPresented p → p.modulus ≡ 0 → presentation_at (written_presentation p ++ rest) ≡ Ok (p, rest) }
+    ensures { (p : Presented) (rest : List ℕ) → IsPresented p → p.modulus ≡ 0
+        → presentation_at (written_presentation p ++ rest) ≡ Ok (p, rest) }
 {}
 
 /// The same behind blanks.
 pub fn written_presentation_is_read_behind_blanks()
-    ensures { (p : Presented) (text rest : List ℕ) → IsPresented p → p.modulus ≡ 0 → after_blanks text ≡ written_presentation p ++ rest
+    ensures { (p : Presented) (text rest : List ℕ) → IsPresented p → p.modulus ≡ 0
+        → after_blanks text ≡ written_presentation p ++ rest
         → presentation_at text ≡ Ok (p, rest) }
 {}

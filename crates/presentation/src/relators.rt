@@ -67,7 +67,8 @@ fn some_relators<'a>(
     text: &'a [u8],
 ) -> Result<(Vec<Word>, &'a [u8]), ReadError>
     requires { length names.now ≤ 24 }
-    ensures { Gives (λ x. (x.0.items, x.1.now)) result (relators_from RELATORS (finding (map string_bytes names.now)) [] text.now) }
+    ensures { Gives (λ x. (x.0.items, x.1.now)) result (relators_from RELATORS (finding (map string_bytes names.now))
+        [] text.now) }
 {
     let mut relators = Vec::new(alloc);
     let mut rest = text;

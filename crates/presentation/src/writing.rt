@@ -7,7 +7,8 @@ ghost use Rattle.word_text.specs.Machine.{finding};
 ghost use Rattle.word_text.specs.Place.{word_text};
 ghost use Rattle.presentation.specs.Presented.{IsWritten};
 ghost use Rattle.presentation.specs.Reading.{presentation_text};
-ghost use Rattle.presentation.specs.Writing.{runs, AreOver, joined, led_by, written_exponent, written_run, written_word, written_modulus, written_presentation};
+ghost use Rattle.presentation.specs.Writing.{runs, AreOver, joined, led_by, written_exponent, written_run};
+ghost use Rattle.presentation.specs.Writing.{written_word, written_modulus, written_presentation};
 
 use crate::presentation::Presentation;
 use crate::runs::{Run, first_run};
@@ -91,7 +92,8 @@ fn append_word(out: &mut Vec<u8>, p: &Presentation, letters: &[Letter]) -> Resul
 // The runs of these letters, each with a space before it.
 fn append_more(out: &mut Vec<u8>, p: &Presentation, letters: &[Letter]) -> Result<(), AllocError>
     requires { AreOver (length p.now.names) (runs letters.now) }
-    ensures { OnOk result (out.new.items ≡ out.old.items ++ led_by (codes " ") (map (written_run p.now.names) (runs letters.now))) }
+    ensures { OnOk result (out.new.items ≡ out.old.items ++ led_by (codes " ")
+        (map (written_run p.now.names) (runs letters.now))) }
 {
     let mut rest = letters;
     while let Some((run, after)) = first_run(rest) {
@@ -118,7 +120,8 @@ fn append_names(out: &mut Vec<u8>, names: &[String]) -> Result<(), AllocError>
 
 fn append_relators(out: &mut Vec<u8>, p: &Presentation, relators: &[Word]) -> Result<(), AllocError>
     requires { AllByRecursion (IsWritten (length p.now.names)) relators.now }
-    ensures { OnOk result (out.new.items ≡ out.old.items ++ joined (codes ", ") (map (written_word p.now.names) relators.now)) }
+    ensures { OnOk result (out.new.items ≡ out.old.items ++ joined (codes ", ")
+        (map (written_word p.now.names) relators.now)) }
 {
     let Some((first, others)) = relators.split_first() else {
         return Ok(());

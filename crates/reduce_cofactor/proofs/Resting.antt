@@ -65,7 +65,8 @@ rests_zero b f p h e i t g d =
     d.moves (ap (λ k. int_div_euclid k t.k) e ∙ zero_floor (pos 0) t.k (omega (arith, ints)) positive)
 
 -- where the floor by the reducer's lead is 0
-pub rests_left : (b : List (List Term)) (f : Coefficients) (p : Place) (i : ℕ) (e : Term) (g : List Term) → IsReducer b p i e g → int_div_euclid (f p) e.k ≡ pos 0 → Rests b f p
+pub rests_left : (b : List (List Term)) (f : Coefficients) (p : Place) (i : ℕ) (e : Term) (g : List Term) → IsReducer b p i e g
+    → int_div_euclid (f p) e.k ≡ pos 0 → Rests b f p
 rests_left b f p i e g r z j t h d =
     let same : e ≡ t = same_lead b i j e t g h (same_reducer b p i j e t g h r d.reducer) r.entry d.reducer.entry in
     d.moves (ap (λ (u : Term). int_div_euclid (f p) u.k) (sym same) ∙ z)
@@ -89,16 +90,23 @@ floor_in_range k (negsuc l) h w = absurd (omega (arith, ints))
 -- ---- what is read of an entry
 
 -- the vector that is read is the entry
-pub read_entry : (vs : List (List Term)) (front i : ℕ) (v : List Term) (e : Term) (g : List Term) → Entry (take front vs) i e g → slice_get vs i ≡ Some v → v ≡ e ∷ g
+pub read_entry : (vs : List (List Term)) (front i : ℕ) (v : List Term) (e : Term) (g : List Term) → Entry (take front vs) i e g
+    → slice_get vs i ≡ Some v → v ≡ e ∷ g
 read_entry vs front i v e g r a = let both : Some (e ∷ g) ≡ Some v = sym (get_take front i vs (e ∷ g) r) ∙ a in cc
 
 -- and its first term the lead
-pub read_lead : (vs : List (List Term)) (front i : ℕ) (v terms : List Term) (e : Term) (g : List Term) (x : Term) → Entry (take front vs) i e g → slice_get vs i ≡ Some v → terms ≡ v → x ≡ get_or terms 0 x → e ≡ x
+pub read_lead : (vs : List (List Term)) (front i : ℕ) (v terms : List Term) (e : Term) (g : List Term) (x : Term) → Entry (take front vs) i e g
+    → slice_get vs i ≡ Some v → terms ≡ v → x ≡ get_or terms 0 x → e ≡ x
 read_lead vs front i v terms e g x r a same read = sym (read ∙ ap (λ w. get_or w 0 x) (same ∙ read_entry vs front i v e g r a))
 
 -- an entry in two parts, as the code reads it
-pub read_parts : (b : List (List Term)) (i : ℕ) (e : Term) (g entry terms : List Term) (x : Term) → Entry b i e g → slice_get b i ≡ Some entry → terms ≡ entry → x ≡ get_or terms 0 x → (e ≡ x) × (g ≡ take (length terms - 1) (drop 1 terms))
-read_parts b i e g entry terms x r a same read = (sym (read ∙ ap (λ w. get_or w 0 x) whole), sym (ap (λ w. take (length w - 1) (drop 1 w)) whole ∙ ap (λ n. take n g) one_less ∙ take_all (length g) g (omega arith)))
+pub read_parts : (b : List (List Term)) (i : ℕ) (e : Term) (g entry terms : List Term) (x : Term) → Entry b i e g → slice_get b i ≡ Some entry → terms ≡ entry
+    → x ≡ get_or terms 0 x → (e ≡ x) × (g ≡ take (length terms - 1) (drop 1 terms))
+read_parts b i e g entry terms x r a same read = (
+  sym (read ∙ ap (λ w. get_or w 0 x) whole),
+  sym (ap (λ w. take (length w - 1) (drop 1 w)) whole
+      ∙ ap (λ n. take n g) one_less ∙ take_all (length g) g (omega arith)),
+)
   where
     whole : terms ≡ e ∷ g
     whole = let both : Some (e ∷ g) ≡ Some entry = sym r ∙ a in let last : entry ≡ e ∷ g = cc in same ∙ last
@@ -112,15 +120,18 @@ all_take P (suc n) [] h = tt
 all_take P (suc n) (x ∷ v) h = (h.0, all_take P n v h.1)
 
 -- no term of the multiple passes the greatest degree
-pub room_behind : (t : List ℕ) (entry terms : List Term) (n : ℕ) → Falls entry → HasRoom t entry → terms ≡ entry → AllByRecursion (λ u. degree t + degree u.at.m ≤ DEGREE) (take n (drop 1 terms))
-room_behind t entry terms n f h same = subst (λ w. AllByRecursion (λ u. degree t + degree u.at.m ≤ DEGREE) (take n (drop 1 w))) (sym same) (all_take _ n (drop 1 entry) (all_drop _ 1 entry (room_each t entry f h)))
+pub room_behind : (t : List ℕ) (entry terms : List Term) (n : ℕ) → Falls entry → HasRoom t entry → terms ≡ entry
+    → AllByRecursion (λ u. degree t + degree u.at.m ≤ DEGREE) (take n (drop 1 terms))
+room_behind t entry terms n f h same = subst (λ w. AllByRecursion (λ u. degree t + degree u.at.m ≤ DEGREE) (take n (drop 1 w))) (sym same)
+    (all_take _ n (drop 1 entry) (all_drop _ 1 entry (room_each t entry f h)))
 
 -- the number of the reducer is in the list
 pub in_list : (vs : List (List Term)) (front i : ℕ) (e : Term) (g : List Term) → Entry (take front vs) i e g → i < length vs
 in_list vs front i e g r = slice_get_within vs i (e ∷ g) (get_take front i vs (e ∷ g) r)
 
 -- the multiple stands at the place of t, so its degree is that of t
-pub room_at : (vs : List (List Term)) (front : ℕ) (t : Term) (s : Step) (v : List Term) → AreEntries vs → IsPlace t.at → IsStepAt (take front vs) t s → slice_get vs s.by ≡ Some v → HasRoom s.t v
+pub room_at : (vs : List (List Term)) (front : ℕ) (t : Term) (s : Step) (v : List Term) → AreEntries vs → IsPlace t.at → IsStepAt (take front vs) t s
+    → slice_get vs s.by ≡ Some v → HasRoom s.t v
 room_at vs front t s v h place due e = subst (HasRoom s.t) (sym (read_entry vs front s.by v due.lead due.others due.reducer.entry e)) room
   where
     entry : IsEntry (due.lead ∷ due.others)
@@ -144,5 +155,6 @@ err_matches R (Ok x) P Q h f = absurd h
 err_matches R (Err e) P Q h f = f e h
 
 -- the vector that is read stands in the front of the list
-pub entry_before : (vs : List (List Term)) (front i : ℕ) (v : List Term) (e : Term) (g : List Term) → Entry (take front vs) i e g → slice_get vs i ≡ Some v → slice_get (take front vs) i ≡ Some v
+pub entry_before : (vs : List (List Term)) (front i : ℕ) (v : List Term) (e : Term) (g : List Term) → Entry (take front vs) i e g → slice_get vs i ≡ Some v
+    → slice_get (take front vs) i ≡ Some v
 entry_before vs front i v e g r a = r ∙ ap Some (sym (read_entry vs front i v e g r a))

@@ -23,7 +23,8 @@ sparse_rest : (u : Term) (w : List Term) → IsSparse (u ∷ w) → IsSparse w
 sparse_rest u w h = record { falling = h.falling.1; terms = h.terms.1 }
 
 -- the terms above p stand first wherever falling terms have their coefficients
-pub same_front : (p : Place) (rest w : List Term) → IsSparse rest → IsSparse w → Above p rest → ((x : Place) → IsBelow p x → coefficient_at w x ≡ coefficient_at rest x) → take (length rest) w ≡ rest
+pub same_front : (p : Place) (rest w : List Term) → IsSparse rest → IsSparse w → Above p rest
+    → ((x : Place) → IsBelow p x → coefficient_at w x ≡ coefficient_at rest x) → take (length rest) w ≡ rest
 same_front p [] w h g above e = refl
 same_front p (r ∷ rest) [] h g above e = absurd (h.terms.0.nonzero (sym (at_first r rest h.falling.0) ∙ sym (e r.at above.0)))
 same_front p (r ∷ rest) (u ∷ w) h g above e = by (same_front p rest w (sparse_rest r rest h) (sparse_rest u w g) above.1) (order.total u.at r.at)
@@ -31,7 +32,8 @@ same_front p (r ∷ rest) (u ∷ w) h g above e = by (same_front p rest w (spars
     read : coefficient_at (u ∷ w) r.at ≡ r.k
     read = e r.at above.0 ∙ at_first r rest h.falling.0
 
-    by : (((x : Place) → IsBelow p x → coefficient_at w x ≡ coefficient_at rest x) → take (length rest) w ≡ rest) → (u.at ≡ r.at) ⊎ (IsBelow u.at r.at ⊎ IsBelow r.at u.at) → take (length (r ∷ rest)) (u ∷ w) ≡ r ∷ rest
+    by : (((x : Place) → IsBelow p x → coefficient_at w x ≡ coefficient_at rest x) → take (length rest) w ≡ rest)
+        → (u.at ≡ r.at) ⊎ (IsBelow u.at r.at ⊎ IsBelow r.at u.at) → take (length (r ∷ rest)) (u ∷ w) ≡ r ∷ rest
     by again (inl same) = λ i. first i ∷ again tails i
       where
         k : u.k ≡ r.k
@@ -42,7 +44,8 @@ same_front p (r ∷ rest) (u ∷ w) h g above e = by (same_front p rest w (spars
 
         tails : (x : Place) → IsBelow p x → coefficient_at w x ≡ coefficient_at rest x
         tails x up =
-            let heads : cond (same_place u.at x) u.k (pos 0) ≡ cond (same_place r.at x) r.k (pos 0) = ap (λ (t : Term). cond (same_place t.at x) t.k (pos 0)) first in
+            let heads : cond (same_place u.at x) u.k (pos 0) ≡ cond (same_place r.at x) r.k (pos 0) =
+            ap (λ (t : Term). cond (same_place t.at x) t.k (pos 0)) first in
             let whole : cond (same_place u.at x) u.k (pos 0) +ℤ coefficient_at w x ≡ cond (same_place r.at x) r.k (pos 0) +ℤ coefficient_at rest x = e x up in
             omega (arith, ints, heads, whole)
     by again (inr (inl down)) = absurd (h.terms.0.nonzero (sym read ∙ at_none u w r.at g.falling.0 down))

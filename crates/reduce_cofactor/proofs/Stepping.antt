@@ -1,5 +1,6 @@
 -- One step of the code is one step of the chain.
-use Rattle.std.proofs.Common.{◌≡◌, ℕ, ◌+◌, ◌-◌, ◌*◌, ◌<◌, ◌≤◌, ℤ, pos, ◌+ℤ◌, ◌-ℤ◌, ◌*ℤ◌, Bool, true, false, cond, List, [], ◌∷◌, ◌++◌, length, take, drop, length-append, append_assoc, append-nil, refl, sym, ap, ◌∙◌, subst, arith, ◌⊎◌, inl, inr}
+use Rattle.std.proofs.Common.{◌≡◌, ℕ, ◌+◌, ◌-◌, ◌*◌, ◌<◌, ◌≤◌, ℤ, pos, ◌+ℤ◌, ◌-ℤ◌, ◌*ℤ◌, Bool, true, false, cond, List, [], ◌∷◌, ◌++◌, length, take, drop}
+use Rattle.std.proofs.Common.{length-append, append_assoc, append-nil, refl, sym, ap, ◌∙◌, subst, arith, ◌⊎◌, inl, inr}
 use Rattle.std.specs.Prelude.{neg_ℤ, ◌<ℤ◌, Some, None}
 use Rattle.std.specs.Int.{int_div_euclid}
 use Rattle.std.specs.List.{AllByRecursion}
@@ -29,7 +30,8 @@ use Rattle.module_vec.specs.Reducers.{IsEntry, AreEntries}
 use Rattle.module_vec.specs.Modules.{vector_at, steps_at, sum_of_steps}
 use Rattle.module_vec.specs.Chains.{Rests, IsNext, Goes, Runs, StepIsWide, ChainStops, taken_at, after}
 use Rattle.module_vec.proofs.Order.{test, order}
-use Rattle.module_vec.proofs.FallingTerms.{Above, Below, Falls, all_front, all_back, all_join, all_insert, falls_back, falls_insert, below_from_first, at_join, at_above, at_below}
+use Rattle.module_vec.proofs.FallingTerms.{Above, Below, Falls, all_front, all_back, all_join, all_insert, falls_back, falls_insert, below_from_first, at_join}
+use Rattle.module_vec.proofs.FallingTerms.{at_above, at_below}
 use Rattle.module_vec.proofs.Merging.{in_range, in_range_not_wide}
 use Rattle.module_vec.proofs.Scans.{read_within}
 use Rattle.reduce_cofactor.specs.Steps.{IsStepAt, RestsWith}
@@ -49,8 +51,10 @@ pub runs_to : (b : List (List Term)) (ss : List Step) (v f g : Coefficients) →
 runs_to b [] v f g e r = λ x. e x ∙ r x
 runs_to b (s ∷ ss) v f g e r = (r.0, r.1, runs_to b ss (after b v s) f g e r.2)
 
-runs_push : (b : List (List Term)) (ss : List Step) (v f g : Coefficients) (s : Step) → Runs b v ss f → IsNext b f s → Goes b f s → ((x : Place) → g x ≡ after b f s x) → Runs b v (ss ++ s ∷ []) g
-runs_push b [] v f g s r n h e = let same : Path Coefficients f v = λ i x. r x i in subst (λ w. IsNext b w s × Goes b w s × ((x : Place) → g x ≡ after b w s x)) same (n, h, e)
+runs_push : (b : List (List Term)) (ss : List Step) (v f g : Coefficients) (s : Step) → Runs b v ss f → IsNext b f s → Goes b f s
+    → ((x : Place) → g x ≡ after b f s x) → Runs b v (ss ++ s ∷ []) g
+runs_push b [] v f g s r n h e = let same : Path Coefficients f v = λ i x. r x i
+    in subst (λ w. IsNext b w s × Goes b w s × ((x : Place) → g x ≡ after b w s x)) same (n, h, e)
 runs_push b (u ∷ ss) v f g s r n h e = (r.0, r.1, runs_push b ss (after b v u) f g s r.2 n h e)
 
 -- what the steps take and what is left add up to the vector
@@ -58,7 +62,8 @@ pub runs_sum : (b : List (List Term)) (ss : List Step) (v f : Coefficients) → 
 runs_sum b [] v f r x = let e : f x ≡ v x = r x in omega (arith, ints)
 runs_sum b (s ∷ ss) v f r x =
     let rest : v x -ℤ taken_at b s x ≡ steps_at b ss x +ℤ f x = runs_sum b ss (after b v s) f r.2 x in
-    let split : steps_at b (s ∷ ss) x ≡ taken_at b s x +ℤ steps_at b ss x = coefficient-append same_place (multiple s.q s.t (vector_at b s.by)) (sum_of_steps b ss) x in
+    let split : steps_at b (s ∷ ss) x ≡ taken_at b s x +ℤ steps_at b ss x =
+    coefficient-append same_place (multiple s.q s.t (vector_at b s.by)) (sum_of_steps b ss) x in
     omega (arith, ints)
 
 pub all_push : {A : Type 0} (P : A → Type 0) (v : List A) (x : A) → AllByRecursion P v → P x → AllByRecursion P (v ++ x ∷ [])
@@ -71,7 +76,8 @@ fewer_left n m k l e few short = omega arith
 
 -- ---- the greatest term is done
 
-pub keeps : (b : List (List Term)) (v : Coefficients) (ss : List Step) (rest : List Term) (t : Term) (dividend : List Term) → Running b v ss rest (t ∷ dividend) → RestsWith b t → Running b v ss (rest ++ t ∷ []) dividend
+pub keeps : (b : List (List Term)) (v : Coefficients) (ss : List Step) (rest : List Term) (t : Term) (dividend : List Term) → Running b v ss rest (t ∷ dividend)
+    → RestsWith b t → Running b v ss (rest ++ t ∷ []) dividend
 keeps b v ss rest t dividend r quiet = record {
   entries = r.entries;
   sparse = subst IsSparse whole r.sparse;
@@ -100,7 +106,8 @@ keeps b v ss rest t dividend r quiet = record {
 
 -- ---- the step at the greatest term
 
-module _ (b : List (List Term)) (v : Coefficients) (ss : List Step) (rest : List Term) (t : Term) (dividend : List Term) (s : Step) (r : Running b v ss rest (t ∷ dividend)) (due : IsStepAt b t s) where
+module _ (b : List (List Term)) (v : Coefficients) (ss : List Step) (rest : List Term) (t : Term) (dividend : List Term) (s : Step)
+    (r : Running b v ss rest (t ∷ dividend)) (due : IsStepAt b t s) where
   -- the vector before the step, and what the step takes
   abbrev before : Coefficients
   before = coefficient_at (rest ++ t ∷ dividend)
@@ -128,11 +135,13 @@ module _ (b : List (List Term)) (v : Coefficients) (ss : List Step) (rest : List
 
   lead_at : moved s.t due.lead.at ≡ t.at
   lead_at =
-      let m : product s.t due.lead.at.m ≡ t.at.m = product_comm s.t due.lead.at.m ∙ ap (product due.lead.at.m) due.monomial ∙ product-quotient due.lead.at.m t.at.m (sym same_length) due.reducer.reduces.1 in
+      let m : product s.t due.lead.at.m ≡ t.at.m = product_comm s.t due.lead.at.m ∙ ap (product due.lead.at.m) due.monomial
+      ∙ product-quotient due.lead.at.m t.at.m (sym same_length) due.reducer.reduces.1 in
       λ i. record { m = m i; c = due.reducer.reduces.0 i }
 
   others_below : AllBelow IsBelow t.at (multiple s.q s.t due.others)
-  others_below = subst (λ p. AllBelow IsBelow p (multiple s.q s.t due.others)) lead_at (multiple_below s.q s.t due.lead.at due.others long entry.vector.sparse.terms.0.place.variables entry.vector.sparse.terms.1 entry.vector.sparse.falling.0)
+  others_below = subst (λ p. AllBelow IsBelow p (multiple s.q s.t due.others)) lead_at
+      (multiple_below s.q s.t due.lead.at due.others long entry.vector.sparse.terms.0.place.variables entry.vector.sparse.terms.1 entry.vector.sparse.falling.0)
 
   rest_above : Above t.at rest
   rest_above = above_next rest t dividend r.sparse.falling
@@ -159,20 +168,24 @@ module _ (b : List (List Term)) (v : Coefficients) (ss : List Step) (rest : List
 
   here_taken : taken t.at ≡ s.q *ℤ due.lead.k
   here_taken =
-      let own_part : cond (same_place (moved s.t due.lead.at) t.at) (s.q *ℤ due.lead.k) (pos 0) ≡ s.q *ℤ due.lead.k = rw (ap (λ p. same_place p t.at) lead_at ∙ test.reflexive t.at) refl in
+      let own_part : cond (same_place (moved s.t due.lead.at) t.at) (s.q *ℤ due.lead.k) (pos 0) ≡ s.q *ℤ due.lead.k =
+      rw (ap (λ p. same_place p t.at) lead_at ∙ test.reflexive t.at) refl in
       omega (arith, ints, own_part, coefficient-above test order t.at (multiple s.q s.t due.others) others_below)
 
   below_taken : (x : Place) → IsBelow x t.at → taken x ≡ taken_below x
   below_taken x h =
-      let own_part : cond (same_place (moved s.t due.lead.at) x) (s.q *ℤ due.lead.k) (pos 0) ≡ pos 0 = rw (ap (λ p. same_place p x) lead_at ∙ eq-above test order t.at x h) refl in
+      let own_part : cond (same_place (moved s.t due.lead.at) x) (s.q *ℤ due.lead.k) (pos 0) ≡ pos 0 =
+      rw (ap (λ p. same_place p x) lead_at ∙ eq-above test order t.at x h) refl in
       omega (arith, ints, own_part)
 
   none_above_taken : (x : Place) → IsBelow t.at x → taken_below x ≡ pos 0
-  none_above_taken x h = coefficient-above test order x (multiple s.q s.t due.others) (AllBelow_transitive test order t.at x h (multiple s.q s.t due.others) others_below)
+  none_above_taken x h = coefficient-above test order x (multiple s.q s.t due.others)
+      (AllBelow_transitive test order t.at x h (multiple s.q s.t due.others) others_below)
 
   above_taken : (x : Place) → IsBelow t.at x → taken x ≡ pos 0
   above_taken x h =
-      let own_part : cond (same_place (moved s.t due.lead.at) x) (s.q *ℤ due.lead.k) (pos 0) ≡ pos 0 = rw (ap (λ p. same_place p x) lead_at ∙ eq-below test order t.at x h) refl in
+      let own_part : cond (same_place (moved s.t due.lead.at) x) (s.q *ℤ due.lead.k) (pos 0) ≡ pos 0 =
+      rw (ap (λ p. same_place p x) lead_at ∙ eq-below test order t.at x h) refl in
       omega (arith, ints, own_part, none_above_taken x h)
 
   vector_is : vector_at b s.by ≡ due.lead ∷ due.others
@@ -216,10 +229,12 @@ module _ (b : List (List Term)) (v : Coefficients) (ss : List Step) (rest : List
   narrow_here k e (inr w) = in_range_not_wide k e.1 (subst IsWide (left_here ∙ sym e.0) w)
 
   down : (x : Place) → IsBelow x t.at → IsWideAt x → IsWideBelow x
-  down x h w = subst (λ z. IsWide z ⊎ IsWide (coefficient_at dividend x -ℤ z)) (below_taken x h) (subst (λ z. IsWide (taken x) ⊎ IsWide (z -ℤ taken x)) (below_before x h) w)
+  down x h w = subst (λ z. IsWide z ⊎ IsWide (coefficient_at dividend x -ℤ z)) (below_taken x h)
+      (subst (λ z. IsWide (taken x) ⊎ IsWide (z -ℤ taken x)) (below_before x h) w)
 
   up_again : (x : Place) → IsBelow x t.at → IsWideBelow x → IsWideAt x
-  up_again x h w = subst (λ z. IsWide (taken x) ⊎ IsWide (z -ℤ taken x)) (sym (below_before x h)) (subst (λ z. IsWide z ⊎ IsWide (coefficient_at dividend x -ℤ z)) (sym (below_taken x h)) w)
+  up_again x h w = subst (λ z. IsWide (taken x) ⊎ IsWide (z -ℤ taken x)) (sym (below_before x h))
+      (subst (λ z. IsWide z ⊎ IsWide (coefficient_at dividend x -ℤ z)) (sym (below_taken x h)) w)
 
   only_below : (k : ℤ) → Subtracts t.k s.q due.lead.k (Some k) → (x : Place) → IsWideAt x → IsWideBelow x
   only_below k e x w = by (order.total x t.at)
@@ -233,7 +248,8 @@ module _ (b : List (List Term)) (v : Coefficients) (ss : List Step) (rest : List
   stands_below x w = by (order.total x t.at)
     where
       by : (x ≡ t.at) ⊎ (IsBelow x t.at ⊎ IsBelow t.at x) → IsBelow x t.at
-      by (inl same) = absurd (none_wide (coefficient_at dividend t.at) (taken_below t.at) (at_above t.at dividend dividend_below) (coefficient-above test order t.at (multiple s.q s.t due.others) others_below) (subst IsWideBelow same w))
+      by (inl same) = absurd (none_wide (coefficient_at dividend t.at) (taken_below t.at) (at_above t.at dividend dividend_below)
+          (coefficient-above test order t.at (multiple s.q s.t due.others) others_below) (subst IsWideBelow same w))
       by (inr (inl h)) = h
       by (inr (inr h)) = absurd (none_wide (coefficient_at dividend x) (taken_below x) (none_above_dividend x h) (none_above_taken x h) w)
 
@@ -252,7 +268,10 @@ module _ (b : List (List Term)) (v : Coefficients) (ss : List Step) (rest : List
       here (inr w) = inr (subst IsWide (sym left_here) w)
 
   wide_others : (k : ℤ) → Subtracts t.k s.q due.lead.k (Some k) → (p : Place) → IsGreatest IsWideBelow p → IsGreatest (StepIsWide b before s) p
-  wide_others k e p h = of_step (λ g. IsGreatest (DifferenceIsWide before g) p) (record { here = up_again p (stands_below p h.here) h.here; above = λ x lower w. h.above x lower (only_below k e x w) })
+  wide_others k e p h = of_step (λ g. IsGreatest (DifferenceIsWide before g) p) (record {
+    here = up_again p (stands_below p h.here) h.here;
+    above = λ x lower w. h.above x lower (only_below k e x w);
+  })
 
   -- ---- the stops
 
@@ -262,10 +281,12 @@ module _ (b : List (List Term)) (v : Coefficients) (ss : List Step) (rest : List
   pub stops_lead : length ss < STEPS → Subtracts t.k s.q due.lead.k None → ChainStops b v (Wide t.at (length ss + 1))
   stops_lead few wide = record { steps = ss; last = before; step = s; runs = r.runs; next = next; stops = (few, (refl, wide_lead wide)) }
 
-  pub stops_others : length ss < STEPS → (k : ℤ) → Subtracts t.k s.q due.lead.k (Some k) → (p : Place) → IsGreatest IsWideBelow p → ChainStops b v (Wide p (length ss + 1))
+  pub stops_others : length ss < STEPS → (k : ℤ) → Subtracts t.k s.q due.lead.k (Some k) → (p : Place) → IsGreatest IsWideBelow p
+      → ChainStops b v (Wide p (length ss + 1))
   stops_others few k e p wide = record { steps = ss; last = before; step = s; runs = r.runs; next = next; stops = (few, (refl, wide_others k e p wide)) }
 
-  pub stops_changes : length ss < STEPS → (k : ℤ) → Subtracts t.k s.q due.lead.k (Some k) → (fault : ReduceFault) → FailsAt (length ss + 1) IsWideBelow fault → Fails b v fault
+  pub stops_changes : length ss < STEPS → (k : ℤ) → Subtracts t.k s.q due.lead.k (Some k) → (fault : ReduceFault) → FailsAt (length ss + 1) IsWideBelow fault
+      → Fails b v fault
   stops_changes few k e (faults.Stop (Wide p n)) h = subst (λ m. ChainStops b v (Wide p m)) (sym h.0) (stops_others few k e p h.1)
   stops_changes few k e (faults.Stop (Long terms n)) h = absurd h
   stops_changes few k e (faults.Stop Deep) h = absurd h
@@ -309,12 +330,31 @@ module _ (b : List (List Term)) (v : Coefficients) (ss : List Step) (rest : List
       below_after : (x : Place) → IsBelow x t.at → after_step x ≡ coefficient_at dividend' x
       below_after x h =
           let own_part : cond (same_place t.at x) k (pos 0) ≡ pos 0 = rw (eq-above test order t.at x h) refl in
-          omega (arith, ints, at_join rest' dividend' x, rest_is x, own_part, at_below x rest (AllAbove_transitive test order t.at x h (sum_of rest) rest_above))
+          omega (
+            arith,
+            ints,
+            at_join rest' dividend' x,
+            rest_is x,
+            own_part,
+            at_below x rest
+                (AllAbove_transitive test order t.at x h (sum_of rest) rest_above),
+          )
 
       above_after : (x : Place) → IsBelow t.at x → after_step x ≡ before x
       above_after x h =
           let own_part : cond (same_place t.at x) k (pos 0) ≡ pos 0 = rw (eq-below test order t.at x h) refl in
-          omega (arith, ints, at_join rest' dividend' x, rest_is x, own_part, made.is x, none_above_dividend x h, none_above_taken x h, at_join rest (t ∷ dividend) x, above_open x h)
+          omega (
+            arith,
+            ints,
+            at_join rest' dividend' x,
+            rest_is x,
+            own_part,
+            made.is x,
+            none_above_dividend x h,
+            none_above_taken x h,
+            at_join rest (t ∷ dividend) x,
+            above_open x h,
+          )
 
       after_is : (x : Place) → after_step x ≡ before x -ℤ taken x
       after_is x = by (order.total x t.at)
@@ -339,7 +379,8 @@ module _ (b : List (List Term)) (v : Coefficients) (ss : List Step) (rest : List
           not_zero d m = h.terms.0.nonzero (omega (arith, ints, at_u, e u.at, d, m))
 
           by : (u.at ≡ t.at) ⊎ (IsBelow u.at t.at ⊎ IsBelow t.at u.at) → IsBelow u.at t.at
-          by (inl same) = absurd (not_zero (ap (coefficient_at dividend) same ∙ at_above t.at dividend dividend_below) (ap taken_below same ∙ coefficient-above test order t.at (multiple s.q s.t due.others) others_below))
+          by (inl same) = absurd (not_zero (ap (coefficient_at dividend) same ∙ at_above t.at dividend dividend_below) (ap taken_below same
+              ∙ coefficient-above test order t.at (multiple s.q s.t due.others) others_below))
           by (inr (inl h)) = h
           by (inr (inr h)) = absurd (not_zero (none_above_dividend u.at h) (none_above_taken u.at h))
 
@@ -377,7 +418,8 @@ module _ (b : List (List Term)) (v : Coefficients) (ss : List Step) (rest : List
           floor : int_div_euclid (after_step t.at) due.lead.k ≡ pos 0
           floor =
               let q : k ≡ t.k -ℤ int_div_euclid t.k due.lead.k *ℤ due.lead.k = made.left.0 ∙ ap (λ y. t.k -ℤ y *ℤ due.lead.k) due.factor in
-              ap (λ y. int_div_euclid y due.lead.k) (here_after ∙ q ∙ minus t.k (int_div_euclid t.k due.lead.k *ℤ due.lead.k)) ∙ floor_left t.k due.lead.k positive
+              ap (λ y. int_div_euclid y due.lead.k) (here_after ∙ q ∙ minus t.k (int_div_euclid t.k due.lead.k *ℤ due.lead.k))
+              ∙ floor_left t.k due.lead.k positive
             where
               minus : (y w : ℤ) → y -ℤ w ≡ y +ℤ neg_ℤ w
               minus y w = omega (arith, ints)
@@ -392,7 +434,12 @@ module _ (b : List (List Term)) (v : Coefficients) (ss : List Step) (rest : List
         entries = r.entries;
         sparse = sparse_after;
         short = short;
-        runs = runs_push b ss v before after_step s r.runs next (record { narrow = narrow_step k made.left made.narrow; count = length (rest' ++ dividend'); terms = terms_after; short = omega (arith, length-append rest' dividend', short) }) after_step_is;
+        runs = runs_push b ss v before after_step s r.runs next (record {
+          narrow = narrow_step k made.left made.narrow;
+          count = length (rest' ++ dividend');
+          terms = terms_after;
+          short = omega (arith, length-append rest' dividend', short);
+        }) after_step_is;
         settled = settled_after;
         most = omega (arith, length-append ss (s ∷ []), few);
         are = all_push _ ss s r.are (long, read_within b s.by (due.lead ∷ due.others) due.reducer.entry);
@@ -417,7 +464,10 @@ module _ (b : List (List Term)) (v : Coefficients) (ss : List Step) (rest : List
     above_row x h = omega (arith, ints, made.is x, above_taken x h)
 
     front_row : take (length rest) w ≡ rest
-    front_row = same_front t.at rest w (record { falling = falls_front rest (t ∷ dividend) r.sparse.falling; terms = all_front IsTerm rest (t ∷ dividend) r.sparse.terms }) made.vector.sparse rest_above
+    front_row = same_front t.at rest w (record {
+      falling = falls_front rest (t ∷ dividend) r.sparse.falling;
+      terms = all_front IsTerm rest (t ∷ dividend) r.sparse.terms;
+    }) made.vector.sparse rest_above
         (λ x h. omega (arith, ints, above_row x h, at_join rest (t ∷ dividend) x, above_open x h))
 
     whole_row : take (length rest) w ++ drop (length rest) w ≡ w
@@ -437,7 +487,8 @@ module _ (b : List (List Term)) (v : Coefficients) (ss : List Step) (rest : List
       where
         floor : int_div_euclid (coefficient_at w t.at) due.lead.k ≡ pos 0
         floor =
-            let q : coefficient_at w t.at ≡ t.k -ℤ int_div_euclid t.k due.lead.k *ℤ due.lead.k = made.is t.at ∙ left_here ∙ ap (λ y. t.k -ℤ y *ℤ due.lead.k) due.factor in
+            let q : coefficient_at w t.at ≡ t.k -ℤ int_div_euclid t.k due.lead.k *ℤ due.lead.k = made.is t.at ∙ left_here
+            ∙ ap (λ y. t.k -ℤ y *ℤ due.lead.k) due.factor in
             ap (λ y. int_div_euclid y due.lead.k) (q ∙ minus t.k (int_div_euclid t.k due.lead.k *ℤ due.lead.k)) ∙ floor_left t.k due.lead.k positive
           where
             minus : (y w : ℤ) → y -ℤ w ≡ y +ℤ neg_ℤ w
@@ -453,17 +504,38 @@ module _ (b : List (List Term)) (v : Coefficients) (ss : List Step) (rest : List
       entries = r.entries;
       sparse = subst IsSparse (sym whole_row) made.vector.sparse;
       short = omega (arith, ap (λ (u : List Term). length u) whole_row, length-append (take (length rest) w) (drop (length rest) w), made.vector.most);
-      runs = subst (λ (u : List Term). Runs b v (ss ++ s ∷ []) (coefficient_at u)) (sym whole_row) (runs_push b ss v before (coefficient_at w) s r.runs next (record { narrow = of_step (λ g. Nowhere (DifferenceIsWide before g)) made.narrow; count = length w; terms = record { v = w; sparse = made.vector.sparse; is = row_is; count = refl }; short = made.vector.most }) row_is);
+      runs = subst (λ (u : List Term). Runs b v (ss ++ s ∷ []) (coefficient_at u)) (sym whole_row)
+          (runs_push b ss v before (coefficient_at w) s r.runs next (record {
+            narrow = of_step (λ g. Nowhere (DifferenceIsWide before g)) made.narrow;
+            count = length w;
+            terms = record { v = w; sparse = made.vector.sparse; is = row_is; count = refl };
+            short = made.vector.most;
+          }) row_is);
       settled = λ x z. subst (λ (u : List Term). Rests b (coefficient_at u) x) (sym whole_row) (settled_row x z);
       most = omega (arith, length-append ss (s ∷ []), few);
       are = all_push _ ss s r.are (long, read_within b s.by (due.lead ∷ due.others) due.reducer.entry);
     }
 
     pub goes_merged : Running b v (ss ++ s ∷ []) (take (length rest) w) (drop (length rest) w) × (length rest ≤ length w)
-    goes_merged = (running_row, omega (arith, ap (λ (u : List Term). length u) front_row, ap (λ (u : List Term). length u) whole_row, length-append (take (length rest) w) (drop (length rest) w)))
+    goes_merged = (
+      running_row,
+      omega (
+        arith,
+        ap (λ (u : List Term). length u) front_row,
+        ap (λ (u : List Term). length u) whole_row,
+        length-append (take (length rest) w) (drop (length rest) w),
+      ),
+    )
 
   pub stops_merged : (stop : Stop) → length ss < STEPS → StopsBy 0 IsWideAt (difference_at before taken) stop → ChainStops b v (stop_at stop (length ss + 1))
-  stops_merged (Wide p n) few h = record { steps = ss; last = before; step = s; runs = r.runs; next = next; stops = (few, (refl, of_step (λ g. IsGreatest (DifferenceIsWide before g) p) h.1)) }
+  stops_merged (Wide p n) few h = record {
+    steps = ss;
+    last = before;
+    step = s;
+    runs = r.runs;
+    next = next;
+    stops = (few, (refl, of_step (λ g. IsGreatest (DifferenceIsWide before g) p) h.1));
+  }
   stops_merged (Long terms n) few h = record {
     steps = ss;
     last = before;
@@ -478,7 +550,8 @@ module _ (b : List (List Term)) (v : Coefficients) (ss : List Step) (rest : List
 -- ---- the end and the start
 
 -- nothing is open any more
-pub ends : (b : List (List Term)) (v : Coefficients) (ss : List Step) (rest dividend : List Term) → Running b v ss rest dividend → dividend ≡ [] → IsRest b v rest ss
+pub ends : (b : List (List Term)) (v : Coefficients) (ss : List Step) (rest dividend : List Term) → Running b v ss rest dividend → dividend ≡ []
+    → IsRest b v rest ss
 ends b v ss rest dividend r none =
     let whole : rest ++ dividend ≡ rest = ap (λ w. rest ++ w) none ∙ append-nil rest in
     let runs : Runs b v ss (coefficient_at rest) = subst (λ w. Runs b v ss (coefficient_at w)) whole r.runs in
@@ -491,9 +564,18 @@ ends b v ss rest dividend r none =
       sum = runs_sum b ss v (coefficient_at rest) runs;
     }
 
-pub starts : (b : List (List Term)) (v : List Term) (ss : List Step) (rest dividend : List Term) → AreEntries b → IsVector v → ss ≡ [] → rest ≡ [] → dividend ≡ v → Running b (coefficient_at v) ss rest dividend
+pub starts : (b : List (List Term)) (v : List Term) (ss : List Step) (rest dividend : List Term) → AreEntries b → IsVector v → ss ≡ [] → rest ≡ []
+    → dividend ≡ v → Running b (coefficient_at v) ss rest dividend
 starts b v ss rest dividend h k none nothing all =
     subst (λ w. Running b (coefficient_at v) w rest dividend) (sym none)
     (subst (λ w. Running b (coefficient_at v) [] w dividend) (sym nothing)
     (subst (λ w. Running b (coefficient_at v) [] [] w) (sym all)
-    (record { entries = h; sparse = k.sparse; short = omega (arith, k.most); runs = λ x. refl; settled = λ x z. rests_zero b (coefficient_at v) x h z; most = omega arith; are = tt })))
+    (record {
+      entries = h;
+      sparse = k.sparse;
+      short = omega (arith, k.most);
+      runs = λ x. refl;
+      settled = λ x z. rests_zero b (coefficient_at v) x h z;
+      most = omega arith;
+      are = tt;
+    })))

@@ -1,5 +1,6 @@
 -- A reduction on its way: the terms that were passed and the dividend below them are one vector of the chain.
-use Rattle.std.specs.Prelude.{◌≡◌, ◌≢◌, ◌≤◌, ◌+◌, ◌⊎◌, ℤ, pos, ℕ, List, [], ◌∷◌, ◌++◌, Option, Some, None, length, take, drop}
+use Rattle.std.specs.Prelude.{◌≡◌, ◌≢◌, ◌≤◌, ◌+◌, ◌⊎◌, ℤ, pos, ℕ, List, [], ◌∷◌, ◌++◌, Option, Some, None, length, take}
+use Rattle.std.specs.Prelude.{drop}
 use Rattle.module_vec.specs.declared.TheConstants.{TERMS, STEPS}
 use Rattle.module_vec.specs.declared.places.Place.{Place}
 use Rattle.module_vec.specs.declared.places.Term.{Term}
@@ -15,7 +16,8 @@ use Rattle.module_vec.specs.Reducers.{AreEntries}
 use Rattle.module_vec.specs.Modules.{AreSteps}
 use Rattle.module_vec.specs.Chains.{Runs, Rests}
 
-pub record Running (b : List (List Term)) (v : Coefficients) (steps : List Step) (rest dividend : List Term) : Type 0 where
+pub record Running (b : List (List Term)) (v : Coefficients) (steps : List Step)
+    (rest dividend : List Term) : Type 0 where
   pub entries : AreEntries b
   pub sparse : IsSparse (rest ++ dividend)
   pub short : length rest + length dividend ≤ TERMS

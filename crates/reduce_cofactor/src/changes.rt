@@ -15,7 +15,8 @@ use laurent_terms::Mono;
 use module_vec::{Place, Stop, Term, checked_difference, checked_product};
 use std::alloc::Global;
 
-/// What changes in the dividend where `q·t·g` is taken from it. `step` is the number of the step, and nothing is written.
+/// What changes in the dividend where `q·t·g` is taken from it. `step` is the number of the step, and nothing is
+/// written.
 pub fn changes(
     alloc: Global,
     dividend: &Dividend<'_>,

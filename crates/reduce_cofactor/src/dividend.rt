@@ -1,11 +1,13 @@
 //! `Dividend`: the terms of a vector that a step may still change.
 
-ghost use Rattle.std.specs.Prelude.{◌≡◌, ◌≤◌, ◌<◌, ◌+◌, ◌^◌, ◌↔◌, [], ◌∷◌, length, if◌then◌else◌, IsTrue, IfOk, IfSome, MatchOption};
+ghost use Rattle.std.specs.Prelude.{◌≡◌, ◌≤◌, ◌<◌, ◌+◌, ◌^◌, ◌↔◌, [], ◌∷◌, length, if◌then◌else◌, IsTrue, IfOk, IfSome};
+ghost use Rattle.std.specs.Prelude.{MatchOption};
 ghost use Rattle.std.specs.List.{AllByRecursion};
 ghost use Rattle.module_vec.specs.declared.places.Place.{Place};
 ghost use Rattle.module_vec.specs.Places.{same_place};
 ghost use Rattle.module_vec.specs.Vectors.{coefficient_at, IsSparse};
-ghost use Rattle.reduce_cofactor.specs.Dividends.{IsChange, StartFrom, overwritten, presence, AreBelow, IsFirstAbove, Skips, Passes};
+ghost use Rattle.reduce_cofactor.specs.Dividends.{IsChange, StartFrom, overwritten, presence, AreBelow, IsFirstAbove};
+ghost use Rattle.reduce_cofactor.specs.Dividends.{Skips, Passes};
 
 use module_vec::{Place, Term, coefficient};
 use std::alloc::{AllocError, Global};
@@ -20,9 +22,9 @@ pub struct Change {
     pub after: i128,
 }
 
-/// The terms of a vector on its way: those that were given, and the coefficients at the places that steps changed, which
-/// stand in their stead. So a change takes time logarithmic in the number of terms, and what no step reaches is only
-/// read. Contracts see the terms in falling order, and how many places are left to look at.
+/// The terms of a vector on its way: those that were given, and the coefficients at the places that steps changed,
+/// which stand in their stead. So a change takes time logarithmic in the number of terms, and what no step reaches is
+/// only read. Contracts see the terms in falling order, and how many places are left to look at.
 #[derive(Drop)]
 pub struct Dividend<'a> {
     given: &'a [Term],
@@ -43,7 +45,8 @@ impl<'a> Model for Dividend<'a> {
 
     ghost view = { λ d. (overlay d.changed.entries d.given.now, length d.given.now + length d.changed.entries) };
 
-    ghost invariant = { λ d. IsSparse d.given.now × AllByRecursion IsCoefficient d.changed.entries × (d.count ≡ length (overlay d.changed.entries d.given.now)) };
+    ghost invariant = { λ d. IsSparse d.given.now × AllByRecursion IsCoefficient d.changed.entries
+        × (d.count ≡ length (overlay d.changed.entries d.given.now)) };
 }
 
 impl<'a> Dividend<'a> {
@@ -113,7 +116,8 @@ impl<'a> Dividend<'a> {
         requires changes { AllByRecursion IsChange changes.now }
         requires before { StartFrom changes.now (coefficient_at self.old.0) }
         requires room { length self.old.0 + length changes.now < 2 ^ 32 }
-        ensures is { IfOk result (λ _. (x : Place) → coefficient_at self.new.0 x ≡ overwritten changes.now (coefficient_at self.old.0) x) }
+        ensures is { IfOk result (λ _. (x : Place) → coefficient_at self.new.0 x
+            ≡ overwritten changes.now (coefficient_at self.old.0) x) }
         ensures count { IfOk result (λ _. length self.new.0 ≤ length self.old.0 + length changes.now) }
     {
         for change in changes {
@@ -127,7 +131,8 @@ impl<'a> Dividend<'a> {
         requires change { IsChange change.now }
         requires before { change.now.before ≡ coefficient_at self.old.0 change.now.at }
         requires room { length self.old.0 < 2 ^ 32 }
-        ensures is { IfOk result (λ _. (x : Place) → coefficient_at self.new.0 x ≡ (if same_place change.now.at x then change.now.after else coefficient_at self.old.0 x)) }
+        ensures is { IfOk result (λ _. (x : Place) → coefficient_at self.new.0 x
+            ≡ (if same_place change.now.at x then change.now.after else coefficient_at self.old.0 x)) }
         ensures count { IfOk result (λ _. length self.new.0 ≤ length self.old.0 + 1) }
     {
         self.changed.insert(change.at, change.after)?;
@@ -138,7 +143,8 @@ impl<'a> Dividend<'a> {
 
 /// The first of the given terms and those behind it, where it stands above all changed places.
 fn first_above<'a>(given: &'a [Term], changed: &BTreeMap<Place, i128>) -> Option<(Term, &'a [Term])>
-    ensures { MatchOption result (IsFirstAbove given.now changed.now.entries → ⊥) (λ r. (given.now ≡ r.0 ∷ r.1.now) × AreBelow r.0.at changed.now.entries) }
+    ensures { MatchOption result (IsFirstAbove given.now changed.now.entries
+        → ⊥) (λ r. (given.now ≡ r.0 ∷ r.1.now) × AreBelow r.0.at changed.now.entries) }
 {
     let (first, others) = given.split_first()?;
     if !is_above(&first.at, changed) {

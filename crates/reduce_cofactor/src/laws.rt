@@ -12,7 +12,8 @@ ghost use Rattle.reduce_cofactor.specs.Answers.{IsRest};
 
 /// What the steps of a chain take away and what they leave add up to the vector.
 pub fn chains_add_up()
-    ensures { (b : List (List Term)) (ss : List Step) (f g : Coefficients) → Chain b f ss g → (x : Place) → f x ≡ steps_at b ss x +ℤ g x }
+    ensures { (b : List (List Term)) (ss : List Step) (f g : Coefficients) → Chain b f ss g → (x : Place)
+        → f x ≡ steps_at b ss x +ℤ g x }
 {}
 
 /// A reduction has one answer: one rest with its steps, or one limit, and never both.

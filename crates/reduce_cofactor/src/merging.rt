@@ -2,7 +2,8 @@
 //!
 //! Where an entry isn't much shorter than the vector, that is faster than to look up each place which the step changes.
 
-ghost use Rattle.std.specs.Prelude.{◌≡◌, ◌≤◌, ◌<◌, ◌*◌, ◌↔◌, ◌++◌, ◌∷◌, [], List, Some, None, length, take, slice_get, IsTrue, IfOk, MatchResult};
+ghost use Rattle.std.specs.Prelude.{◌≡◌, ◌≤◌, ◌<◌, ◌*◌, ◌↔◌, ◌++◌, ◌∷◌, [], List, Some, None, length, take, slice_get};
+ghost use Rattle.std.specs.Prelude.{IsTrue, IfOk, MatchResult};
 ghost use Rattle.module_vec.specs.declared.TheConstants.{STEPS};
 ghost use Rattle.module_vec.specs.declared.places.Term.{Term};
 ghost use Rattle.module_vec.specs.Vectors.{Coefficients, coefficient_at, InRange, HasRoom, IsVector};
@@ -101,11 +102,14 @@ impl Merged {
         requires made { length self.old.steps.items ≤ STEPS }
         requires range { InRange step.q }
         requires room { HasRoom step.t entry.now }
-        ensures is { (b : List (List Term)) (f : Coefficients) (top : Term) → slice_get (row_of v.now self.old.vector) self.old.passed ≡ Some top →
+        ensures is { (b : List (List Term)) (f : Coefficients) (top : Term)
+            → slice_get (row_of v.now self.old.vector) self.old.passed ≡ Some top →
             IsStepAt b top step → slice_get b step.by ≡ Some entry.now →
             HasPassed b f self.old.steps.items (row_of v.now self.old.vector) self.old.passed →
-            MatchResult result (λ _. HasPassed b f self.new.steps.items (row_of v.now self.new.vector) self.new.passed) (Fails b f) }
-        ensures step { IfOk result (λ _. (self.new.steps.items ≡ self.old.steps.items ++ step ∷ []) × (self.new.passed ≡ self.old.passed)) }
+            MatchResult result (λ _. HasPassed b f self.new.steps.items (row_of v.now self.new.vector)
+            self.new.passed) (Fails b f) }
+        ensures step { IfOk result (λ _. (self.new.steps.items ≡ self.old.steps.items ++ step ∷ [])
+            × (self.new.passed ≡ self.old.passed)) }
     {
         let made = self.steps.len() as u32;
         if made == STEPS {

@@ -1,6 +1,7 @@
 //! The chain of steps.
 
-ghost use Rattle.std.specs.Prelude.{◌≡◌, ◌≤◌, ◌<◌, ◌+◌, List, [], ◌∷◌, ◌++◌, Some, length, take, drop, slice_get, IfOk, MatchResult};
+ghost use Rattle.std.specs.Prelude.{◌≡◌, ◌≤◌, ◌<◌, ◌+◌, List, [], ◌∷◌, ◌++◌, Some, length, take, drop, slice_get, IfOk};
+ghost use Rattle.std.specs.Prelude.{MatchResult};
 ghost use Rattle.module_vec.specs.declared.TheConstants.{TERMS, STEPS};
 ghost use Rattle.module_vec.specs.declared.places.Term.{Term};
 ghost use Rattle.module_vec.specs.Vectors.{Coefficients, coefficient_at, InRange, HasRoom, IsVector};
@@ -17,12 +18,12 @@ use crate::merging::{Merged, merge};
 use module_vec::{ModVec, Place, STEPS, Step, Stop, TERMS, Term, VecList};
 use std::alloc::{AllocError, Global};
 
-/// The rest of the vector by the entries below `front`, and the steps that lead to it, in order: the vector is the sum of
-/// the steps and the rest.
+/// The rest of the vector by the entries below `front`, and the steps that lead to it, in order: the vector is the sum
+/// of the steps and the rest.
 ///
-/// The limits are met in this order: `Deep` where one step more than [`STEPS`](module_vec::STEPS) is due, of which nothing
-/// is computed; `Wide` at the greatest place where a product or a difference of a step leaves the range; `Long` where a
-/// step's result has more than [`TERMS`](module_vec::TERMS) terms.
+/// The limits are met in this order: `Deep` where one step more than [`STEPS`](module_vec::STEPS) is due, of which
+/// nothing is computed; `Wide` at the greatest place where a product or a difference of a step leaves the range; `Long`
+/// where a step's result has more than [`TERMS`](module_vec::TERMS) terms.
 pub fn reduce<L: VecList>(
     alloc: Global,
     list: &L,
@@ -48,7 +49,8 @@ pub fn reduce<L: VecList>(
     finish(alloc, list, front, &w, passed, steps)
 }
 
-/// The rest and the steps of a vector, of whose chain these first steps led to `w`. The first `passed` terms of `w` are final.
+/// The rest and the steps of a vector, of whose chain these first steps led to `w`. The first `passed` terms of `w` are
+/// final.
 fn finish<L: VecList>(
     alloc: Global,
     list: &L,
@@ -60,7 +62,8 @@ fn finish<L: VecList>(
     requires front { front ≤ length (L.vectors list.now) }
     requires way { IsOnWay (take front (L.vectors list.now)) steps.items w.now passed }
     ensures { let b = take front (L.vectors list.now) in
-        (f : Coefficients) → HasPassed b f steps.items w.now passed → MatchResult result (λ r. IsRest b f r.0 r.1.items) (Fails b f) }
+        (f : Coefficients) → HasPassed b f steps.items w.now passed
+        → MatchResult result (λ r. IsRest b f r.0 r.1.items) (Fails b f) }
 {
     // The proof needs that the list has entries, and the call says so.
     let _ = list.count();
@@ -94,7 +97,8 @@ impl<'a> Reduction<'a> {
     ) -> Result<Reduction<'a>, AllocError>
         requires { passed ≤ length v.now }
         ensures vector { IsVector v.now }
-        ensures is { IfOk result (λ r. (r.rest.items ≡ take passed v.now) × (r.dividend.0 ≡ drop passed v.now) × (r.steps.items ≡ steps.items)) }
+        ensures is { IfOk result (λ r. (r.rest.items ≡ take passed v.now) × (r.dividend.0 ≡ drop passed v.now)
+            × (r.steps.items ≡ steps.items)) }
     {
         let (rest, dividend) = v.terms().split_at(passed);
         Ok(Reduction {
@@ -118,11 +122,14 @@ impl<'a> Reduction<'a> {
         requires entry { IsEntry entry.now }
         requires range { InRange step.q }
         requires room { HasRoom step.t entry.now }
-        ensures is { (b : List (List Term)) (v : Coefficients) → IsStepAt b top step → slice_get b step.by ≡ Some entry.now →
+        ensures is { (b : List (List Term)) (v : Coefficients) → IsStepAt b top step
+            → slice_get b step.by ≡ Some entry.now →
             Running b v self.old.steps.items self.old.rest.items (top ∷ self.old.dividend.0) →
-            MatchResult result (λ _. Running b v self.new.steps.items self.new.rest.items self.new.dividend.0) (Fails b v) }
+            MatchResult result (λ _. Running b v self.new.steps.items self.new.rest.items
+            self.new.dividend.0) (Fails b v) }
         ensures step { IfOk result (λ _. self.new.steps.items ≡ self.old.steps.items ++ step ∷ []) }
-        ensures limits { IfOk result (λ _. (length self.new.steps.items ≤ STEPS) × (length self.new.rest.items + length self.new.dividend.0 ≤ TERMS)) }
+        ensures limits { IfOk result (λ _. (length self.new.steps.items ≤ STEPS)
+            × (length self.new.rest.items + length self.new.dividend.0 ≤ TERMS)) }
     {
         let made = self.steps.len() as u32;
         if made == STEPS {

@@ -1,5 +1,6 @@
 -- The index as a whole: one more lead, and what a search along the candidates finds among the leads.
-use Rattle.std.proofs.Common.{◌≡◌, ℕ, zero, suc, ◌+◌, ◌<◌, ◌≤◌, ◌^◌, List, [], ◌∷◌, ◌++◌, length, take, drop, length-append, append_assoc, ◌⊎◌, inl, inr, sym, ap, subst, ◌∙◌, arith}
+use Rattle.std.proofs.Common.{◌≡◌, ℕ, zero, suc, ◌+◌, ◌<◌, ◌≤◌, ◌^◌, List, [], ◌∷◌, ◌++◌, length, take, drop, length-append, append_assoc, ◌⊎◌, inl, inr, sym}
+use Rattle.std.proofs.Common.{ap, subst, ◌∙◌, arith}
 use borrow.Author.Differences.{ints}
 use Rattle.std.proofs.lemmas.List.{take-append-drop}
 use Rattle.std.proofs.lemmas.Option.{slice_get_within}
@@ -41,7 +42,8 @@ has_among P (x ∷ xs) all i (inr h) = has_among P xs all.1 i h
 
 -- ---- one more lead
 pub older : (es : List Term) (n : ℕ) (xs : List Candidate) → n ≡ length es → AllByRecursion (IsCandidateOf es) xs → AllByRecursion (λ x. x.number < n) xs
-older es n xs e all = all_weaker (IsCandidateOf es) (λ (x : Candidate). x.number < n) xs (λ x of. omega (arith, e, slice_get_within es x.number of.lead of.is)) all
+older es n xs e all = all_weaker (IsCandidateOf es) (λ (x : Candidate). x.number < n) xs
+    (λ x of. omega (arith, e, slice_get_within es x.number of.lead of.is)) all
 
 pub still_candidate : (es : List Term) (t : Term) (x : Candidate) → IsCandidateOf es x → IsCandidateOf (es ++ t ∷ []) x
 still_candidate es t x of = record {
@@ -61,11 +63,13 @@ last_cases (suc i) (suc n) lt = by (last_cases i n (omega (arith, lt)))
     by (inl h) = inl (omega (arith, h))
     by (inr h) = inr (ap suc h)
 
-pub index_more : (es : List Term) (xs : List Candidate) (t : Term) (x : Candidate) (at : ℕ) → IsIndex es xs → x.number ≡ length es → IsCandidateOf (es ++ t ∷ []) x
+pub index_more : (es : List Term) (xs : List Candidate) (t : Term) (x : Candidate) (at : ℕ) → IsIndex es xs → x.number ≡ length es
+    → IsCandidateOf (es ++ t ∷ []) x
     → IsInOrder (insert xs at x) → length es + 1 < 2 ^ 32 → IsIndex (es ++ t ∷ []) (insert xs at x)
 index_more es xs t x at h number own order few = record {
   candidates = all_insert (IsCandidateOf (es ++ t ∷ [])) (take at xs) (drop at xs) x
-      (subst (AllByRecursion (IsCandidateOf (es ++ t ∷ []))) (sym (take-append-drop at xs)) (all_weaker (IsCandidateOf es) (IsCandidateOf (es ++ t ∷ [])) xs (still_candidate es t) h.candidates)) own;
+      (subst (AllByRecursion (IsCandidateOf (es ++ t ∷ []))) (sym (take-append-drop at xs))
+      (all_weaker (IsCandidateOf es) (IsCandidateOf (es ++ t ∷ [])) xs (still_candidate es t) h.candidates)) own;
   order = order;
   all = λ i lt. by i (last_cases i (length es) (omega (arith, lt, length-append es (t ∷ []))));
   few = omega (arith, few, length-append es (t ∷ []));
@@ -88,14 +92,16 @@ module _ (es : List Term) (front : ℕ) (p : Place) (xs : List Candidate) (withi
 
   -- the first that isn't passed
   module _ (passed others : List Candidate) (x : Candidate) (split : xs ≡ passed ++ x ∷ others) (below : x.number < front) (reducing : IsReducing es p x)
-      (all : AllByRecursion (IsPassed es front p) passed) (of : IsCandidateOf es x) (behind : AllByRecursion (λ y. Precedes x y × IsCandidateOf es y) others) where
+      (all : AllByRecursion (IsPassed es front p) passed) (of : IsCandidateOf es x) (behind : AllByRecursion (λ y. Precedes x y
+      × IsCandidateOf es y) others) where
     abbrev e : Term
     e = reducing.0
 
     own : of.lead ≡ e
     own = same_lead es x.number of.lead e of.is reducing.1
 
-    goes_first : (y : Candidate) (f : Term) → IsCandidateOf es y → slice_get es y.number ≡ Some f → Reduces f p → Precedes x y → GoesBefore e.k x.number f.k y.number
+    goes_first : (y : Candidate) (f : Term) → IsCandidateOf es y → slice_get es y.number ≡ Some f → Reduces f p → Precedes x y
+        → GoesBefore e.k x.number f.k y.number
     goes_first y f c read reduces before = by before
       where
         same : c.lead ≡ f
@@ -139,14 +145,16 @@ module _ (es : List Term) (front : ℕ) (p : Place) (xs : List Candidate) (withi
             let y = has_among (λ (z : Candidate). Precedes x z × IsCandidateOf es z) others behind j later in
             subst (GoesBefore e.k x.number f.k) y.2 (goes_first y.0 f y.1.1 (subst (λ (n : ℕ). slice_get es n ≡ Some f) (sym y.2) read) reduces y.1.0)
 
-        at_either : (j : ℕ) (f : Term) → j < front → slice_get es j ≡ Some f → Reduces f p → HasNumber j passed ⊎ HasNumber j (x ∷ others) → GoesBefore e.k x.number f.k j
+        at_either : (j : ℕ) (f : Term) → j < front → slice_get es j ≡ Some f → Reduces f p → HasNumber j passed ⊎ HasNumber j (x ∷ others)
+            → GoesBefore e.k x.number f.k j
         at_either j f lt read reduces (inl before) =
             let y = has_among (IsPassed es front p) passed all j before in
             absurd (y.1 (omega (arith, y.2, lt)) (f, subst (λ (n : ℕ). slice_get es n ≡ Some f) (sym y.2) read, reduces))
         at_either j f lt read reduces (inr k) = at_behind j f lt read reduces k
 
         by : (j : ℕ) (f : Term) → (j < front) × (slice_get es j ≡ Some f) → Reduces f p → GoesBefore e.k x.number f.k j
-        by j f (lt, read) reduces = at_either j f lt read reduces (has_either j passed (x ∷ others) (subst (HasNumber j) split (h.all j (omega (arith, lt, within)))))
+        by j f (lt, read) reduces = at_either j f lt read reduces (has_either j passed (x ∷ others)
+            (subst (HasNumber j) split (h.all j (omega (arith, lt, within)))))
 
 -- ---- from the candidates of a component on
 all_of_both : {X : Type 0} (P Q : X → Type 0) (xs : List X) → AllByRecursion P xs → AllByRecursion Q xs → AllByRecursion (λ x. P x × Q x) xs
@@ -165,7 +173,8 @@ order_last : (xs ys : List Candidate) → IsInOrder (xs ++ ys) → IsInOrder ys
 order_last [] ys h = h
 order_last (x ∷ xs) ys h = order_last xs ys h.1
 
-lower_passed : (es : List Term) (front : ℕ) (p : Place) (xs : List Candidate) → AllByRecursion (IsCandidateOf es) xs → AllByRecursion (λ x. x.component < p.c) xs → AllByRecursion (IsPassed es front p) xs
+lower_passed : (es : List Term) (front : ℕ) (p : Place) (xs : List Candidate) → AllByRecursion (IsCandidateOf es) xs
+    → AllByRecursion (λ x. x.component < p.c) xs → AllByRecursion (IsPassed es front p) xs
 lower_passed es front p [] of lower = tt
 lower_passed es front p (x ∷ xs) of lower =
     let lt : x.component < p.c = lower.0 in
@@ -177,22 +186,28 @@ rest_candidates es xs rest c h begins = all_last (IsCandidateOf es) begins.befor
 pub rest_order : (es : List Term) (xs rest : List Candidate) (c : ℕ) → IsIndex es xs → BeginsAt c xs rest → IsInOrder rest
 rest_order es xs rest c h begins = order_last begins.before rest (subst IsInOrder begins.split h.order)
 
-pub lead_found : (es : List Term) (front : ℕ) (p : Place) (xs rest : List Candidate) (r : Option ℕ) → front ≤ length es → IsIndex es xs → BeginsAt p.c xs rest → FindsFirst es front p rest r
+pub lead_found : (es : List Term) (front : ℕ) (p : Place) (xs rest : List Candidate) (r : Option ℕ) → front ≤ length es → IsIndex es xs → BeginsAt p.c xs rest
+    → FindsFirst es front p rest r
     → FindsLead (take front es) p r
 lead_found es front p xs rest r within h begins found = by r found
   where
     low : AllByRecursion (IsPassed es front p) begins.before
-    low = lower_passed es front p begins.before (all_first (IsCandidateOf es) begins.before rest (subst (AllByRecursion (IsCandidateOf es)) begins.split h.candidates)) begins.lower
+    low = lower_passed es front p begins.before (all_first (IsCandidateOf es) begins.before rest
+        (subst (AllByRecursion (IsCandidateOf es)) begins.split h.candidates)) begins.lower
 
     by_number : (n : ℕ) → IsFound es front p rest n → FindsLead (take front es) p (Some n)
     by_number n f =
         let x = f.found in
-        let ofs : AllByRecursion (IsCandidateOf es) (x ∷ f.others) = all_last (IsCandidateOf es) f.passed (x ∷ f.others) (subst (AllByRecursion (IsCandidateOf es)) f.split (rest_candidates es xs rest p.c h begins)) in
-        let whole : xs ≡ (begins.before ++ f.passed) ++ x ∷ f.others = begins.split ∙ ap (λ (l : List Candidate). begins.before ++ l) f.split ∙ sym (append_assoc begins.before f.passed (x ∷ f.others)) in
+        let ofs : AllByRecursion (IsCandidateOf es) (x ∷ f.others) =
+        all_last (IsCandidateOf es) f.passed (x ∷ f.others) (subst (AllByRecursion (IsCandidateOf es)) f.split (rest_candidates es xs rest p.c h begins))
+        in
+        let whole : xs ≡ (begins.before ++ f.passed) ++ x ∷ f.others = begins.split ∙ ap (λ (l : List Candidate). begins.before ++ l) f.split
+        ∙ sym (append_assoc begins.before f.passed (x ∷ f.others)) in
         subst (λ (m : ℕ). FindsLead (take front es) p (Some m)) f.number
         (one_found es front p xs within h (begins.before ++ f.passed) f.others x whole (omega (arith, f.number, f.below)) f.reducing
         (all_append (IsPassed es front p) begins.before f.passed low f.all) ofs.0 (all_of_both (Precedes x) (IsCandidateOf es) f.others f.order ofs.1))
 
     by : (s : Option ℕ) → FindsFirst es front p rest s → FindsLead (take front es) p s
-    by None all = none_found es front p xs within h (subst (AllByRecursion (IsPassed es front p)) (sym begins.split) (all_append (IsPassed es front p) begins.before rest low all))
+    by None all = none_found es front p xs within h (subst (AllByRecursion (IsPassed es front p)) (sym begins.split)
+        (all_append (IsPassed es front p) begins.before rest low all))
     by (Some n) f = by_number n f

@@ -61,7 +61,8 @@ reducer_by b p h (Some i) (e, is) =
     )
 
 -- what is found among the leads is found among the vectors
-pub reducer_of_leads : (b : List (List Term)) (es : List Term) (front : ℕ) (p : Place) (r : Option ℕ) → AreEntries b → AreLeads b es → FindsLead (take front es) p r → FindsReducer (take front b) p r
+pub reducer_of_leads : (b : List (List Term)) (es : List Term) (front : ℕ) (p : Place) (r : Option ℕ) → AreEntries b → AreLeads b es
+    → FindsLead (take front es) p r → FindsReducer (take front b) p r
 reducer_of_leads b es front p r entries are found =
     reducer_by (take front b) p (entries_taken front b entries) r
     (subst (λ (l : List Term). FindsLead l p r) (ap (take front) are ∙ leads_taken front b) found)

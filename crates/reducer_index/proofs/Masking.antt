@@ -1,5 +1,6 @@
 -- Masks bit by bit.
-use Rattle.std.proofs.Common.{◌≡◌, ℕ, zero, suc, ◌+◌, ◌-◌, ◌*◌, ◌%◌, ◌<◌, ◌≤◌, ◌^◌, Bool, true, false, nat_lt, List, [], ◌∷◌, length, slice_index, bit_and, bit_or, if◌then◌else◌, ◌⊎◌, inl, inr, refl, sym, ap, subst, ◌∙◌, arith}
+use Rattle.std.proofs.Common.{◌≡◌, ℕ, zero, suc, ◌+◌, ◌-◌, ◌*◌, ◌%◌, ◌<◌, ◌≤◌, ◌^◌, Bool, true, false, nat_lt, List, [], ◌∷◌, length, slice_index, bit_and}
+use Rattle.std.proofs.Common.{bit_or, if◌then◌else◌, ◌⊎◌, inl, inr, refl, sym, ap, subst, ◌∙◌, arith}
 use Rattle.std.proofs.lemmas.Bool.Decides.{nat_tests}
 use Rattle.std.proofs.lemmas.Nat.Bits.{bit_at_and, bit_at_set_same, bit_at_set_other, bit_at-zero, same_from_bits_below}
 use Rattle.std.proofs.lemmas.Nat.{and_le_l}
@@ -49,7 +50,8 @@ made_set s n mask few h on = record {
         ap (bit_at (bit_or mask (1 * 2 ^ n % 2 ^ 64))) e ∙ bit_at_set_same w64 mask n few ∙ sym (ap bit_of set)
 
 -- one more bit, which is x
-pub made_more : (s : List ℕ) (n mask x : ℕ) (b : Bool) → n < 64 → IsMaskUpTo n s mask → flag s n ≡ b → x ≡ bool_byte b → IsMaskUpTo (n + 1) s (bit_or mask (x * 2 ^ n % 2 ^ 64))
+pub made_more : (s : List ℕ) (n mask x : ℕ) (b : Bool) → n < 64 → IsMaskUpTo n s mask → flag s n ≡ b → x ≡ bool_byte b
+    → IsMaskUpTo (n + 1) s (bit_or mask (x * 2 ^ n % 2 ^ 64))
 made_more s n mask x true few h on e = subst (λ (y : ℕ). IsMaskUpTo (n + 1) s (bit_or mask (y * 2 ^ n % 2 ^ 64))) (sym e) (made_set s n mask few h on)
 made_more s n mask x false few h off e =
     subst (λ (y : ℕ). IsMaskUpTo (n + 1) s (bit_or mask (y * 2 ^ n % 2 ^ 64))) (sym e)
@@ -96,7 +98,8 @@ test_le least x y le = by (nat_lt least x) (nat_lt least y) refl refl
 flag_le : (s t : List ℕ) → divides s t ≡ true → (bit : ℕ) → bit_of (flag s bit) ≤ bit_of (flag t bit)
 flag_le s t d bit = by (nat_lt bit VARIABLES)
   where
-    by : (b : Bool) → bit_of (if b then nat_lt 0 (slice_index s bit) else nat_lt 1 (slice_index s (bit - VARIABLES))) ≤ bit_of (if b then nat_lt 0 (slice_index t bit) else nat_lt 1 (slice_index t (bit - VARIABLES)))
+    by : (b : Bool) → bit_of (if b then nat_lt 0 (slice_index s bit) else nat_lt 1 (slice_index s (bit - VARIABLES)))
+        ≤ bit_of (if b then nat_lt 0 (slice_index t bit) else nat_lt 1 (slice_index t (bit - VARIABLES)))
     by true = test_le 0 (slice_index s bit) (slice_index t bit) (exponent_le s t d bit)
     by false = test_le 1 (slice_index s (bit - VARIABLES)) (slice_index t (bit - VARIABLES)) (exponent_le s t d (bit - VARIABLES))
 

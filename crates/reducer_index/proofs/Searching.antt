@@ -1,5 +1,6 @@
 -- Candidates in order: what is passed on a walk along them, and what is found.
-use Rattle.std.proofs.Common.{◌≡◌, ◌≢◌, ℕ, zero, suc, ◌+◌, ◌<◌, ◌≤◌, Bool, true, false, ◌&&◌, ◌||◌, ◌==◌, nat_lt, bit_and, ℤ, List, [], ◌∷◌, ◌++◌, length, take, drop, get_or, ◌⊎◌, inl, inr, refl, sym, ap, subst, ◌∙◌, arith}
+use Rattle.std.proofs.Common.{◌≡◌, ◌≢◌, ℕ, zero, suc, ◌+◌, ◌<◌, ◌≤◌, Bool, true, false, ◌&&◌, ◌||◌, ◌==◌, nat_lt, bit_and, ℤ, List, [], ◌∷◌, ◌++◌, length, take}
+use Rattle.std.proofs.Common.{drop, get_or, ◌⊎◌, inl, inr, refl, sym, ap, subst, ◌∙◌, arith}
 use borrow.Author.Differences.{ints}
 use Rattle.std.proofs.lemmas.Bool.Decides.{nat_tests}
 use Rattle.std.proofs.lemmas.List.{take_more, take_all, take-append-drop}
@@ -38,10 +39,15 @@ all_drop P zero xs h = h
 all_drop P (suc n) [] h = h
 all_drop P (suc n) (x ∷ xs) h = all_drop P n xs h.1
 
-all_before : {X : Type 0} (P : X → Type 0) (n : ℕ) (xs : List X) → n ≤ length xs → ((k : ℕ) (d : X) → 0 ≤ k → k < n → P (get_or xs k d)) → AllByRecursion P (take n xs)
+all_before : {X : Type 0} (P : X → Type 0) (n : ℕ) (xs : List X) → n ≤ length xs → ((k : ℕ) (d : X) → 0 ≤ k → k < n → P (get_or xs k d))
+    → AllByRecursion P (take n xs)
 all_before P zero xs le h = tt
 all_before P (suc n) [] le h = tt
-all_before P (suc n) (x ∷ xs) le h = (h 0 x (omega arith) (omega arith), all_before P n xs (omega (arith, le)) (λ k d ge lt. h (suc k) d (omega arith) (omega (arith, lt))))
+all_before P (suc n) (x ∷ xs) le h = (
+  h 0 x (omega arith) (omega arith),
+  all_before P n xs (omega (arith, le))
+      (λ k d ge lt. h (suc k) d (omega arith) (omega (arith, lt))),
+)
 
 all_behind : {X : Type 0} (P : X → Type 0) (n : ℕ) (xs : List X) → ((k : ℕ) (d : X) → n ≤ k → k < length xs → P (get_or xs k d)) → AllByRecursion P (drop n xs)
 all_behind P zero [] h = tt
@@ -55,11 +61,13 @@ order_drop zero xs h = h
 order_drop (suc n) [] h = h
 order_drop (suc n) (x ∷ xs) h = order_drop n xs h.1
 
-order_insert : (xs ys : List Candidate) (x : Candidate) → IsInOrder (xs ++ ys) → AllByRecursion (λ y. Precedes y x) xs → AllByRecursion (Precedes x) ys → IsInOrder (xs ++ x ∷ ys)
+order_insert : (xs ys : List Candidate) (x : Candidate) → IsInOrder (xs ++ ys) → AllByRecursion (λ y. Precedes y x) xs → AllByRecursion (Precedes x) ys
+    → IsInOrder (xs ++ x ∷ ys)
 order_insert [] ys x order before behind = (behind, order)
 order_insert (y ∷ xs) ys x order before behind = (all_insert (Precedes y) xs ys x order.0 before.0, order_insert xs ys x order.1 before.1 behind)
 
-partitioned : (p : Candidate → Bool) → ((x y : Candidate) → Precedes x y → p y ≡ true → p x ≡ true) → (xs : List Candidate) → IsInOrder xs → IsPartitionedBy p xs
+partitioned : (p : Candidate → Bool) → ((x y : Candidate) → Precedes x y → p y ≡ true → p x ≡ true) → (xs : List Candidate) → IsInOrder xs
+    → IsPartitionedBy p xs
 partitioned p down [] order i j d le lt e = absurd (omega (arith, lt))
 partitioned p down (x ∷ xs) order zero zero d le lt e = e
 partitioned p down (x ∷ xs) order zero (suc j) d le lt e = down x (get_or xs j d) (all_read (Precedes x) xs j d (omega (arith, lt)) order.0) e
@@ -170,7 +178,8 @@ pub placed : (new : Candidate) (xs : List Candidate) (at : ℕ) → IsInOrder xs
     → ((k : ℕ) (d : Candidate) → at ≤ k → k < length xs → stands_before new (get_or xs k d) ≡ false) → IsInOrder (insert xs at new)
 placed new xs at order older within before behind =
     order_insert (take at xs) (drop at xs) new (subst IsInOrder (sym (take-append-drop at xs)) order)
-    (all_before (λ y. Precedes y new) at xs within (λ k d ge lt. comes_before new (get_or xs k d) (all_read (λ (x : Candidate). x.number < new.number) xs k d (omega (arith, lt, within)) older) (before k d ge lt)))
+    (all_before (λ y. Precedes y new) at xs within (λ k d ge lt. comes_before new (get_or xs k d)
+    (all_read (λ (x : Candidate). x.number < new.number) xs k d (omega (arith, lt, within)) older) (before k d ge lt)))
     (all_behind (Precedes new) at xs (λ k d ge lt. comes_behind new (get_or xs k d) (behind k d ge lt)))
 
 -- ---- the candidates from a component on
@@ -193,7 +202,8 @@ begins_at c xs rest at within is before behind = record {
   before = take at xs;
   split = sym (take-append-drop at xs) ∙ ap (λ (r : List Candidate). take at xs ++ r) (sym is);
   lower = all_before (λ x. x.component < c) at xs within (λ k d ge lt. test_lt (get_or xs k d).component c (before k d ge lt));
-  higher = subst (AllByRecursion (λ (x : Candidate). c ≤ x.component)) (sym is) (all_behind (λ (x : Candidate). c ≤ x.component) at xs (λ k d ge lt. test_ge (get_or xs k d).component c (behind k d ge lt)));
+  higher = subst (AllByRecursion (λ (x : Candidate). c ≤ x.component)) (sym is) (all_behind (λ (x : Candidate). c
+      ≤ x.component) at xs (λ k d ge lt. test_ge (get_or xs k d).component c (behind k d ge lt)));
 }
 
 -- ---- a candidate and its lead
@@ -201,7 +211,8 @@ pub same_lead : (es : List Term) (n : ℕ) (e f : Term) → slice_get es n ≡ S
 same_lead es n e f h k = let both : Some e ≡ Some f = sym h ∙ k in cc
 
 -- the mask rules out no candidate that reduces
-pub mask_passes : (es : List Term) (p : Place) (x : Candidate) (mask : ℕ) → IsCandidateOf es x → IsMask p.m mask → IsReducing es p x → bit_and x.mask mask ≡ x.mask
+pub mask_passes : (es : List Term) (p : Place) (x : Candidate) (mask : ℕ) → IsCandidateOf es x → IsMask p.m mask → IsReducing es p x
+    → bit_and x.mask mask ≡ x.mask
 mask_passes es p x mask of is (e, read, reduces) =
     let same : of.lead ≡ e = same_lead es x.number of.lead e of.is read in
     mask_divides e.at.m p.m x.mask mask (subst (λ (t : Term). IsMask t.at.m x.mask) same of.mask) is reduces.1
@@ -218,7 +229,8 @@ any_default (x ∷ xs) zero d e lt = refl
 any_default (x ∷ xs) (suc i) d e lt = any_default xs i d e (omega (arith, lt))
 
 -- ---- the walk
-module _ (es : List Term) (front : ℕ) (p : Place) (xs : List Candidate) (i : ℕ) (x : Candidate) (lt : i < length xs) (read : x ≡ get_or xs i x) (passed : AllByRecursion (IsPassed es front p) (take i xs)) where
+module _ (es : List Term) (front : ℕ) (p : Place) (xs : List Candidate) (i : ℕ) (x : Candidate) (lt : i < length xs) (read : x
+    ≡ get_or xs i x) (passed : AllByRecursion (IsPassed es front p) (take i xs)) where
   split_here : xs ≡ take i xs ++ x ∷ drop (i + 1) xs
   split_here = sym (take-append-drop i xs) ∙ ap (λ (r : List Candidate). take i xs ++ r) (drop_read xs i x lt read)
 
@@ -244,20 +256,25 @@ module _ (es : List Term) (front : ℕ) (p : Place) (xs : List Candidate) (i : �
   }
 
   -- where the component is passed, all is
-  pub all_passed : AllByRecursion (IsCandidateOf es) xs → IsInOrder xs → AllByRecursion (λ y. p.c ≤ y.component) xs → x.component ≢ p.c → AllByRecursion (IsPassed es front p) xs
+  pub all_passed : AllByRecursion (IsCandidateOf es) xs → IsInOrder xs → AllByRecursion (λ y. p.c ≤ y.component) xs → x.component ≢ p.c
+      → AllByRecursion (IsPassed es front p) xs
   all_passed of order higher other =
       let here = drop_read xs i x lt read in
-      let candidates : AllByRecursion (IsCandidateOf es) (x ∷ drop (i + 1) xs) = subst (AllByRecursion (IsCandidateOf es)) here (all_drop (IsCandidateOf es) i xs of) in
-      let above : AllByRecursion (λ (y : Candidate). p.c ≤ y.component) (x ∷ drop (i + 1) xs) = subst (AllByRecursion (λ (y : Candidate). p.c ≤ y.component)) here (all_drop (λ (y : Candidate). p.c ≤ y.component) i xs higher) in
+      let candidates : AllByRecursion (IsCandidateOf es) (x ∷ drop (i + 1) xs) =
+      subst (AllByRecursion (IsCandidateOf es)) here (all_drop (IsCandidateOf es) i xs of) in
+      let above : AllByRecursion (λ (y : Candidate). p.c ≤ y.component) (x ∷ drop (i + 1) xs) =
+      subst (AllByRecursion (λ (y : Candidate). p.c ≤ y.component)) here (all_drop (λ (y : Candidate). p.c ≤ y.component) i xs higher) in
       let own : p.c ≤ x.component = above.0 in
       let others : AllByRecursion (IsPassed es front p) (drop (i + 1) xs) =
       all_both (IsCandidateOf es) (Precedes x) (IsPassed es front p) (drop (i + 1) xs)
-      (λ y c before. other_component es front p y c (λ e. other (back x.component y.component p.c own (component_rises x y before) e))) candidates.1 (behind_x order) in
+      (λ y c before. other_component es front p y c (λ e. other (back x.component y.component p.c own (component_rises x y before) e))) candidates.1
+      (behind_x order) in
       subst (AllByRecursion (IsPassed es front p)) (sym split_here)
       (all_append (IsPassed es front p) (take i xs) (x ∷ drop (i + 1) xs) passed (other_component es front p x candidates.0 other, others))
     where
       back : (a b c : ℕ) → c ≤ a → a ≤ b → b ≡ c → a ≡ c
       back a b c h k e = omega (arith, h, k, e)
 
-pub passed_to_end : (es : List Term) (front : ℕ) (p : Place) (xs : List Candidate) (i : ℕ) → length xs ≤ i → AllByRecursion (IsPassed es front p) (take i xs) → AllByRecursion (IsPassed es front p) xs
+pub passed_to_end : (es : List Term) (front : ℕ) (p : Place) (xs : List Candidate) (i : ℕ) → length xs ≤ i → AllByRecursion (IsPassed es front p) (take i xs)
+    → AllByRecursion (IsPassed es front p) xs
 passed_to_end es front p xs i le h = subst (AllByRecursion (IsPassed es front p)) (take_all i xs le) h

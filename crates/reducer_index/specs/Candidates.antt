@@ -1,6 +1,7 @@
 -- What an index keeps: a candidate for each lead, in the order in which reducers are chosen.
 use Rattle.std.specs.List.{AllByRecursion}
-use Rattle.std.specs.Prelude.{◌≡◌, ℕ, ◌<◌, ◌≤◌, ◌⊎◌, ◌^◌, Bool, ◌&&◌, ◌||◌, ◌==◌, nat_lt, int_le, List, [], ◌∷◌, ◌++◌, length, Option, Some, None, slice_get}
+use Rattle.std.specs.Prelude.{◌≡◌, ℕ, ◌<◌, ◌≤◌, ◌⊎◌, ◌^◌, Bool, ◌&&◌, ◌||◌, ◌==◌, nat_lt, int_le, List, [], ◌∷◌, ◌++◌}
+use Rattle.std.specs.Prelude.{length, Option, Some, None, slice_get}
 use Rattle.module_vec.specs.declared.places.Place.{Place}
 use Rattle.module_vec.specs.declared.places.Term.{Term}
 use Rattle.module_vec.specs.Reducers.{Reduces, GoesBefore}
@@ -17,7 +18,8 @@ pub record IsCandidateOf (es : List Term) (x : Candidate) : Type 0 where
 
 -- by component; within one, as reducers are chosen
 abbrev pub Precedes : Candidate → Candidate → Type 0
-Precedes x y = (x.component < y.component) ⊎ ((x.component ≡ y.component) × GoesBefore x.coefficient x.number y.coefficient y.number)
+Precedes x y = (x.component < y.component) ⊎ ((x.component ≡ y.component)
+    × GoesBefore x.coefficient x.number y.coefficient y.number)
 
 abbrev pub IsInOrder : List Candidate → Type 0
 IsInOrder [] = Unit {0}
@@ -25,7 +27,8 @@ IsInOrder (x ∷ xs) = AllByRecursion (Precedes x) xs × IsInOrder xs
 
 -- x stands before a new candidate, whose number is greater
 abbrev pub stands_before : Candidate → Candidate → Bool
-stands_before new x = nat_lt x.component new.component || (x.component == new.component && int_le x.coefficient new.coefficient)
+stands_before new x = nat_lt x.component new.component || (x.component ==
+    new.component && int_le x.coefficient new.coefficient)
 
 -- one of the candidates has this number
 abbrev pub HasNumber : ℕ → List Candidate → Type 0

@@ -3,7 +3,8 @@ use Rattle.std.specs.Int.{bit_at}
 use Rattle.std.specs.Prelude.{◌≡◌, ℕ, ◌-◌, ◌<◌, ◌≤◌, ◌^◌, Bool, List, nat_lt, slice_index, if◌then◌else◌}
 use Rattle.laurent_terms.specs.declared.TheConstants.{VARIABLES}
 
--- what bit number `bit` says: the variable of this number stands in the monomial; from 48 on, it stands there more than once
+-- what bit number `bit` says: the variable of this number stands in the monomial; from 48 on, it stands there more than
+-- once
 abbrev pub flag : List ℕ → ℕ → Bool
 flag s bit = if nat_lt bit VARIABLES then nat_lt 0 (slice_index s bit) else nat_lt 1 (slice_index s (bit - VARIABLES))
 

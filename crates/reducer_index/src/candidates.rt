@@ -9,7 +9,8 @@ ghost use Rattle.reducer_index.specs.Candidates.{IsCandidateOf, IsReducing, stan
 use crate::masks::mask;
 use module_vec::{Place, Term};
 
-/// The entry with this number, which may be a reducer: its lead coefficient, the component, and the mask of its monomial.
+/// The entry with this number, which may be a reducer: its lead coefficient, the component, and the mask of its
+/// monomial.
 #[derive(Clone, Copy)]
 pub struct Candidate {
     pub coefficient: i128,

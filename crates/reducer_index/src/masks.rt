@@ -5,8 +5,9 @@ ghost use Rattle.reducer_index.specs.Masks.{IsMask, IsMaskUpTo};
 
 use laurent_terms::{Mono, VARIABLES};
 
-/// The mask of a monomial: a bit for each of the 48 variables, whether it stands in the monomial, and one more for each of
-/// the first 16, whether it stands there more than once. The mask of a divisor has no bit that the monomial's hasn't.
+/// The mask of a monomial: a bit for each of the 48 variables, whether it stands in the monomial, and one more for each
+/// of the first 16, whether it stands there more than once. The mask of a divisor has no bit that the monomial's
+/// hasn't.
 // No bit is jumped over: a jump that is guessed wrong costs more than all of them.
 pub fn mask(m: &Mono) -> u64
     ensures { IsMask m.now result }

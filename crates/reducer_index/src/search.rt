@@ -35,8 +35,8 @@ pub fn from_component(candidates: &[Candidate], c: u8) -> &[Candidate]
     candidates.split_at(start).1
 }
 
-/// The number of the first candidate below `front` whose lead reduces the place. None of the candidates is of a component
-/// below that of the place.
+/// The number of the first candidate below `front` whose lead reduces the place. None of the candidates is of a
+/// component below that of the place.
 pub fn first_reducer(
     candidates: &[Candidate],
     leads: &[Term],

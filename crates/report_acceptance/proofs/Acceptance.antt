@@ -39,7 +39,8 @@ all_below : (es : List BasisEntry) (o : Option Seal) → take (item_count es o) 
 all_below es None = take_all (length es) es (omega arith)
 all_below es (Some s) = take_all (length es + 1) es (omega arith)
 
-module _ (p : Presented) (gens : List (List Term)) (pres : IsPresented p) (es : List BasisEntry) (seal : Option Seal) (base : ℕ) (known : AreKnown p gens base es)
+module _ (p : Presented) (gens : List (List Term)) (pres : IsPresented p) (es : List BasisEntry) (seal : Option Seal) (base : ℕ)
+    (known : AreKnown p gens base es)
     (ts : List SessionAnswers) (told : AllByRecursion (IsSessionTold p es seal base) ts) (end : End) (valid : IsEndOf (length p.names) end) where
   -- all items, with the answers between them
   body_taken : Leads p gens (IsAt Entries []) (told_from ts 0 (item_lines es seal)) (IsAt (phase_of seal) (vectors_of es))
@@ -51,22 +52,29 @@ module _ (p : Presented) (gens : List (List Term)) (pres : IsPresented p) (es : 
       let all = known.generators in
       let within = known.within in
       one p gens (IsAt (phase_of seal) (vectors_of es)) (IsAt Closing (vectors_of es)) (lines.End end) valid
-      (λ s h. let same : length s.entries ≡ length (vectors_of es) = ap length h.entries in
-      ((subst IsOpen (sym h.phase) (is_open seal), h.settled, omega (arith, same, number, all, within)), (tt, record { phase = refl; entries = h.entries; settled = h.settled })))
+      (λ s h. let same : length s.entries ≡ length (vectors_of es) = ap length h.entries in (
+        (subst IsOpen (sym h.phase) (is_open seal), h.settled, omega (arith, same, number, all, within)),
+        (tt, record { phase = refl; entries = h.entries; settled = h.settled }),
+      ))
 
   closed : Leads p gens (IsAt Closing (vectors_of es)) (closing_of ts) (IsAt Closing (vectors_of es))
   closed =
       let number = length-map es (λ (e : BasisEntry). e.vector) in
       let few = known.few in
-      all_closed p gens pres es seal base (vectors_of es) (are_entries es (basis_entries es known.entries)) (vectors_over (length p.names) es known.over) (omega (arith, number, few)) (ap vectors_of (all_below es seal)) ts told
+      all_closed p gens pres es seal base (vectors_of es) (are_entries es (basis_entries es known.entries)) (vectors_over (length p.names) es known.over)
+      (omega (arith, number, few)) (ap vectors_of (all_below es seal)) ts told
 
   done : Leads p gens (IsAt Closing (vectors_of es)) (lines.Done ∷ []) (IsAt Finished (vectors_of es))
-  done = one p gens (IsAt Closing (vectors_of es)) (IsAt Finished (vectors_of es)) lines.Done tt (λ s h. ((h.phase, h.settled), (tt, record { phase = refl; entries = h.entries; settled = h.settled })))
+  done = one p gens (IsAt Closing (vectors_of es)) (IsAt Finished (vectors_of es)) lines.Done tt
+      (λ s h. ((h.phase, h.settled), (tt, record { phase = refl; entries = h.entries; settled = h.settled })))
 
-  all_taken : Leads p gens (IsAt Entries []) (told_from ts 0 (item_lines es seal) ++ (lines.End end ∷ (closing_of ts ++ lines.Done ∷ []))) (IsAt Finished (vectors_of es))
+  all_taken : Leads p gens (IsAt Entries []) (told_from ts 0 (item_lines es seal) ++ (lines.End end ∷ (closing_of ts ++ lines.Done ∷ [])))
+      (IsAt Finished (vectors_of es))
   all_taken =
-      both p gens (IsAt Entries []) (IsAt (phase_of seal) (vectors_of es)) (IsAt Finished (vectors_of es)) (told_from ts 0 (item_lines es seal)) (lines.End end ∷ (closing_of ts ++ lines.Done ∷ [])) body_taken
-      (both p gens (IsAt (phase_of seal) (vectors_of es)) (IsAt Closing (vectors_of es)) (IsAt Finished (vectors_of es)) (lines.End end ∷ []) (closing_of ts ++ lines.Done ∷ []) ending
+      both p gens (IsAt Entries []) (IsAt (phase_of seal) (vectors_of es)) (IsAt Finished (vectors_of es)) (told_from ts 0 (item_lines es seal))
+      (lines.End end ∷ (closing_of ts ++ lines.Done ∷ [])) body_taken
+      (both p gens (IsAt (phase_of seal) (vectors_of es)) (IsAt Closing (vectors_of es)) (IsAt Finished (vectors_of es)) (lines.End end ∷ [])
+      (closing_of ts ++ lines.Done ∷ []) ending
       (both p gens (IsAt Closing (vectors_of es)) (IsAt Closing (vectors_of es)) (IsAt Finished (vectors_of es)) (closing_of ts) (lines.Done ∷ []) closed done))
 
 -- ---- reports that can be written
@@ -88,7 +96,8 @@ module _ (r : Reported) (h : History) (known : IsKnown r) (can : IsReportable r)
 
   history_taken : Leads r.pres can.entries.begins.gens (IsAt Entries []) (lines_of h) (IsAt Finished (vectors_of r.entries))
   history_taken =
-      subst (λ (x : List BasisEntry × Option Seal × End). Leads r.pres can.entries.begins.gens (IsAt Entries []) (told_from h.sessions 0 (item_lines x.0 x.1) ++ (lines.End x.2 ∷ (closing_of h.sessions ++ lines.Done ∷ []))) (IsAt Finished (vectors_of r.entries)))
+      subst (λ (x : List BasisEntry × Option Seal × End). Leads r.pres can.entries.begins.gens (IsAt Entries []) (told_from h.sessions 0 (item_lines x.0 x.1)
+      ++ (lines.End x.2 ∷ (closing_of h.sessions ++ lines.Done ∷ []))) (IsAt Finished (vectors_of r.entries)))
       (λ i. (sym is.entries i, sym is.seal i, sym is.end i))
       (all_taken r.pres can.entries.begins.gens known.presented r.entries r.seal can.base are_known h.sessions all_told r.end known.end)
 
@@ -97,7 +106,8 @@ module _ (r : Reported) (h : History) (known : IsKnown r) (can : IsReportable r)
 
   -- each of the lines is one of a report
   pub valid_lines : AllByRecursion (IsLineOf r.pres) (lines_of h)
-  valid_lines = all_valid r.pres can.entries.begins.gens (record start { phase = Entries }) (lines_of h) (history_taken.hold (record start { phase = Entries }) begun)
+  valid_lines = all_valid r.pres can.entries.begins.gens (record start { phase = Entries }) (lines_of h)
+      (history_taken.hold (record start { phase = Entries }) begun)
 
   last : IsAt Finished (vectors_of r.entries) (after (record start { phase = Entries }) (lines_of h))
   last = history_taken.then_is (record start { phase = Entries }) begun
@@ -107,8 +117,10 @@ module _ (r : Reported) (h : History) (known : IsKnown r) (can : IsReportable r)
 
   amount : counts (after (record start { phase = Entries }) (lines_of h)) ≡ told_amount r h
   amount =
-      let entries : length (after (record start { phase = Entries }) (lines_of h)).entries ≡ length r.entries = ap length last.entries ∙ length-map r.entries (λ (e : BasisEntry). e.vector) in
-      let proofs : (after (record start { phase = Entries }) (lines_of h)).proofs ≡ capped (proof_count (lines_of h)) = proofs_after (record start { phase = Entries }) (lines_of h) 0 refl ∙ ap capped (omega arith) in
+      let entries : length (after (record start { phase = Entries }) (lines_of h)).entries ≡ length r.entries =
+      ap length last.entries ∙ length-map r.entries (λ (e : BasisEntry). e.vector) in
+      let proofs : (after (record start { phase = Entries }) (lines_of h)).proofs ≡ capped (proof_count (lines_of h)) =
+      proofs_after (record start { phase = Entries }) (lines_of h) 0 refl ∙ ap capped (omega arith) in
       λ i. record { entries = capped (entries i); proofs = proofs i }
 
   pub is_told : TellsWhole r.pres (text_of r h) (Ok (told_amount r h))
@@ -123,7 +135,8 @@ module _ (r : Reported) (h : History) (known : IsKnown r) (can : IsReportable r)
   told_so c t =
       let same : t.generators ≡ can.entries.begins.gens = one_generating r.pres t.generators can.entries.begins.gens t.are can.entries.begins.generators in
       let tells : Tells r.pres can.entries.begins.gens 1 start (text_of r h) c = subst (λ g. Tells r.pres g 1 start (text_of r h) c) same t.tells in
-      alone_whole r.pres can.entries.begins.gens known.presented (lines_of h) c tells (history_taken.hold (record start { phase = Entries }) begun) whole ∙ ap Ok amount
+      alone_whole r.pres can.entries.begins.gens known.presented (lines_of h) c tells (history_taken.hold (record start { phase = Entries }) begun) whole
+      ∙ ap Ok amount
 
   pub is_accepted : (c : Result Checked CertFault) → Answers r.pres (text_of r h) c → IsAccepted r h c
   is_accepted (Ok c) answers = let e : Ok c ≡ Ok (told_amount r h) = told_so (Ok c) answers in cc

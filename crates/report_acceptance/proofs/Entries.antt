@@ -32,7 +32,8 @@ use Rattle.report_acceptance.proofs.Proving.{IsAt}
 
 -- ---- the entry of a generator
 
-signed_by : (negated : Bool) (g v : List Term) → MatchBool negated (sum_of v ≡ scale (negsuc 0) (sum_of g)) (v ≡ g) → (x : Place) → coefficient_at v x ≡ signed negated g x
+signed_by : (negated : Bool) (g v : List Term) → MatchBool negated (sum_of v ≡ scale (negsuc 0) (sum_of g)) (v ≡ g) → (x : Place)
+    → coefficient_at v x ≡ signed negated g x
 signed_by true g v h x = negative g v h x
 signed_by false g v h x = ap (λ w. coefficient_at w x) h
 
@@ -41,7 +42,8 @@ pub record IsNextEntry (gens b : List (List Term)) (e : BasisEntry) : Type 0 whe
   pub turn : IsInTurn gens b (made_by e.recipe)
   pub is : IsMadeOf gens b (made_by e.recipe) (coefficient_at e.vector)
 
-pub generator_next : (p : Presented) (gens b : List (List Term)) (e : BasisEntry) → length b < length gens → IsOfGenerator p (length b) (vector_at gens (length b)) e → IsNextEntry gens b e
+pub generator_next : (p : Presented) (gens b : List (List Term)) (e : BasisEntry) → length b < length gens
+    → IsOfGenerator p (length b) (vector_at gens (length b)) e → IsNextEntry gens b e
 generator_next p gens b e turn is = record {
   turn = subst (λ (r : Recipe). IsInTurn gens b (made_by r)) (sym is.recipe) turn;
   is = subst (λ (r : Recipe). IsMadeOf gens b (made_by r) (coefficient_at e.vector)) (sym is.recipe)
@@ -73,8 +75,15 @@ HasSmallNumbers (Sum steps) = AllByRecursion (λ s. IsSmall s.by) steps
 
 steps_read : (n : ℕ) (ss : List Step) → StepsAreOver n ss → AllByRecursion (λ s. IsMonomial s.t) ss → AllByRecursion (λ s. IsSmall s.by) ss → AreStepsOf n ss
 steps_read n [] over mono small = tt
-steps_read n (s ∷ ss) over mono small =
-    (record { nonzero = over.0.nonzero; range = over.0.range; mono = record { mono = mono.0; over = over.0.mono }; entry = small.0 }, steps_read n ss over.1 mono.1 small.1)
+steps_read n (s ∷ ss) over mono small = (
+  record {
+    nonzero = over.0.nonzero;
+    range = over.0.range;
+    mono = record { mono = mono.0; over = over.0.mono };
+    entry = small.0;
+  },
+  steps_read n ss over.1 mono.1 small.1,
+)
 
 made_read : (n : ℕ) (m : Made) → MadeIsOver n m → HasMonomials m → HasSmallNumbers m → IsMadeOver n m
 made_read n (Gen negated) over mono small = tt
@@ -89,7 +98,8 @@ next_small gens b (Gen negated) v few h = tt
 next_small gens b (Sum ss) v few h = there_small b ss few h.0
 
 module _ (p : Presented) (gens : List (List Term)) where
-  entry_line : (b : List (List Term)) (k : ℕ) (e : BasisEntry) → k ≡ length b → length b < 2 ^ 32 → IsKnownEntry e → EntryIsOver (length p.names) e → IsNextEntry gens b e
+  entry_line : (b : List (List Term)) (k : ℕ) (e : BasisEntry) → k ≡ length b → length b < 2 ^ 32 → IsKnownEntry e → EntryIsOver (length p.names) e
+      → IsNextEntry gens b e
       → IsLineOf p (lines.Entry k (made_by e.recipe) e.vector)
   entry_line b k e at few known over next = (
     omega (arith, at, few),
@@ -99,7 +109,8 @@ module _ (p : Presented) (gens : List (List Term)) where
     ),
   )
 
-  pub entry_taken : (b : List (List Term)) (k : ℕ) (e : BasisEntry) → k ≡ length b → length b < 2 ^ 32 → IsKnownEntry e → EntryIsOver (length p.names) e → IsNextEntry gens b e
+  pub entry_taken : (b : List (List Term)) (k : ℕ) (e : BasisEntry) → k ≡ length b → length b < 2 ^ 32 → IsKnownEntry e → EntryIsOver (length p.names) e
+      → IsNextEntry gens b e
       → Leads p gens (IsAt Entries b) (lines.Entry k (made_by e.recipe) e.vector ∷ []) (IsAt Entries (b ++ e.vector ∷ []))
   entry_taken b k e at few known over next =
       one p gens (IsAt Entries b) (IsAt Entries (b ++ e.vector ∷ [])) (lines.Entry k (made_by e.recipe) e.vector) (entry_line b k e at few known over next)

@@ -43,15 +43,18 @@ module _ (way : Way) (b : List (List Term)) where
 
 -- ---- entries and proofs
 
-one_made : (gens entries : List (List Term)) (made : Made) (f g : Coefficients) → IsMadeOf gens entries made f → IsMadeOf gens entries made g → (x : Place) → f x ≡ g x
+one_made : (gens entries : List (List Term)) (made : Made) (f g : Coefficients) → IsMadeOf gens entries made f → IsMadeOf gens entries made g
+    → (x : Place) → f x ≡ g x
 one_made gens entries (Gen negated) f g h k x = h x ∙ sym (k x)
 one_made gens entries (Sum steps) f g h k x = one_end Add entries zero_vector steps f g h.1 k.1 x
 
-recipe_passes : (gens entries : List (List Term)) (made : Made) (f : Coefficients) (k : CertKind) → IsMadeOf gens entries made f → RecipeFails entries made k → ⊥
+recipe_passes : (gens entries : List (List Term)) (made : Made) (f : Coefficients) (k : CertKind) → IsMadeOf gens entries made f
+    → RecipeFails entries made k → ⊥
 recipe_passes gens entries (Gen negated) f k h bad = bad
 recipe_passes gens entries (Sum steps) f k h bad = steps_pass Add entries zero_vector steps f k h bad
 
-entry_passes : (gens entries : List (List Term)) (made : Made) (v : List Term) (k : CertKind) → IsMadeOf gens entries made (coefficient_at v) → EntryFails gens entries made v k → ⊥
+entry_passes : (gens entries : List (List Term)) (made : Made) (v : List Term) (k : CertKind) → IsMadeOf gens entries made (coefficient_at v)
+    → EntryFails gens entries made v k → ⊥
 entry_passes gens entries made v Text h bad = bad
 entry_passes gens entries made v NoEntry h bad = recipe_passes gens entries made (coefficient_at v) NoEntry h bad
 entry_passes gens entries made v (NotEqual at) h bad = bad.2.here (one_made gens entries made bad.0 (coefficient_at v) bad.1 h at)
@@ -59,7 +62,8 @@ entry_passes gens entries made v (NotZero at) h bad = bad
 entry_passes gens entries made v Wide h bad = recipe_passes gens entries made (coefficient_at v) Wide h bad
 entry_passes gens entries made v Long h bad = recipe_passes gens entries made (coefficient_at v) Long h bad
 
-proof_passes : (entries : List (List Term)) (f : Coefficients) (ss : List Step) (at : Place) (g : Coefficients) → StepsLead Take entries f ss zero_vector → StepsLead Take entries f ss g → PartAt g zero_vector at → ⊥
+proof_passes : (entries : List (List Term)) (f : Coefficients) (ss : List Step) (at : Place) (g : Coefficients) → StepsLead Take entries f ss zero_vector
+    → StepsLead Take entries f ss g → PartAt g zero_vector at → ⊥
 proof_passes entries f ss at g h k part = part.here (one_end Take entries f ss g zero_vector k.1 h.1 at)
 
 -- ---- lines

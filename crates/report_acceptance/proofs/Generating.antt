@@ -32,7 +32,8 @@ not_zero : IsZero (binomial (unit_monomial 0) 0) → ⊥
 not_zero z = let e : negsuc 0 ≡ pos 0 = z (record { m = one; c = 0 }) in cc
 
 pub some_generator : (p : Presented) (gens : List (List Term)) → IsPresented p → AreGenerators p gens → 1 ≤ length gens
-some_generator p gens known are = by (written (candidates p) gens are (binomial (unit_monomial 0) 0) (is_candidate p (binomial (unit_monomial 0) 0) (IsGenerator.unit_binomial 0 0 known.some_name known.some_name)))
+some_generator p gens known are = by (written (candidates p) gens are (binomial (unit_monomial 0) 0)
+    (is_candidate p (binomial (unit_monomial 0) 0) (IsGenerator.unit_binomial 0 0 known.some_name known.some_name)))
   where
     by : IsZero (binomial (unit_monomial 0) 0) ⊎ Written (binomial (unit_monomial 0) 0) gens → 1 ≤ length gens
     by (inl z) = absurd (not_zero z)

@@ -1,5 +1,6 @@
 -- The lines of all items, with the answers between them, are taken.
-use Rattle.std.proofs.Common.{◌≡◌, ℕ, zero, suc, ◌+◌, ◌<◌, ◌≤◌, ◌^◌, nat_lt, Bool, true, false, List, [], ◌∷◌, ◌++◌, length, take, drop, slice_get, Option, Some, None, refl, sym, ap, subst, ◌∙◌, append-nil, take-append-drop, arith}
+use Rattle.std.proofs.Common.{◌≡◌, ℕ, zero, suc, ◌+◌, ◌<◌, ◌≤◌, ◌^◌, nat_lt, Bool, true, false, List, [], ◌∷◌, ◌++◌, length, take, drop, slice_get, Option}
+use Rattle.std.proofs.Common.{Some, None, refl, sym, ap, subst, ◌∙◌, append-nil, take-append-drop, arith}
 use Rattle.std.proofs.lemmas.List.{length-map, map-append, take_all}
 use Rattle.std.proofs.lemmas.Option.{slice_get_within}
 use Rattle.std.specs.List.{AllByRecursion}
@@ -71,7 +72,8 @@ pub record AreKnown (p : Presented) (gens : List (List Term)) (base : ℕ) (es :
   pub begins : (k : ℕ) (e : BasisEntry) → k < base → slice_get es k ≡ Some e → IsOfGenerator p k (vector_at gens k) e
   pub later : (k : ℕ) (e : BasisEntry) → base ≤ k → slice_get es k ≡ Some e → IsSumOver (vectors_of (take k es)) e
 
-module _ (p : Presented) (gens : List (List Term)) (pres : IsPresented p) (es : List BasisEntry) (seal : Option Seal) (base : ℕ) (known : AreKnown p gens base es) where
+module _ (p : Presented) (gens : List (List Term)) (pres : IsPresented p) (es : List BasisEntry) (seal : Option Seal) (base : ℕ)
+    (known : AreKnown p gens base es) where
   first_entries : (k : ℕ) → AreEntries (vectors_of (take k es))
   first_entries k = are_entries (take k es) (basis_entries (take k es) (all_first IsKnownEntry k es known.entries))
 
@@ -86,7 +88,8 @@ module _ (p : Presented) (gens : List (List Term)) (pres : IsPresented p) (es : 
       let number = first_length k (omega (arith, within)) in
       let below : k < base = grind arith in
       let all = known.generators in
-      generator_next p gens (vectors_of (take k es)) e (omega (arith, number, all, below)) (subst (λ i. IsOfGenerator p i (vector_at gens i) e) (sym number) (known.begins k e below has))
+      generator_next p gens (vectors_of (take k es)) e (omega (arith, number, all, below))
+      (subst (λ i. IsOfGenerator p i (vector_at gens i) e) (sym number) (known.begins k e below has))
   next_by k e false lt within has =
       let number = first_length k (omega (arith, within)) in
       let above : base ≤ k = grind arith in
@@ -94,13 +97,16 @@ module _ (p : Presented) (gens : List (List Term)) (pres : IsPresented p) (es : 
       sum_next gens (vectors_of (take k es)) e (omega (arith, number, all, above)) (known.later k e above has)
 
   -- an entry, after those before it
-  item_taken : (k : ℕ) (e : BasisEntry) → slice_get es k ≡ Some e → Leads p gens (IsAt Entries (vectors_of (take k es))) (lines.Entry k (made_by e.recipe) e.vector ∷ []) (IsAt Entries (vectors_of (take (k + 1) es)))
+  item_taken : (k : ℕ) (e : BasisEntry) → slice_get es k ≡ Some e
+      → Leads p gens (IsAt Entries (vectors_of (take k es))) (lines.Entry k (made_by e.recipe) e.vector ∷ []) (IsAt Entries (vectors_of (take (k + 1) es)))
   item_taken k e has =
       let within = slice_get_within es k e has in
       let number = first_length k (omega (arith, within)) in
-      let next : vectors_of (take k es) ++ e.vector ∷ [] ≡ vectors_of (take (k + 1) es) = sym (ap vectors_of (take_read es k e has) ∙ map-append (λ (x : BasisEntry). x.vector) (take k es) (e ∷ [])) in
+      let next : vectors_of (take k es) ++ e.vector ∷ [] ≡ vectors_of (take (k + 1) es) =
+      sym (ap vectors_of (take_read es k e has) ∙ map-append (λ (x : BasisEntry). x.vector) (take k es) (e ∷ [])) in
       subst (λ c. Leads p gens (IsAt Entries (vectors_of (take k es))) (lines.Entry k (made_by e.recipe) e.vector ∷ []) (IsAt Entries c)) next
-      (entry_taken p gens (vectors_of (take k es)) k e (sym number) (let few = known.few in omega (arith, number, within, few)) (at_place IsKnownEntry es k e known.entries has)
+      (entry_taken p gens (vectors_of (take k es)) k e (sym number) (let few = known.few
+      in omega (arith, number, within, few)) (at_place IsKnownEntry es k e known.entries has)
       (at_place (EntryIsOver (length p.names)) es k e known.over has) (next_by k e (nat_lt k base) refl within has))
 
   module _ (ts : List SessionAnswers) (told : AllByRecursion (IsSessionTold p es seal base) ts) where
@@ -110,7 +116,8 @@ module _ (p : Presented) (gens : List (List Term)) (pres : IsPresented p) (es : 
         let number = first_length k le in
         let few = known.few in
         let all = known.generators in
-        front_taken p gens pres es seal base (vectors_of (take k es)) (first_entries k) (first_over k) (omega (arith, number, le, few)) Entries k refl (omega (arith, le, few)) tt
+        front_taken p gens pres es seal base (vectors_of (take k es)) (first_entries k) (first_over k) (omega (arith, number, le, few)) Entries k refl
+        (omega (arith, le, few)) tt
         (λ low. omega (arith, number, all, low)) (omega (arith, number)) ts told
 
     -- and behind the seal
@@ -121,7 +128,8 @@ module _ (p : Presented) (gens : List (List Term)) (pres : IsPresented p) (es : 
         let all = known.generators in
         let within = known.within in
         let whole : vectors_of (take (length es + 1) es) ≡ vectors_of es = ap vectors_of (take_all (length es + 1) es (omega arith)) in
-        front_taken p gens pres es seal base (vectors_of es) (are_entries es (basis_entries es known.entries)) (vectors_over (length p.names) es known.over) (omega (arith, number, few)) Sealed (length es + 1) whole
+        front_taken p gens pres es seal base (vectors_of es) (are_entries es (basis_entries es known.entries)) (vectors_over (length p.names) es known.over)
+        (omega (arith, number, few)) Sealed (length es + 1) whole
         (omega (arith, few)) tt (λ low. omega (arith, number, all, within)) (omega (arith, number)) ts told
 
     seal_taken : Leads p gens (IsAt Entries (vectors_of es)) (lines.Seal ∷ []) (IsAt Sealed (vectors_of es))
@@ -133,12 +141,16 @@ module _ (p : Presented) (gens : List (List Term)) (pres : IsPresented p) (es : 
         (λ s h. let same : length s.entries ≡ length (vectors_of es) = ap length h.entries in
         ((h.phase, h.settled, omega (arith, same, number, all, within)), (tt, record { phase = refl; entries = h.entries; settled = h.settled })))
 
-    end_taken : (o : Option Seal) (k : ℕ) → k ≡ length es → Leads p gens (IsAt Entries (vectors_of es)) (told_from ts k (seal_lines o)) (IsAt (phase_of o) (vectors_of es))
+    end_taken : (o : Option Seal) (k : ℕ) → k ≡ length es → Leads p gens (IsAt Entries (vectors_of es)) (told_from ts k (seal_lines o))
+        (IsAt (phase_of o) (vectors_of es))
     end_taken None k at = nothing p gens (IsAt Entries (vectors_of es))
     end_taken (Some s) k at =
-        let lines_here : Leads p gens (IsAt Sealed (vectors_of es)) (live_at (k + 1) ts) (IsAt Sealed (vectors_of es)) = subst (λ j. Leads p gens (IsAt Sealed (vectors_of es)) (live_at (j + 1) ts) (IsAt Sealed (vectors_of es))) (sym at) sealed_taken in
-        both p gens (IsAt Entries (vectors_of es)) (IsAt Sealed (vectors_of es)) (IsAt Sealed (vectors_of es)) (lines.Seal ∷ []) (live_at (k + 1) ts ++ []) seal_taken
-        (both p gens (IsAt Sealed (vectors_of es)) (IsAt Sealed (vectors_of es)) (IsAt Sealed (vectors_of es)) (live_at (k + 1) ts) [] lines_here (nothing p gens (IsAt Sealed (vectors_of es))))
+        let lines_here : Leads p gens (IsAt Sealed (vectors_of es)) (live_at (k + 1) ts) (IsAt Sealed (vectors_of es)) =
+        subst (λ j. Leads p gens (IsAt Sealed (vectors_of es)) (live_at (j + 1) ts) (IsAt Sealed (vectors_of es))) (sym at) sealed_taken in
+        both p gens (IsAt Entries (vectors_of es)) (IsAt Sealed (vectors_of es)) (IsAt Sealed (vectors_of es)) (lines.Seal ∷ [])
+        (live_at (k + 1) ts ++ []) seal_taken
+        (both p gens (IsAt Sealed (vectors_of es)) (IsAt Sealed (vectors_of es)) (IsAt Sealed (vectors_of es)) (live_at (k + 1) ts) [] lines_here
+        (nothing p gens (IsAt Sealed (vectors_of es))))
 
     -- from entry number k on
     pub items_taken : (k : ℕ) (left : List BasisEntry) → k ≤ length es → drop k es ≡ left
@@ -146,11 +158,14 @@ module _ (p : Presented) (gens : List (List Term)) (pres : IsPresented p) (es : 
     items_taken k [] le is =
         let whole : take k es ≡ es = sym (append-nil (take k es)) ∙ sym (ap (λ l. take k es ++ l) is) ∙ take-append-drop k es in
         let all : k ≡ length es = sym (length_take es k le) ∙ ap length whole in
-        subst (λ c. Leads p gens (IsAt Entries (vectors_of c)) (told_from ts k (seal_lines seal)) (IsAt (phase_of seal) (vectors_of es))) (sym whole) (end_taken seal k all)
+        subst (λ c. Leads p gens (IsAt Entries (vectors_of c)) (told_from ts k (seal_lines seal)) (IsAt (phase_of seal) (vectors_of es))) (sym whole)
+        (end_taken seal k all)
     items_taken k (e ∷ left) le is =
         let h = drop_cons es k e left is in
         let within = slice_get_within es k e h.0 in
-        both p gens (IsAt Entries (vectors_of (take k es))) (IsAt Entries (vectors_of (take (k + 1) es))) (IsAt (phase_of seal) (vectors_of es)) (lines.Entry k (made_by e.recipe) e.vector ∷ [])
+        both p gens (IsAt Entries (vectors_of (take k es))) (IsAt Entries (vectors_of (take (k + 1) es))) (IsAt (phase_of seal) (vectors_of es))
+        (lines.Entry k (made_by e.recipe) e.vector ∷ [])
         (live_at (k + 1) ts ++ told_from ts (k + 1) (entry_lines (k + 1) left ++ seal_lines seal)) (item_taken k e h.0)
-        (both p gens (IsAt Entries (vectors_of (take (k + 1) es))) (IsAt Entries (vectors_of (take (k + 1) es))) (IsAt (phase_of seal) (vectors_of es)) (live_at (k + 1) ts) (told_from ts (k + 1) (entry_lines (k + 1) left ++ seal_lines seal))
+        (both p gens (IsAt Entries (vectors_of (take (k + 1) es))) (IsAt Entries (vectors_of (take (k + 1) es))) (IsAt (phase_of seal) (vectors_of es))
+        (live_at (k + 1) ts) (told_from ts (k + 1) (entry_lines (k + 1) left ++ seal_lines seal))
         (answers_taken (k + 1) (omega (arith, within))) (items_taken (k + 1) left (omega (arith, within)) h.1))

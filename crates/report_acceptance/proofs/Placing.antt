@@ -1,5 +1,6 @@
 -- The places of Fox vectors of words within the limit, and of chains from there on, are in reach.
-use Rattle.std.proofs.Common.{◌≡◌, ◌≢◌, ℕ, ◌+◌, ◌≤◌, Bool, true, false, ℤ, pos, negsuc, if◌then◌else◌, List, [], ◌∷◌, ◌++◌, length, refl, sym, subst, ◌∙◌, arith}
+use Rattle.std.proofs.Common.{◌≡◌, ◌≢◌, ℕ, ◌+◌, ◌≤◌, Bool, true, false, ℤ, pos, negsuc, if◌then◌else◌, List, [], ◌∷◌, ◌++◌, length, refl, sym, subst, ◌∙◌}
+use Rattle.std.proofs.Common.{arith}
 use Rattle.std.proofs.Math.IntN.{+ℤ_idl}
 use Rattle.std.specs.List.{AllByRecursion}
 use Rattle.free_words.specs.declared.letter.Letter.{Letter}
@@ -51,8 +52,10 @@ all_placed : (u w : List Letter) → IsOver 24 u → IsOver 24 w → length u + 
 all_placed u [] a b short = tt
 all_placed u (l ∷ w) a b short =
     let over : IsOver 24 (u ++ l ∷ []) = IsOver-append 24 u (l ∷ []) a (b.0, tt) in
-    let longer = length_next u l in
-    (letter_placed u l (image_is (u ++ l ∷ []) over (omega (arith, short, longer))) (image_is u a (omega (arith, short))), all_placed (u ++ l ∷ []) w over b.1 (omega (arith, short, longer)))
+    let longer = length_next u l in (
+      letter_placed u l (image_is (u ++ l ∷ []) over (omega (arith, short, longer))) (image_is u a (omega (arith, short))),
+      all_placed (u ++ l ∷ []) w over b.1 (omega (arith, short, longer)),
+    )
 
 pub fox_placed : (w : List Letter) → IsOver 24 w → length w ≤ COMPOSED → IsPlaced (fox_at w)
 fox_placed w over short x some = stands IsPlace (fox w) x (all_placed [] w tt over (omega (arith, short))) some

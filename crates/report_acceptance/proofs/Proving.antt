@@ -1,5 +1,6 @@
 -- The proofs of an answer are taken.
-use Rattle.std.proofs.Common.{◌≡◌, ℕ, suc, ◌+◌, ◌<◌, ◌^◌, List, [], ◌∷◌, ◌++◌, length, get_or, refl, sym, ap, subst, ◌∙◌, append_assoc, append-nil, length-append, arith}
+use Rattle.std.proofs.Common.{◌≡◌, ℕ, suc, ◌+◌, ◌<◌, ◌^◌, List, [], ◌∷◌, ◌++◌, length, get_or, refl, sym, ap, subst, ◌∙◌, append_assoc, append-nil}
+use Rattle.std.proofs.Common.{length-append, arith}
 use Rattle.std.specs.List.{AllByRecursion}
 use Rattle.free_words.specs.declared.letter.Letter.{Letter}
 use Rattle.free_words.proofs.OverLemmas.{IsOver-more}
@@ -52,7 +53,8 @@ AreShownBy b (w ∷ ws) (ss ∷ proofs) = IsRest b (fox_at w) [] ss × AreShownB
 shown_so : (b : List (List Term)) (w : List Letter) (rest : List Term) (ss : List Step) → IsShown b w → IsRest b (fox_at w) rest ss → IsRest b (fox_at w) [] ss
 shown_so b w rest ss h is = let same = one_rest b (fox_at w) rest [] ss h.0 is h.1 in subst (λ v. IsRest b (fox_at w) v ss) same.0 is
 
-pub shown_by : (b : List (List Term)) (ws : List (List Letter)) (proofs : List (List Step)) → AllByRecursion (IsShown b) ws → AreProofsOf b ws proofs → AreShownBy b ws proofs
+pub shown_by : (b : List (List Term)) (ws : List (List Letter)) (proofs : List (List Step)) → AllByRecursion (IsShown b) ws → AreProofsOf b ws proofs
+    → AreShownBy b ws proofs
 shown_by b [] [] h are = tt
 shown_by b [] (ss ∷ proofs) h are = absurd (let e = are.count in omega (arith, e))
 shown_by b (w ∷ ws) [] h are = absurd (let e = are.count in omega (arith, e))
@@ -67,7 +69,8 @@ middle : (before : List (List Letter)) (w : List Letter) (others : List (List Le
 middle [] w others = refl
 middle (v ∷ before) w others = middle before w others
 
-module _ (p : Presented) (gens : List (List Term)) (known : IsPresented p) (b : List (List Term)) (entries : AreEntries b) (over : AllByRecursion (VectorIsOver (length p.names)) b) (few : length b < 2 ^ 32) where
+module _ (p : Presented) (gens : List (List Term)) (known : IsPresented p) (b : List (List Term)) (entries : AreEntries b)
+    (over : AllByRecursion (VectorIsOver (length p.names)) b) (few : length b < 2 ^ 32) where
   word_placed : (w : List Letter) → Fits (length p.names) w → IsPlaced (fox_at w)
   word_placed w fits = fox_placed w (IsOver-more (length p.names) 24 w known.few_names fits.0) fits.1
 
@@ -83,23 +86,30 @@ module _ (p : Presented) (gens : List (List Term)) (known : IsPresented p) (b : 
   }
 
   proof_line : (j : ℕ) (w : List Letter) (ss : List Step) → j < 2 ^ 32 → Fits (length p.names) w → IsRest b (fox_at w) [] ss → IsLineOf p (lines.Proof j ss)
-  proof_line j w ss small fits is =
-      (small, runs_read (length p.names) b (fox_at w) (coefficient_at []) ss entries (word_placed w fits) few is.runs (steps_there b ss is.are) (steps_over (length p.names) b entries over w fits.0 fits.1 [] ss is))
+  proof_line j w ss small fits is = (
+    small,
+    runs_read (length p.names) b (fox_at w) (coefficient_at []) ss entries (word_placed w fits) few is.runs (steps_there b ss is.are)
+        (steps_over (length p.names) b entries over w fits.0 fits.1 [] ss is),
+  )
 
   module _ (phase : Phase) (ws : List (List Letter)) (count : length ws < 2 ^ 32) where
-    proof_taken : (before others : List (List Letter)) (w : List Letter) (ss : List Step) (j : ℕ) → ws ≡ before ++ w ∷ others → j ≡ length before → Fits (length p.names) w → IsRest b (fox_at w) [] ss
+    proof_taken : (before others : List (List Letter)) (w : List Letter) (ss : List Step) (j : ℕ) → ws ≡ before ++ w ∷ others → j ≡ length before
+        → Fits (length p.names) w → IsRest b (fox_at w) [] ss
         → Leads p gens (IsProving phase b ws j) (lines.Proof (j + 1) ss ∷ []) (IsProving phase b ws (j + 1))
     proof_taken before others w ss j parts at fits is =
         let long : length ws ≡ length before + suc (length others) = ap length parts ∙ length-append before (w ∷ others) in
         let proof : IsProof w ss = is_proof w ss fits is in
-        let word : (s : State) → IsProving phase b ws j s → due s ≡ w = λ s h. (λ i. get_or (h.subjects i) (h.shown i) []) ∙ (λ i. get_or (parts i) (at i) []) ∙ middle before w others in
-        one p gens (IsProving phase b ws j) (IsProving phase b ws (j + 1)) (lines.Proof (j + 1) ss) (proof_line (j + 1) w ss (omega (arith, long, at, count)) fits is)
+        let word : (s : State) → IsProving phase b ws j s → due s ≡ w = λ s h. (λ i. get_or (h.subjects i) (h.shown i) []) ∙ (λ i. get_or (parts i) (at i) [])
+        ∙ middle before w others in
+        one p gens (IsProving phase b ws j) (IsProving phase b ws (j + 1)) (lines.Proof (j + 1) ss)
+        (proof_line (j + 1) w ss (omega (arith, long, at, count)) fits is)
         (λ s h.
         let own : length s.subjects ≡ length ws = ap length h.subjects in
         let number = h.shown in (
           (omega (arith, own, number, long, at), omega (arith, number), subst (λ c. AreNear c ss) (sym h.entries) proof.near),
           (
-            subst (λ c. StepsLead Take c (fox_at (due s)) ss zero_vector) (sym h.entries) (subst (λ v. StepsLead Take b (fox_at v) ss zero_vector) (sym (word s h)) proof.leads),
+            subst (λ c. StepsLead Take c (fox_at (due s)) ss zero_vector) (sym h.entries)
+                (subst (λ v. StepsLead Take b (fox_at v) ss zero_vector) (sym (word s h)) proof.leads),
             record { phase = h.phase; entries = h.entries; subjects = h.subjects; shown = ap (λ n. n + 1) h.shown },
           ),
         ))
@@ -110,7 +120,8 @@ module _ (p : Presented) (gens : List (List Term)) (known : IsPresented p) (b : 
         let number = h.shown in
         record { phase = h.phase; entries = h.entries; settled = omega (arith, own, number, at) }
 
-    pub proofs_taken : (before others : List (List Letter)) (proofs : List (List Step)) (j : ℕ) → ws ≡ before ++ others → j ≡ length before → AllByRecursion (Fits (length p.names)) others
+    pub proofs_taken : (before others : List (List Letter)) (proofs : List (List Step)) (j : ℕ) → ws ≡ before ++ others → j ≡ length before
+        → AllByRecursion (Fits (length p.names)) others
         → AreShownBy b others proofs → Leads p gens (IsProving phase b ws j) (proof_lines (j + 1) proofs) (IsAt phase b)
     proofs_taken before [] [] j parts at fit h = record { hold = λ s k. tt; then_is = all_shown j before (parts ∙ append-nil before) at }
     proofs_taken before [] (ss ∷ proofs) j parts at fit h = absurd h
@@ -118,4 +129,5 @@ module _ (p : Presented) (gens : List (List Term)) (known : IsPresented p) (b : 
     proofs_taken before (w ∷ others) (ss ∷ proofs) j parts at fit h =
         both p gens (IsProving phase b ws j) (IsProving phase b ws (j + 1)) (IsAt phase b) (lines.Proof (j + 1) ss ∷ []) (proof_lines (j + 1 + 1) proofs)
         (proof_taken before others w ss j parts at fit.0 h.0)
-        (proofs_taken (before ++ w ∷ []) others proofs (j + 1) (parts ∙ sym (append_assoc before (w ∷ []) others)) (ap (λ n. n + 1) at ∙ sym (length-append before (w ∷ []))) fit.1 h.1)
+        (proofs_taken (before ++ w ∷ []) others proofs (j + 1) (parts ∙ sym (append_assoc before (w ∷ []) others)) (ap (λ n. n + 1) at
+        ∙ sym (length-append before (w ∷ []))) fit.1 h.1)

@@ -1,5 +1,6 @@
 -- What is found in a map when an entry is put into it, and questions that are left open.
-use Rattle.std.proofs.Common.{◌≡◌, ◌≢◌, ℕ, zero, suc, ◌<◌, nat_lt, ◌==◌, cond, Bool, true, false, List, [], ◌∷◌, ◌++◌, length, drop, slice_get, refl, sym, ap, subst, ◌∙◌, arith}
+use Rattle.std.proofs.Common.{◌≡◌, ◌≢◌, ℕ, zero, suc, ◌<◌, nat_lt, ◌==◌, cond, Bool, true, false, List, [], ◌∷◌, ◌++◌, length, drop, slice_get, refl, sym, ap}
+use Rattle.std.proofs.Common.{subst, ◌∙◌, arith}
 use Rattle.std.proofs.lemmas.Bool.Decides.{nat_tests}
 use Rattle.std.specs.Prelude.{Some}
 use Rattle.std.specs.List.{AllByRecursion}
@@ -47,17 +48,20 @@ equal_keys a b e = by (nat_lt a b) refl (a == b) refl
 module _ (s n : ℕ) where
   -- a look-up of t where the new number goes to its place
   found : (t : ℕ) (x : ℕ × ℕ) (xs : List (ℕ × ℕ)) (o : Ordering) → nat_cmp s x.0 ≡ o
-      → lookup (is_at (nat_cmp t)) (insert_entry nat_cmp (x ∷ xs) s n) ≡ lookup (is_at (nat_cmp t)) (match_ordering o ((s, n) ∷ x ∷ xs) ((x.0, n) ∷ xs) (x ∷ insert_entry nat_cmp xs s n))
+      → lookup (is_at (nat_cmp t)) (insert_entry nat_cmp (x ∷ xs) s n) ≡ lookup (is_at (nat_cmp t))
+      (match_ordering o ((s, n) ∷ x ∷ xs) ((x.0, n) ∷ xs) (x ∷ insert_entry nat_cmp xs s n))
   found t x xs o e = ap (λ r. lookup (is_at (nat_cmp t)) (match_ordering r ((s, n) ∷ x ∷ xs) ((x.0, n) ∷ xs) (x ∷ insert_entry nat_cmp xs s n))) e
 
-  first_is : (t : ℕ) (x : ℕ × ℕ) (xs : List (ℕ × ℕ)) (b : Bool) → is_at (nat_cmp t) x.0 ≡ b → lookup (is_at (nat_cmp t)) (x ∷ xs) ≡ cond b (Some x.1) (lookup (is_at (nat_cmp t)) xs)
+  first_is : (t : ℕ) (x : ℕ × ℕ) (xs : List (ℕ × ℕ)) (b : Bool) → is_at (nat_cmp t) x.0 ≡ b
+      → lookup (is_at (nat_cmp t)) (x ∷ xs) ≡ cond b (Some x.1) (lookup (is_at (nat_cmp t)) xs)
   first_is t x xs b e = ap (λ r. cond r (Some x.1) (lookup (is_at (nat_cmp t)) xs)) e
 
   pub put_here : (xs : List (ℕ × ℕ)) → lookup (is_at (nat_cmp s)) (insert_entry nat_cmp xs s n) ≡ Some n
   put_here [] = first_is s (s, n) [] true (ap is_eq (nat_same s))
   put_here (x ∷ xs) = by (nat_cmp s x.0) refl (put_here xs)
     where
-      by : (o : Ordering) → nat_cmp s x.0 ≡ o → lookup (is_at (nat_cmp s)) (insert_entry nat_cmp xs s n) ≡ Some n → lookup (is_at (nat_cmp s)) (insert_entry nat_cmp (x ∷ xs) s n) ≡ Some n
+      by : (o : Ordering) → nat_cmp s x.0 ≡ o → lookup (is_at (nat_cmp s)) (insert_entry nat_cmp xs s n) ≡ Some n
+          → lookup (is_at (nat_cmp s)) (insert_entry nat_cmp (x ∷ xs) s n) ≡ Some n
       by Less e later = found s x xs Less e ∙ first_is s (s, n) (x ∷ xs) true (ap is_eq (nat_same s))
       by Equal e later = found s x xs Equal e ∙ first_is s (x.0, n) xs true (ap is_eq e)
       by Greater e later = found s x xs Greater e ∙ (first_is s x (insert_entry nat_cmp xs s n) false (ap is_eq e) ∙ later)
@@ -104,7 +108,8 @@ more_left qs rs (x ∷ xs) [] h = h
 more_left qs rs (x ∷ xs) (y ∷ ys) h = (record { at = h.0.at; question = get_front qs rs x.1 y.1 h.0.question }, more_left qs rs xs ys h.1)
 
 -- one more is put behind those that come before it, and before those that come behind it
-pub put_left : (qs : List Question) (xs : List ((ℕ × ℕ) × ℕ)) (before behind : List ((ℕ × ℕ) × Question)) (at : ℕ × ℕ) (place : ℕ) (q : Question) → AreLeft qs xs (before ++ behind)
+pub put_left : (qs : List Question) (xs : List ((ℕ × ℕ) × ℕ)) (before behind : List ((ℕ × ℕ) × Question)) (at : ℕ × ℕ) (place : ℕ) (q : Question)
+    → AreLeft qs xs (before ++ behind)
     → AllByRecursion (λ y. by_number at y.0 ≡ Greater) before → AllByRecursion (λ y. by_number at y.0 ≡ Less) behind → slice_get qs place ≡ Some q
     → AreLeft qs (insert_entry by_number xs at place) (before ++ (at, q) ∷ behind)
 put_left qs [] [] [] at place q h g l is = (record { at = refl; question = is }, tt)
@@ -112,12 +117,14 @@ put_left qs [] [] (y ∷ ys) at place q h g l is = absurd h
 put_left qs (x ∷ xs) [] [] at place q h g l is = absurd h
 put_left qs (x ∷ xs) [] (y ∷ ys) at place q h g l is =
     let less : by_number at x.0 ≡ Less = ap (by_number at) h.0.at ∙ l.0 in
-    subst (λ zs. AreLeft qs zs ((at, q) ∷ y ∷ ys)) (sym (ap (λ o. match_ordering o ((at, place) ∷ x ∷ xs) ((x.0, place) ∷ xs) (x ∷ insert_entry by_number xs at place)) less))
+    subst (λ zs. AreLeft qs zs ((at, q) ∷ y ∷ ys))
+    (sym (ap (λ o. match_ordering o ((at, place) ∷ x ∷ xs) ((x.0, place) ∷ xs) (x ∷ insert_entry by_number xs at place)) less))
     (record { at = refl; question = is }, h)
 put_left qs [] (b ∷ before) behind at place q h g l is = absurd h
 put_left qs (x ∷ xs) (b ∷ before) behind at place q h g l is =
     let more : by_number at x.0 ≡ Greater = ap (by_number at) h.0.at ∙ g.0 in
-    subst (λ zs. AreLeft qs zs (b ∷ (before ++ (at, q) ∷ behind))) (sym (ap (λ o. match_ordering o ((at, place) ∷ x ∷ xs) ((x.0, place) ∷ xs) (x ∷ insert_entry by_number xs at place)) more))
+    subst (λ zs. AreLeft qs zs (b ∷ (before ++ (at, q) ∷ behind)))
+    (sym (ap (λ o. match_ordering o ((at, place) ∷ x ∷ xs) ((x.0, place) ∷ xs) (x ∷ insert_entry by_number xs at place)) more))
     (h.0, put_left qs xs before behind at place q h.1 g.1 l is)
 
 -- the first of them
@@ -127,7 +134,8 @@ pub record IsFirst (qs : List Question) (xs : List ((ℕ × ℕ) × ℕ)) (at : 
   pub question : slice_get qs place ≡ Some q
   pub others : AreLeft qs (drop 1 xs) ys
 
-pub first_left : (qs : List Question) (xs : List ((ℕ × ℕ) × ℕ)) (at : ℕ × ℕ) (q : Question) (ys : List ((ℕ × ℕ) × Question)) → AreLeft qs xs ((at, q) ∷ ys) → IsFirst qs xs at q ys
+pub first_left : (qs : List Question) (xs : List ((ℕ × ℕ) × ℕ)) (at : ℕ × ℕ) (q : Question) (ys : List ((ℕ × ℕ) × Question)) → AreLeft qs xs ((at, q) ∷ ys)
+    → IsFirst qs xs at q ys
 first_left qs [] at q ys h = absurd h
 first_left qs (x ∷ xs) at q ys h = record { place = x.1; first = ap (λ a. Some (a, x.1)) h.0.at; question = h.0.question; others = h.1 }
 

@@ -1,5 +1,6 @@
 -- The lines of one answer tell it.
-use Rattle.std.proofs.Common.{◌≡◌, ℕ, zero, suc, ◌+◌, ◌-◌, ◌<◌, ◌^◌, Bool, true, false, if◌then◌else◌, List, [], ◌∷◌, ◌++◌, length, map, drop, slice_get, Option, Some, None, IsSome, refl, sym, ap, subst, ◌∙◌, append_assoc, append-nil, length-append, arith}
+use Rattle.std.proofs.Common.{◌≡◌, ℕ, zero, suc, ◌+◌, ◌-◌, ◌<◌, ◌^◌, Bool, true, false, if◌then◌else◌, List, [], ◌∷◌, ◌++◌, length, map, drop, slice_get}
+use Rattle.std.proofs.Common.{Option, Some, None, IsSome, refl, sym, ap, subst, ◌∙◌, append_assoc, append-nil, length-append, arith}
 use Rattle.std.proofs.lemmas.List.{map-append, length-map}
 use Rattle.std.specs.Option.{unwrap_or}
 use Rattle.std.specs.List.{AllByRecursion}
@@ -14,7 +15,8 @@ use Rattle.session_text.specs.Questions.{first_long_image}
 use Rattle.report_lines.specs.declared.lines.Line.TheVariants as lines
 use Rattle.report_reading.specs.declared.entry.EntryData.{EntryData}
 use Rattle.report_reading.specs.declared.replies.ReplyData.{ReplyData}
-use Rattle.report_reading.specs.Telling.{Told, MayGoOn, IsClosing, IsNextOpen, IsShown, IsDue, IsInOrder, item_count, last_number, proof_count, is_open, by_number, with_proof}
+use Rattle.report_reading.specs.Telling.{Told, MayGoOn, IsClosing, IsNextOpen, IsShown, IsDue, IsInOrder, item_count, last_number, proof_count, is_open}
+use Rattle.report_reading.specs.Telling.{by_number, with_proof}
 use Rattle.report_reading.proofs.Placing.{proof_behind}
 use Rattle.report_text.specs.Histories.{proof_lines}
 use Rattle.report_acceptance.proofs.Puts.{AreLeft, put_here, put_left, more_left, get_behind, first_left}
@@ -57,10 +59,12 @@ last_behind rs r =
 pub items_told : (c : Base) (rs : List ReplyData) (asked : List ((ℕ × ℕ) × Question)) (t : Told) → Says c rs asked t → item_count t ≡ items_in c
 items_told c rs asked t h = λ i. length (h.entries i) + (if h.sealed i then 1 else 0)
 
-pub may_go_on : (c : Base) (rs : List ReplyData) (asked : List ((ℕ × ℕ) × Question)) (t : Told) → Says c rs asked t → c.end ≡ None → IsShown (last_of rs) → MayGoOn t
+pub may_go_on : (c : Base) (rs : List ReplyData) (asked : List ((ℕ × ℕ) × Question)) (t : Told) → Says c rs asked t → c.end ≡ None
+    → IsShown (last_of rs) → MayGoOn t
 may_go_on c rs asked t h none shown = (h.end ∙ none, subst IsShown (sym (ap last_of h.replies)) shown)
 
-pub may_close : (c : Base) (rs : List ReplyData) (asked : List ((ℕ × ℕ) × Question)) (t : Told) → Says c rs asked t → IsSome c.end → IsShown (last_of rs) → IsClosing t
+pub may_close : (c : Base) (rs : List ReplyData) (asked : List ((ℕ × ℕ) × Question)) (t : Told) → Says c rs asked t → IsSome c.end
+    → IsShown (last_of rs) → IsClosing t
 may_close c rs asked t h some shown = (subst (λ (o : Option End). IsSome o) (sym h.end) some, h.unfinished, subst IsShown (sym (ap last_of h.replies)) shown)
 
 -- ---- the answer
@@ -68,9 +72,12 @@ may_close c rs asked t h some shown = (subst (λ (o : Option End). IsSome o) (sy
 abbrev pub opened : ℕ → ℕ → Question → Verdict → List ((ℕ × ℕ) × Question)
 opened s n q v = if is_open v then ((s, n), q) ∷ [] else []
 
-left_with : (rs : List ReplyData) (r : ReplyData) (xs : List ((ℕ × ℕ) × ℕ)) (before behind : List ((ℕ × ℕ) × Question)) (at : ℕ × ℕ) (place : ℕ) (b : Bool) → place ≡ length rs
-    → AreLeft (questions_in rs) xs (before ++ behind) → AllByRecursion (λ y. by_number at y.0 ≡ Greater) before → AllByRecursion (λ y. by_number at y.0 ≡ Less) behind
-    → AreLeft (questions_in (rs ++ r ∷ [])) (if b then insert_entry by_number xs at place else xs) (before ++ ((if b then (at, r.question) ∷ [] else []) ++ behind))
+left_with : (rs : List ReplyData) (r : ReplyData) (xs : List ((ℕ × ℕ) × ℕ)) (before behind : List ((ℕ × ℕ) × Question)) (at : ℕ × ℕ) (place : ℕ) (b : Bool)
+    → place ≡ length rs
+    → AreLeft (questions_in rs) xs (before ++ behind) → AllByRecursion (λ y. by_number at y.0 ≡ Greater) before
+    → AllByRecursion (λ y. by_number at y.0 ≡ Less) behind
+    → AreLeft (questions_in (rs ++ r ∷ [])) (if b then insert_entry by_number xs at place else xs)
+    (before ++ ((if b then (at, r.question) ∷ [] else []) ++ behind))
 left_with rs r xs before behind at place b is h g l = by b
   where
     more : questions_in (rs ++ r ∷ []) ≡ questions_in rs ++ r.question ∷ []
@@ -85,7 +92,8 @@ left_with rs r xs before behind at place b is h g l = by b
         ∙ ap (slice_get (questions_in rs ++ r.question ∷ [])) (is ∙ sym (length-map rs (λ (x : ReplyData). x.question)))
         ∙ get_behind (questions_in rs) r.question
 
-    by : (b : Bool) → AreLeft (questions_in (rs ++ r ∷ [])) (if b then insert_entry by_number xs at place else xs) (before ++ ((if b then (at, r.question) ∷ [] else []) ++ behind))
+    by : (b : Bool) → AreLeft (questions_in (rs ++ r ∷ [])) (if b then insert_entry by_number xs at place else xs)
+        (before ++ ((if b then (at, r.question) ∷ [] else []) ++ behind))
     by true = put_left (questions_in (rs ++ r ∷ [])) xs before behind at place r.question whole g l here
     by false = whole
 
@@ -93,13 +101,22 @@ module _ (c : Base) (rs : List ReplyData) (s n front : ℕ) (q : Question) (v : 
   abbrev pub started : ReplyData
   started = record { session = s; question = q; live = true; front = front; verdict = v; proofs = [] }
 
-  pub live_told : (before behind : List ((ℕ × ℕ) × Question)) → c.end ≡ None → front ≡ items_in c → first_long_image q ≡ None → IsShown (last_of rs) → IsInOrder s front (last_of rs)
+  pub live_told : (before behind : List ((ℕ × ℕ) × Question)) → c.end ≡ None → front ≡ items_in c → first_long_image q ≡ None → IsShown (last_of rs)
+      → IsInOrder s front (last_of rs)
       → AllByRecursion (λ y. by_number (s, n) y.0 ≡ Greater) before → AllByRecursion (λ y. by_number (s, n) y.0 ≡ Less) behind
-      → Goes (λ t. Says c rs (before ++ behind) t × (last_number t s + 1 ≡ n)) (lines.Live s n front q v ∷ []) (λ u. Says c (rs ++ started ∷ []) (before ++ (opened s n q v ++ behind)) u × (last_number u s ≡ n))
+      → Goes (λ t. Says c rs (before ++ behind) t × (last_number t s + 1 ≡ n)) (lines.Live s n front q v ∷ [])
+      (λ u. Says c (rs ++ started ∷ []) (before ++ (opened s n q v ++ behind)) u × (last_number u s ≡ n))
   live_told before behind none is short shown order g l =
-      one_more (λ t. Says c rs (before ++ behind) t × (last_number t s + 1 ≡ n)) (λ u. Says c (rs ++ started ∷ []) (before ++ (opened s n q v ++ behind)) u × (last_number u s ≡ n)) (lines.Live s n front q v)
+      one_more (λ t. Says c rs (before ++ behind) t × (last_number t s + 1 ≡ n)) (λ u. Says c (rs ++ started ∷ []) (before ++ (opened s n q v ++ behind)) u
+      × (last_number u s ≡ n)) (lines.Live s n front q v)
       (λ t h. (
-        (may_go_on c rs (before ++ behind) t h.0 none shown, is ∙ sym (items_told c rs (before ++ behind) t h.0), sym h.1, subst (IsInOrder s front) (sym (ap last_of h.0.replies)) order, short),
+        (
+          may_go_on c rs (before ++ behind) t h.0 none shown,
+          is ∙ sym (items_told c rs (before ++ behind) t h.0),
+          sym h.1,
+          subst (IsInOrder s front) (sym (ap last_of h.0.replies)) order,
+          short,
+        ),
         (
           record {
             from = h.0.from;
@@ -121,7 +138,8 @@ module _ (c : Base) (rs : List ReplyData) (r : ReplyData) (asked : List ((ℕ ×
   with_these proofs = record r { proofs = proofs }
 
   same_questions : (a b : List (List Step)) → questions_in (rs ++ with_these a ∷ []) ≡ questions_in (rs ++ with_these b ∷ [])
-  same_questions a b = map-append (λ (x : ReplyData). x.question) rs (with_these a ∷ []) ∙ sym (map-append (λ (x : ReplyData). x.question) rs (with_these b ∷ []))
+  same_questions a b = map-append (λ (x : ReplyData). x.question) rs (with_these a ∷ [])
+      ∙ sym (map-append (λ (x : ReplyData). x.question) rs (with_these b ∷ []))
 
   proof_told : (done : List (List Step)) (steps : List Step) → length done < proof_count r.question r.verdict
       → Goes (Says c (rs ++ with_these done ∷ []) asked) (lines.Proof (length done + 1) steps ∷ []) (Says c (rs ++ with_these (done ++ steps ∷ []) ∷ []) asked)
@@ -145,12 +163,15 @@ module _ (c : Base) (rs : List ReplyData) (r : ReplyData) (asked : List ((ℕ ×
   proofs_told done [] count = λ t h. (t, (refl, subst (λ ps. Says c (rs ++ with_these ps ∷ []) asked t) (sym (append-nil done)) h))
   proofs_told done (steps ∷ proofs) count =
       let more : length (done ++ steps ∷ []) ≡ length done + 1 = length-append done (steps ∷ []) in
-      let later : Goes (Says c (rs ++ with_these (done ++ steps ∷ []) ∷ []) asked) (proof_lines (length (done ++ steps ∷ []) + 1) proofs) (Says c (rs ++ with_these ((done ++ steps ∷ []) ++ proofs) ∷ []) asked) =
+      let later : Goes (Says c (rs ++ with_these (done ++ steps ∷ []) ∷ []) asked) (proof_lines (length (done ++ steps ∷ []) + 1) proofs)
+      (Says c (rs ++ with_these ((done ++ steps ∷ []) ++ proofs) ∷ []) asked) =
       proofs_told (done ++ steps ∷ []) proofs (omega (arith, more, count)) in
       let joined : (done ++ steps ∷ []) ++ proofs ≡ done ++ steps ∷ proofs = append_assoc done (steps ∷ []) proofs in
-      then_more (Says c (rs ++ with_these done ∷ []) asked) (Says c (rs ++ with_these (done ++ steps ∷ []) ∷ []) asked) (Says c (rs ++ with_these (done ++ steps ∷ proofs) ∷ []) asked)
+      then_more (Says c (rs ++ with_these done ∷ []) asked) (Says c (rs ++ with_these (done ++ steps ∷ []) ∷ []) asked)
+      (Says c (rs ++ with_these (done ++ steps ∷ proofs) ∷ []) asked)
       (lines.Proof (length done + 1) steps ∷ []) (proof_lines (length done + 1 + 1) proofs) (proof_told done steps (omega (arith, count)))
-      (subst (λ (x : ℕ × List (List Step)). Goes (Says c (rs ++ with_these (done ++ steps ∷ []) ∷ []) asked) (proof_lines (x.0 + 1) proofs) (Says c (rs ++ with_these x.1 ∷ []) asked)) (λ i. (more i, joined i)) later)
+      (subst (λ (x : ℕ × List (List Step)). Goes (Says c (rs ++ with_these (done ++ steps ∷ []) ∷ []) asked) (proof_lines (x.0 + 1) proofs)
+      (Says c (rs ++ with_these x.1 ∷ []) asked)) (λ i. (more i, joined i)) later)
 
 pub proofs_spared : (k j : ℕ) (proofs : List (List Step)) → AreSpared k (proof_lines j proofs)
 proofs_spared k j [] = tt
@@ -190,7 +211,8 @@ module _ (c : Base) (rs : List ReplyData) (s n front : ℕ) (q : Question) (v : 
           sealed = h.sealed;
           end = h.end;
           replies = λ i. h.replies i ++ record { session = s; question = q; live = false; front = at i; verdict = v; proofs = [] } ∷ [];
-          left = subst (λ qs. AreLeft qs (drop 1 t.left_open) asked) (sym (map-append (λ (x : ReplyData). x.question) rs (closed ∷ []))) (more_left (questions_in rs) (q ∷ []) (drop 1 t.left_open) asked first.others);
+          left = subst (λ qs. AreLeft qs (drop 1 t.left_open) asked) (sym (map-append (λ (x : ReplyData). x.question) rs (closed ∷ [])))
+              (more_left (questions_in rs) (q ∷ []) (drop 1 t.left_open) asked first.others);
           unfinished = h.unfinished;
         },
       ))

@@ -24,16 +24,22 @@ use Rattle.report_acceptance.proofs.Taking.{Leads, one, both}
 use Rattle.report_acceptance.proofs.Proving.{IsAt, IsProving, shown_by, proofs_taken}
 use Rattle.report_acceptance.proofs.Verdicts.{asked_is, few_shown, shown_fit, is_answer}
 
-module _ (p : Presented) (gens : List (List Term)) (known : IsPresented p) (b : List (List Term)) (entries : AreEntries b) (over : AllByRecursion (VectorIsOver (length p.names)) b) (few : length b < 2 ^ 32) where
-  module _ (seal : Option Seal) (q : Question) (v : Verdict) (proofs : List (List Step)) (ask : CanBeAsked p q) (source : HasSource q) (is : IsVerdict p b seal q v) (are : AreProofsOf b (to_show q v) proofs) where
+module _ (p : Presented) (gens : List (List Term)) (known : IsPresented p) (b : List (List Term)) (entries : AreEntries b)
+    (over : AllByRecursion (VectorIsOver (length p.names)) b) (few : length b < 2 ^ 32) where
+  module _ (seal : Option Seal) (q : Question) (v : Verdict) (proofs : List (List Step)) (ask : CanBeAsked p q) (source : HasSource q)
+      (is : IsVerdict p b seal q v) (are : AreProofsOf b (to_show q v) proofs) where
     shown_taken : (at : Phase) → Leads p gens (IsProving at b (to_show q v) 0) (proof_lines 1 proofs) (IsAt at b)
-    shown_taken at = proofs_taken p gens known b entries over few at (to_show q v) (few_shown q v source) [] (to_show q v) proofs 0 refl refl (shown_fit p q v ask)
+    shown_taken at = proofs_taken p gens known b entries over few at (to_show q v) (few_shown q v source) [] (to_show q v) proofs 0 refl refl
+        (shown_fit p q v ask)
         (shown_by b (to_show q v) proofs (yes_is_shown p b seal q v is) are)
 
     live_line : (at : Phase) (s n front : ℕ) → IsSmall s → IsSmall n → IsSmall front → IsOpen at → length gens ≤ length b → front ≡ length b + seals at
         → Leads p gens (IsAt at b) (lines.Live s n front q v ∷ []) (IsProving at b (to_show q v) 0)
     live_line at s n front small_s small_n small_front opened low is_front =
-        one p gens (IsAt at b) (IsProving at b (to_show q v) 0) (lines.Live s n front q v) (small_s, (small_n, (small_front, is_answer p known b seal q ask source entries over v is)))
+        one p gens (IsAt at b) (IsProving at b (to_show q v) 0) (lines.Live s n front q v) (
+          small_s,
+          (small_n, (small_front, is_answer p known b seal q ask source entries over v is)),
+        )
         (λ st h.
         let own : length st.entries ≡ length b = ap length h.entries in (
           (subst IsOpen (sym h.phase) opened, h.settled, omega (arith, own, low), is_front ∙ sym (λ i. length (h.entries i) + seals (h.phase i)), ask.1),
@@ -48,7 +54,8 @@ module _ (p : Presented) (gens : List (List Term)) (known : IsPresented p) (b : 
 
     close_line : (s n : ℕ) → IsSmall s → IsSmall n → Leads p gens (IsAt Closing b) (lines.Close s n q v ∷ []) (IsProving Closing b (to_show q v) 0)
     close_line s n small_s small_n =
-        one p gens (IsAt Closing b) (IsProving Closing b (to_show q v) 0) (lines.Close s n q v) (small_s, (small_n, is_answer p known b seal q ask source entries over v is))
+        one p gens (IsAt Closing b) (IsProving Closing b (to_show q v) 0) (lines.Close s n q v)
+        (small_s, (small_n, is_answer p known b seal q ask source entries over v is))
         (λ st h. ((h.phase, h.settled, ask.1), (tt, record { phase = h.phase; entries = h.entries; subjects = asked_is q v; shown = refl })))
 
     pub close_taken : (s n : ℕ) → IsSmall s → IsSmall n → Leads p gens (IsAt Closing b) (lines.Close s n q v ∷ proof_lines 1 proofs) (IsAt Closing b)

@@ -38,9 +38,11 @@ module _ (p : Presented) (es : List BasisEntry) (seal : Option Seal) (base : ℕ
     closing = subst (λ x. IsClosing p es seal x a.live.verdict a.closing) (sym is.question) is.closing;
   }
 
-  all_told : (qs : List Question) (ks : List Kept) (answers : List Answered) → length ks ≡ length qs → length answers ≡ length qs → AllByRecursion (CanBeAsked p) qs → AllByRecursion HasSource qs
+  all_told : (qs : List Question) (ks : List Kept) (answers : List Answered) → length ks ≡ length qs → length answers ≡ length qs
+      → AllByRecursion (CanBeAsked p) qs → AllByRecursion HasSource qs
       → AllByRecursion (λ k. base ≤ k.front) ks
-      → ((i : ℕ) (q : Question) (k : Kept) (a : Answered) → slice_get qs i ≡ Some q → slice_get ks i ≡ Some k → slice_get answers i ≡ Some a → IsAnswered p es seal q k a) → AllByRecursion IsTold answers
+      → ((i : ℕ) (q : Question) (k : Kept) (a : Answered) → slice_get qs i ≡ Some q → slice_get ks i ≡ Some k → slice_get answers i ≡ Some a
+      → IsAnswered p es seal q k a) → AllByRecursion IsTold answers
   all_told qs ks [] m n ask source low each = tt
   all_told [] ks (a ∷ answers) m n ask source low each = absurd (omega (arith, n))
   all_told (q ∷ qs) [] (a ∷ answers) m n ask source low each = absurd (omega (arith, m))
@@ -49,7 +51,8 @@ module _ (p : Presented) (es : List BasisEntry) (seal : Option Seal) (base : ℕ
     all_told qs ks answers (omega (arith, m)) (omega (arith, n)) ask.1 source.1 low.1 (λ i r l b x y z. each (suc i) r l b x y z),
   )
 
-  session_told : (s : SessionState) (t : SessionAnswers) → IsKnownSession s → AreFrom base s → IsReplied p es seal s → IsSessionAnswered p es seal s t → IsSessionTold t
+  session_told : (s : SessionState) (t : SessionAnswers) → IsKnownSession s → AreFrom base s → IsReplied p es seal s → IsSessionAnswered p es seal s t
+      → IsSessionTold t
   session_told s t known from replied is = record {
     number = let e = is.number in omega (arith, e, known.number);
     few = let e = is.count in omega (arith, e, known.session.few);
@@ -58,11 +61,15 @@ module _ (p : Presented) (es : List BasisEntry) (seal : Option Seal) (base : ℕ
 
   sessions_from : (ss : List SessionState) (ts : List SessionAnswers) → length ts ≡ length ss → AllByRecursion IsKnownSession ss
       → AllByRecursion (AreFrom base) ss → AllByRecursion (IsReplied p es seal) ss
-      → ((j : ℕ) (s : SessionState) (t : SessionAnswers) → slice_get ss j ≡ Some s → slice_get ts j ≡ Some t → IsSessionAnswered p es seal s t) → AllByRecursion IsSessionTold ts
+      → ((j : ℕ) (s : SessionState) (t : SessionAnswers) → slice_get ss j ≡ Some s → slice_get ts j ≡ Some t → IsSessionAnswered p es seal s t)
+      → AllByRecursion IsSessionTold ts
   sessions_from ss [] n known from replied each = tt
   sessions_from [] (t ∷ ts) n known from replied each = absurd (omega (arith, n))
-  sessions_from (s ∷ ss) (t ∷ ts) n known from replied each =
-      (session_told s t known.0 from.0 replied.0 (each 0 s t refl refl), sessions_from ss ts (omega (arith, n)) known.1 from.1 replied.1 (λ j r u x y. each (suc j) r u x y))
+  sessions_from (s ∷ ss) (t ∷ ts) n known from replied each = (
+    session_told s t known.0 from.0 replied.0 (each 0 s t refl refl),
+    sessions_from ss ts (omega (arith, n)) known.1 from.1 replied.1
+        (λ j r u x y. each (suc j) r u x y),
+  )
 
   pub sessions_told : (ss : List SessionState) (ts : List SessionAnswers) → AllByRecursion IsKnownSession ss
       → AllByRecursion (AreFrom base) ss → AllByRecursion (IsReplied p es seal) ss → AreAnswered p es seal ss ts → AllByRecursion IsSessionTold ts

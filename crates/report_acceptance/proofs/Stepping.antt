@@ -52,14 +52,19 @@ module _ (b : List (List Term)) (entries : AreEntries b) where
   next_reached f s placed next =
       let lead : IsEntry (next.lead ∷ next.others) = entry_at b s.by next.lead next.others entries next.due.reducer.entry in
       let positive : pos 0 <ℤ next.lead.k = lead_positive next.lead next.others lead in
-      let here : IsPlace next.place = placed next.place (λ z. next.due.moves (ap (λ k. int_div_euclid k next.lead.k) z ∙ zero_floor (pos 0) next.lead.k (omega (arith, ints)) positive)) in
+      let here : IsPlace next.place = placed next.place (λ z. next.due.moves (ap (λ k. int_div_euclid k next.lead.k) z
+      ∙ zero_floor (pos 0) next.lead.k (omega (arith, ints)) positive)) in
       let same : length next.place.m ≡ length next.lead.at.m = here.variables ∙ sym lead.vector.sparse.terms.0.place.variables in
-      let sums : degree (quotient next.place.m next.lead.at.m) + degree next.lead.at.m ≡ degree next.place.m = sum-quotient next.place.m next.lead.at.m same next.due.reducer.reduces.1 in
+      let sums : degree (quotient next.place.m next.lead.at.m) + degree next.lead.at.m ≡ degree next.place.m =
+      sum-quotient next.place.m next.lead.at.m same next.due.reducer.reduces.1 in
       let own : degree s.t ≡ degree (quotient next.place.m next.lead.at.m) = ap degree next.monomial in
       let room : HasRoom s.t (next.lead ∷ next.others) = omega (arith, own, sums, here.most) in
       record {
         near = λ there. subst (HasRoom s.t) (sym (entry_there b s.by (next.lead ∷ next.others) next.due.reducer.entry)) room;
-        mono = record { variables = ap length next.monomial ∙ length-combined _ next.place.m next.lead.at.m same ∙ here.variables; most = omega (arith, own, sums, here.most) };
+        mono = record {
+          variables = ap length next.monomial ∙ length-combined _ next.place.m next.lead.at.m same ∙ here.variables;
+          most = omega (arith, own, sums, here.most);
+        };
       }
 
   runs_reached : (f g : Coefficients) (ss : List Step) → IsPlaced f → Runs b f ss g → AllByRecursion (IsReached b) ss
@@ -76,10 +81,19 @@ runs_near b f g ss entries placed run = near_all b ss (runs_reached b entries f 
 
 -- ---- and they can be written and read
 
-steps_of : (n : ℕ) (b : List (List Term)) (ss : List Step) → length b < 2 ^ 32 → AllByRecursion (IsReached b) ss → AreThere b ss → StepsAreOver n ss → AreStepsOf n ss
+steps_of : (n : ℕ) (b : List (List Term)) (ss : List Step) → length b < 2 ^ 32 → AllByRecursion (IsReached b) ss → AreThere b ss → StepsAreOver n ss
+    → AreStepsOf n ss
 steps_of n b [] few h there over = tt
-steps_of n b (s ∷ ss) few h there over =
-    (record { nonzero = over.0.nonzero; range = over.0.range; mono = record { mono = h.0.mono; over = over.0.mono }; entry = omega (arith, few, there.0) }, steps_of n b ss few h.1 there.1 over.1)
+steps_of n b (s ∷ ss) few h there over = (
+  record {
+    nonzero = over.0.nonzero;
+    range = over.0.range;
+    mono = record { mono = h.0.mono; over = over.0.mono };
+    entry = omega (arith, few, there.0);
+  },
+  steps_of n b ss few h.1 there.1 over.1,
+)
 
-pub runs_read : (n : ℕ) (b : List (List Term)) (f g : Coefficients) (ss : List Step) → AreEntries b → IsPlaced f → length b < 2 ^ 32 → Runs b f ss g → AreThere b ss → StepsAreOver n ss → AreStepsOf n ss
+pub runs_read : (n : ℕ) (b : List (List Term)) (f g : Coefficients) (ss : List Step) → AreEntries b → IsPlaced f → length b < 2 ^ 32 → Runs b f ss g
+    → AreThere b ss → StepsAreOver n ss → AreStepsOf n ss
 runs_read n b f g ss entries placed few run there over = steps_of n b ss few (runs_reached b entries f g ss placed run) there over

@@ -1,5 +1,6 @@
 -- The stop of a chain of a Fox vector can be written and read.
-use Rattle.std.proofs.Common.{◌≡◌, ◌≢◌, ◌⊎◌, inl, inr, ℕ, zero, suc, ◌+◌, ◌≤◌, ℤ, pos, negsuc, ◌-ℤ◌, ◌*ℤ◌, List, [], ◌∷◌, ◌++◌, length, refl, sym, subst, ◌∙◌, length-append, arith}
+use Rattle.std.proofs.Common.{◌≡◌, ◌≢◌, ◌⊎◌, inl, inr, ℕ, zero, suc, ◌+◌, ◌≤◌, ℤ, pos, negsuc, ◌-ℤ◌, ◌*ℤ◌, List, [], ◌∷◌, ◌++◌, length, refl, sym, subst, ◌∙◌}
+use Rattle.std.proofs.Common.{length-append, arith}
 use borrow.Author.Differences.{ints}
 use Rattle.std.proofs.lemmas.List.{length-map}
 use Rattle.std.proofs.lemmas.Option.{slice_get_within}
@@ -43,7 +44,8 @@ product_place t u mono term room =
     let sums : degree (product t u.at.m) ≡ degree t + degree u.at.m = sum-product t u.at.m same in
     record { variables = length-combined _ t u.at.m same ∙ mono.variables; most = omega (arith, sums, room) }
 
-multiple_places : (q : ℤ) (t : List ℕ) (g : List Term) → IsMonomial t → AllByRecursion IsTerm g → AllByRecursion (λ u. degree t + degree u.at.m ≤ DEGREE) g → AllByRecursion (λ u. IsPlace u.1) (multiple q t g)
+multiple_places : (q : ℤ) (t : List ℕ) (g : List Term) → IsMonomial t → AllByRecursion IsTerm g → AllByRecursion (λ u. degree t + degree u.at.m ≤ DEGREE) g
+    → AllByRecursion (λ u. IsPlace u.1) (multiple q t g)
 multiple_places q t [] mono terms room = tt
 multiple_places q t (u ∷ g) mono terms room = (product_place t u mono terms.0 room.0, multiple_places q t g mono terms.1 room.1)
 
@@ -68,11 +70,13 @@ goes_brief b f s g =
     record { sum = sum_of g.terms.v; is = g.terms.is; few = omega (arith, n, g.terms.count, g.short) }
 
 -- what is left has no more terms than both together
-difference_few : (f : Coefficients) (q : ℤ) (t : List ℕ) (g : List Term) (n : ℕ) → IsBrief f → length g ≤ TERMS → HasTerms (λ x. f x -ℤ coefficient same_place (multiple q t g) x) n → n ≤ TERMS + TERMS
+difference_few : (f : Coefficients) (q : ℤ) (t : List ℕ) (g : List Term) (n : ℕ) → IsBrief f → length g ≤ TERMS
+    → HasTerms (λ x. f x -ℤ coefficient same_place (multiple q t g) x) n → n ≤ TERMS + TERMS
 difference_few f q t g n brief most h =
     let minus : FormalSum Place = scale (negsuc 0) (multiple q t g) in
     let whole : FormalSum Place = brief.sum ++ minus in
-    let turned : (x : Place) → coefficient same_place minus x ≡ negsuc 0 *ℤ coefficient same_place (multiple q t g) x = λ x. coefficient-scale same_place (negsuc 0) (multiple q t g) x in
+    let turned : (x : Place) → coefficient same_place minus x ≡ negsuc 0 *ℤ coefficient same_place (multiple q t g) x =
+    λ x. coefficient-scale same_place (negsuc 0) (multiple q t g) x in
     let same : (x : Place) → coefficient same_place (sum_of h.v) x ≡ coefficient same_place whole x = λ x.
     let a = h.is x in let c = brief.is x in let d = turned x in let e = coefficient-append same_place brief.sum minus x in omega (arith, ints, a, c, d, e) in
     let le = falling_shortest test order (sum_of h.v) whole h.sparse.falling (nonzero h.v h.sparse.terms) same in
@@ -99,7 +103,10 @@ same_tame f g is h = record {
 
 runs_tame : (b : List (List Term)) (f g : Coefficients) (ss : List Step) → IsTame f → Runs b f ss g → IsTame g
 runs_tame b f g [] h run = same_tame f g run h
-runs_tame b f g (s ∷ ss) h run = runs_tame b (after b f s) g ss (record { placed = written_placed (after b f s) run.1.count run.1.terms; brief = goes_brief b f s run.1 }) run.2
+runs_tame b f g (s ∷ ss) h run = runs_tame b (after b f s) g ss (record {
+  placed = written_placed (after b f s) run.1.count run.1.terms;
+  brief = goes_brief b f s run.1;
+}) run.2
 
 -- ---- stops
 
@@ -139,8 +146,13 @@ module _ (n : ℕ) (b : List (List Term)) (entries : AreEntries b) where
   stop_of : (f : Coefficients) (stop : Stop) → IsTame f → ChainStops b f stop → StopIsOver n stop → IsStopOf n stop
   stop_of f (Wide p step) tame c over =
       let last : IsTame c.last = runs_tame b f c.last c.steps tame c.runs in
-      let number = c.stops.1.0 in
-      (record { place = wide_place c.last c.step p last.placed (next_multiple c.last c.step last.placed c.next) c.stops.1.1.here; over = over }, omega (arith, number, c.stops.0))
+      let number = c.stops.1.0 in (
+        record {
+          place = wide_place c.last c.step p last.placed (next_multiple c.last c.step last.placed c.next) c.stops.1.1.here;
+          over = over;
+        },
+        omega (arith, number, c.stops.0),
+      )
   stop_of f (Long terms step) tame c over =
       let last : IsTame c.last = runs_tame b f c.last c.steps tame c.runs in
       let number = c.stops.1.0 in

@@ -42,7 +42,8 @@ module _ (p : Presented) (gens : List (List Term)) where
   pub nothing : (P : State → Type 0) → Leads p gens P [] P
   nothing P = record { hold = λ s h. tt; then_is = λ s h. h }
 
-  pub one : (P Q : State → Type 0) (l : Line) → IsLineOf p l → ((s : State) → P s → MayFollow gens s l × (Agrees gens s l × Q (next s l))) → Leads p gens P (l ∷ []) Q
+  pub one : (P Q : State → Type 0) (l : Line) → IsLineOf p l → ((s : State) → P s → MayFollow gens s l × (Agrees gens s l × Q (next s l)))
+      → Leads p gens P (l ∷ []) Q
   one P Q l valid f = record { hold = λ s h. let k = f s h in (valid, (k.0, (k.1.0, tt))); then_is = λ s h. let k = f s h in k.1.1 }
 
   pub both : (P Q R : State → Type 0) (ls ms : List Line) → Leads p gens P ls Q → Leads p gens Q ms R → Leads p gens P (ls ++ ms) R
@@ -56,7 +57,8 @@ module _ (p : Presented) (gens : List (List Term)) where
 cap_more : (n k : ℕ) → capped (capped n + k) ≡ capped (n + k)
 cap_more n k = omega arith
 
-count_line : (s : State) (l : Line) (ls : List Line) (n : ℕ) → s.proofs ≡ capped n → (k : ℕ) × ((next s l).proofs ≡ capped k) × (k + proof_count ls ≡ n + proof_count (l ∷ ls))
+count_line : (s : State) (l : Line) (ls : List Line) (n : ℕ) → s.proofs ≡ capped n → (k : ℕ) × ((next s l).proofs ≡ capped k)
+    × (k + proof_count ls ≡ n + proof_count (l ∷ ls))
 count_line s (lines.Entry number made vector) ls n e = (n, e, refl)
 count_line s lines.Seal ls n e = (n, e, refl)
 count_line s (lines.Live session number front question verdict) ls n e = (n, e, refl)

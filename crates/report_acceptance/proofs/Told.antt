@@ -75,24 +75,29 @@ parts_of text line others front rest cuts is = some_pair (line, others) (front, 
 
 module _ (p : Presented) (gens : List (List Term)) (known : IsPresented p) where
   line_cut : (l : Line) (ls : List Line) → IsLineOf p l → cut 10 (lines_text p (l ∷ ls)) ≡ Some (line_text p l, lines_text p ls)
-  line_cut l ls h = ap (cut 10) (append_assoc (line_text p l) (10 ∷ []) (lines_text p ls)) ∙ cut_here 10 (line_text p l) (lines_text p ls) (whole_line p known l h)
+  line_cut l ls h = ap (cut 10) (append_assoc (line_text p l) (10 ∷ []) (lines_text p ls))
+      ∙ cut_here 10 (line_text p l) (lines_text p ls) (whole_line p known l h)
 
-  line_held : (s : State) (l : Line) → IsBehindHead s.phase → IsLineOf p l → MayFollow gens s l → Agrees gens s l → BytesHold p gens s (line_text p l) (next s l)
+  line_held : (s : State) (l : Line) → IsBehindHead s.phase → IsLineOf p l → MayFollow gens s l → Agrees gens s l
+      → BytesHold p gens s (line_text p l) (next s l)
   line_held s l behind valid follows agrees =
       from_body p gens s.phase s (next s l) (line_text p l) behind
       (record { line = l; valid = valid; spelled = refl; holds = record { follows = follows; agrees = agrees; is = refl } })
 
   -- ---- the lines are taken
 
-  pub told : (n : ℕ) (s : State) (ls : List Line) → IsBehindHead s.phase → AllHold p gens s ls → IsComplete (after s ls) [] → Tells p gens n s (lines_text p ls) (Ok (counts (after s ls)))
+  pub told : (n : ℕ) (s : State) (ls : List Line) → IsBehindHead s.phase → AllHold p gens s ls → IsComplete (after s ls) []
+      → Tells p gens n s (lines_text p ls) (Ok (counts (after s ls)))
   told n s [] behind h whole = Tells.complete n s [] refl whole
   told n s (l ∷ ls) behind h whole =
-      Tells.goes_on n s (next s l) (lines_text p (l ∷ ls)) (line_text p l) (lines_text p ls) (Ok (counts (after s (l ∷ ls)))) (line_cut l ls h.0) (line_held s l behind h.0 h.1.0 h.1.1.0)
+      Tells.goes_on n s (next s l) (lines_text p (l ∷ ls)) (line_text p l) (lines_text p ls) (Ok (counts (after s (l ∷ ls)))) (line_cut l ls h.0)
+      (line_held s l behind h.0 h.1.0 h.1.1.0)
       (told (capped (n + 1)) (next s l) ls (stays_behind s l behind) h.1.1.1 whole)
 
   -- ---- and nothing else is told of them
 
-  not_failed : (s : State) (l : Line) (k : CertKind) → IsBehindHead s.phase → IsLineOf p l → MayFollow gens s l → Agrees gens s l → BytesFail p gens s (line_text p l) k → ⊥
+  not_failed : (s : State) (l : Line) (k : CertKind) → IsBehindHead s.phase → IsLineOf p l → MayFollow gens s l → Agrees gens s l
+      → BytesFail p gens s (line_text p l) k → ⊥
   not_failed s l k behind valid follows agrees bad = by (to_fault p gens s.phase s (line_text p l) k behind bad)
     where
       by : BodyFails p gens s (line_text p l) k → ⊥
@@ -109,13 +114,16 @@ module _ (p : Presented) (gens : List (List Term)) (known : IsPresented p) where
   no_cut : (l : Line) (ls : List Line) (text : List ℕ) → IsLineOf p l → cut 10 text ≡ None → text ≡ lines_text p (l ∷ ls) → ⊥
   no_cut l ls text h none e = none-some _ (sym none ∙ ap (cut 10) e ∙ line_cut l ls h)
 
-  first_line : (l : Line) (ls : List Line) (text line others : List ℕ) → IsLineOf p l → cut 10 text ≡ Some (line, others) → text ≡ lines_text p (l ∷ ls) → (line ≡ line_text p l) × (others ≡ lines_text p ls)
+  first_line : (l : Line) (ls : List Line) (text line others : List ℕ) → IsLineOf p l → cut 10 text ≡ Some (line, others) → text ≡ lines_text p (l ∷ ls)
+      → (line ≡ line_text p l) × (others ≡ lines_text p ls)
   first_line l ls text line others h cuts e = parts_of text line others (line_text p l) (lines_text p ls) cuts (ap (cut 10) e ∙ line_cut l ls h)
 
-  pub told_alone : (n : ℕ) (s : State) (ls : List Line) (text : List ℕ) (r : Result Checked CertFault) → Tells p gens n s text r → text ≡ lines_text p ls → IsBehindHead s.phase → AllHold p gens s ls
+  pub told_alone : (n : ℕ) (s : State) (ls : List Line) (text : List ℕ) (r : Result Checked CertFault) → Tells p gens n s text r → text ≡ lines_text p ls
+      → IsBehindHead s.phase → AllHold p gens s ls
       → IsComplete (after s ls) [] → r ≡ Ok (counts (after s ls))
   told_alone n s [] text _ (Tells.complete _ _ _ none w) e behind h whole = refl
-  told_alone n s [] text _ (Tells.missing _ _ _ none not) e behind h whole = absurd (not (record { finished = whole.finished; settled = whole.settled; nothing = e }))
+  told_alone n s [] text _ (Tells.missing _ _ _ none not) e behind h whole =
+      absurd (not (record { finished = whole.finished; settled = whole.settled; nothing = e }))
   told_alone n s [] text _ (Tells.fails _ _ _ line others k cuts f) e behind h whole = absurd (none-some _ (sym (ap (cut 10) e) ∙ cuts))
   told_alone n s [] text r (Tells.goes_on _ _ taken _ line others _ cuts holds later) e behind h whole = absurd (none-some _ (sym (ap (cut 10) e) ∙ cuts))
   told_alone n s (l ∷ ls) text _ (Tells.complete _ _ _ none w) e behind h whole = absurd (no_cut l ls text h.0 none e)
@@ -126,7 +134,8 @@ module _ (p : Presented) (gens : List (List Term)) (known : IsPresented p) where
   told_alone n s (l ∷ ls) text r (Tells.goes_on _ _ taken _ line others _ cuts holds later) e behind h whole =
       let parts = first_line l ls text line others h.0 cuts e in
       let same : taken ≡ next s l = one_taken s l taken behind h.0 (subst (λ b. BytesHold p gens s b taken) parts.0 holds) in
-      told_alone (capped (n + 1)) (next s l) ls others r (subst (λ t. Tells p gens (capped (n + 1)) t others r) same later) parts.1 (stays_behind s l behind) h.1.1.1 whole
+      told_alone (capped (n + 1)) (next s l) ls others r (subst (λ t. Tells p gens (capped (n + 1)) t others r) same later) parts.1
+      (stays_behind s l behind) h.1.1.1 whole
 
   -- ---- whole texts
 
@@ -141,11 +150,14 @@ module _ (p : Presented) (gens : List (List Term)) (known : IsPresented p) where
   told_whole ls h whole =
       let r : Result Checked CertFault = Ok (counts (after (record start { phase = Entries }) ls)) in
       Tells.goes_on 1 start (record start { phase = Presentation }) (report_text p ls) title (pres_line p ++ 10 ∷ lines_text p ls) r (head_cut ls) (refl, refl)
-      (Tells.goes_on (capped (1 + 1)) (record start { phase = Presentation }) (record start { phase = Entries }) (pres_line p ++ 10 ∷ lines_text p ls) (pres_line p) (lines_text p ls) r (pres_cut ls) (refl, refl)
+      (Tells.goes_on (capped (1 + 1)) (record start { phase = Presentation }) (record start { phase = Entries }) (pres_line p ++ 10 ∷ lines_text p ls)
+      (pres_line p) (lines_text p ls) r (pres_cut ls) (refl, refl)
       (told (capped (capped (1 + 1) + 1)) (record start { phase = Entries }) ls tt h whole))
 
-  alone_second : (n : ℕ) (s : State) (ls : List Line) (text : List ℕ) (r : Result Checked CertFault) → Tells p gens n s text r → text ≡ pres_line p ++ 10 ∷ lines_text p ls → s ≡ record start { phase = Presentation }
-      → AllHold p gens (record start { phase = Entries }) ls → IsComplete (after (record start { phase = Entries }) ls) [] → r ≡ Ok (counts (after (record start { phase = Entries }) ls))
+  alone_second : (n : ℕ) (s : State) (ls : List Line) (text : List ℕ) (r : Result Checked CertFault) → Tells p gens n s text r
+      → text ≡ pres_line p ++ 10 ∷ lines_text p ls → s ≡ record start { phase = Presentation }
+      → AllHold p gens (record start { phase = Entries }) ls → IsComplete (after (record start { phase = Entries }) ls) []
+      → r ≡ Ok (counts (after (record start { phase = Entries }) ls))
   alone_second n s ls text _ (Tells.complete _ _ _ none w) e is h whole = absurd (none-some _ (sym none ∙ ap (cut 10) e ∙ pres_cut ls))
   alone_second n s ls text _ (Tells.missing _ _ _ none not) e is h whole = absurd (none-some _ (sym none ∙ ap (cut 10) e ∙ pres_cut ls))
   alone_second n s ls text _ (Tells.fails _ _ _ line others k cuts f) e is h whole =
@@ -155,10 +167,13 @@ module _ (p : Presented) (gens : List (List Term)) (known : IsPresented p) where
   alone_second n s ls text r (Tells.goes_on _ _ taken _ line others _ cuts holds later) e is h whole =
       let parts = parts_of text line others (pres_line p) (lines_text p ls) cuts (ap (cut 10) e ∙ pres_cut ls) in
       let same : (line ≡ pres_line p) × (taken ≡ record start { phase = Entries }) = subst (λ t. BytesHold p gens t line taken) is holds in
-      told_alone (capped (n + 1)) (record start { phase = Entries }) ls others r (subst (λ t. Tells p gens (capped (n + 1)) t others r) same.1 later) parts.1 tt h whole
+      told_alone (capped (n + 1)) (record start { phase = Entries }) ls others r (subst (λ t. Tells p gens (capped (n + 1)) t others r) same.1 later)
+      parts.1 tt h whole
 
-  alone_first : (n : ℕ) (s : State) (ls : List Line) (text : List ℕ) (r : Result Checked CertFault) → Tells p gens n s text r → text ≡ report_text p ls → s ≡ start
-      → AllHold p gens (record start { phase = Entries }) ls → IsComplete (after (record start { phase = Entries }) ls) [] → r ≡ Ok (counts (after (record start { phase = Entries }) ls))
+  alone_first : (n : ℕ) (s : State) (ls : List Line) (text : List ℕ) (r : Result Checked CertFault) → Tells p gens n s text r
+      → text ≡ report_text p ls → s ≡ start
+      → AllHold p gens (record start { phase = Entries }) ls → IsComplete (after (record start { phase = Entries }) ls) []
+      → r ≡ Ok (counts (after (record start { phase = Entries }) ls))
   alone_first n s ls text _ (Tells.complete _ _ _ none w) e is h whole = absurd (none-some _ (sym none ∙ ap (cut 10) e ∙ head_cut ls))
   alone_first n s ls text _ (Tells.missing _ _ _ none not) e is h whole = absurd (none-some _ (sym none ∙ ap (cut 10) e ∙ head_cut ls))
   alone_first n s ls text _ (Tells.fails _ _ _ line others k cuts f) e is h whole =
@@ -170,6 +185,7 @@ module _ (p : Presented) (gens : List (List Term)) (known : IsPresented p) where
       let same : (line ≡ title) × (taken ≡ record start { phase = Presentation }) = subst (λ t. BytesHold p gens t line taken) is holds in
       alone_second (capped (n + 1)) taken ls others r later parts.1 same.1 h whole
 
-  pub alone_whole : (ls : List Line) (r : Result Checked CertFault) → Tells p gens 1 start (report_text p ls) r → AllHold p gens (record start { phase = Entries }) ls
+  pub alone_whole : (ls : List Line) (r : Result Checked CertFault) → Tells p gens 1 start (report_text p ls) r
+      → AllHold p gens (record start { phase = Entries }) ls
       → IsComplete (after (record start { phase = Entries }) ls) [] → r ≡ Ok (counts (after (record start { phase = Entries }) ls))
   alone_whole ls r t h whole = alone_first 1 start ls (report_text p ls) r t refl refl h whole

@@ -132,7 +132,8 @@ module _ (p : Presented) (known : IsPresented p) (b : List (List Term)) (seal : 
     verdict_of (Stop j stop) h =
         let fits : Fits (length p.names) (subject_at q j) = subject_fits p q j ask.0 ask.1 h.number h.within in (
           small_subject b q j (StopsAt b stop) source h,
-          word_stop (length p.names) b entries (subject_at q j) stop (IsOver-more (length p.names) 24 (subject_at q j) known.few_names fits.0) fits.1 h.goes (verdict_over p b seal q (Stop j stop) ask entries over h),
+          word_stop (length p.names) b entries (subject_at q j) stop (IsOver-more (length p.names) 24 (subject_at q j) known.few_names fits.0) fits.1 h.goes
+              (verdict_over p b seal q (Stop j stop) ask entries over h),
         )
 
     pub is_answer : (v : Verdict) → IsVerdict p b seal q v → IsAnswer p q v

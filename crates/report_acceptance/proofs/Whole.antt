@@ -1,5 +1,6 @@
 -- All lines of a report tell its history.
-use Rattle.std.proofs.Common.{◌≡◌, ℕ, zero, suc, ◌+◌, ◌<◌, ◌≤◌, ◌^◌, nat_lt, Bool, true, false, if◌then◌else◌, List, [], ◌∷◌, ◌++◌, length, map, take, slice_get, Option, Some, None, IsSome, ◌↔◌, refl, sym, ap, subst, ◌∙◌, arith}
+use Rattle.std.proofs.Common.{◌≡◌, ℕ, zero, suc, ◌+◌, ◌<◌, ◌≤◌, ◌^◌, nat_lt, Bool, true, false, if◌then◌else◌, List, [], ◌∷◌, ◌++◌, length, map, take}
+use Rattle.std.proofs.Common.{slice_get, Option, Some, None, IsSome, ◌↔◌, refl, sym, ap, subst, ◌∙◌, arith}
 use Rattle.std.proofs.lemmas.List.{length-map}
 use Rattle.std.specs.Prelude.{Result, Ok, Err}
 use Rattle.std.specs.List.{AllByRecursion, flat_map, range_with_len}
@@ -109,7 +110,8 @@ module _ (p : Presented) (es : List BasisEntry) (seal : Option Seal) (base : ℕ
       (i : ℕ) (q : Question) (k : Kept) (a : Answered) → slice_get qs i ≡ Some q → slice_get ks i ≡ Some k → slice_get answers i ≡ Some a
       → (a.live.front ≡ k.front) × (k.front ≤ item_count es seal)
 
-  rise_of : (lo : ℕ) (qs : List Question) (ks : List Kept) (answers : List Answered) → length ks ≡ length qs → length answers ≡ length qs → AreRising lo ks → AnswersEach qs ks answers → Rise lo answers
+  rise_of : (lo : ℕ) (qs : List Question) (ks : List Kept) (answers : List Answered) → length ks ≡ length qs → length answers ≡ length qs → AreRising lo ks
+      → AnswersEach qs ks answers → Rise lo answers
   rise_of lo qs ks [] m n rising each = tt
   rise_of lo [] ks (a ∷ answers) m n rising each = absurd (omega (arith, n))
   rise_of lo (q ∷ qs) [] (a ∷ answers) m n rising each = absurd (omega (arith, m))
@@ -117,10 +119,12 @@ module _ (p : Presented) (es : List BasisEntry) (seal : Option Seal) (base : ℕ
       let at : a.live.front ≡ k.front = (each 0 q k a refl refl refl).0 in
       let l = rising.0 in (
         omega (arith, at, l),
-        subst (λ x. Rise x answers) (sym at) (rise_of k.front qs ks answers (omega (arith, m)) (omega (arith, n)) rising.1 (λ i r j b x y z. each (suc i) r j b x y z)),
+        subst (λ x. Rise x answers) (sym at) (rise_of k.front qs ks answers (omega (arith, m)) (omega (arith, n)) rising.1
+            (λ i r j b x y z. each (suc i) r j b x y z)),
       )
 
-  closed_of : (qs : List Question) (ks : List Kept) (answers : List Answered) → length ks ≡ length qs → length answers ≡ length qs → AllByRecursion (IsTold p es seal base) answers
+  closed_of : (qs : List Question) (ks : List Kept) (answers : List Answered) → length ks ≡ length qs → length answers ≡ length qs
+      → AllByRecursion (IsTold p es seal base) answers
       → AnswersEach qs ks answers → AllByRecursion (IsClosed (item_count es seal)) answers
   closed_of qs ks [] m n told each = tt
   closed_of [] ks (a ∷ answers) m n told each = absurd (omega (arith, n))
@@ -137,9 +141,13 @@ module _ (p : Presented) (es : List BasisEntry) (seal : Option Seal) (base : ℕ
     short : IsSessionShort t
     closed : AllByRecursion (IsClosed (item_count es seal)) t.answers
 
-  session_fits : (s : SessionState) (t : SessionAnswers) → IsKnownSession s → AreFrom 1 s → IsReplied p es seal s → IsSessionTold p es seal base t → IsSessionAnswered p es seal s t → IsFit t
+  session_fits : (s : SessionState) (t : SessionAnswers) → IsKnownSession s → AreFrom 1 s → IsReplied p es seal s → IsSessionTold p es seal base t
+      → IsSessionAnswered p es seal s t → IsFit t
   session_fits s t known first replied told is =
-      let each : AnswersEach s.questions s.kept t.answers = λ i q k a x y z. ((is.each i q k a x y z).front, front_within es seal k.front (replied.each i q k x y).front) in
+      let each : AnswersEach s.questions s.kept t.answers = λ i q k a x y z. (
+        (is.each i q k a x y z).front,
+        front_within es seal k.front (replied.each i q k x y).front,
+      ) in
       record {
         short = record {
           answers = all_weaker t.answers (λ a h. one_short a h) told.answers;
@@ -150,9 +158,11 @@ module _ (p : Presented) (es : List BasisEntry) (seal : Option Seal) (base : ℕ
 
   -- ---- all sessions
 
-  all_fit : (ss : List SessionState) (ts : List SessionAnswers) → length ts ≡ length ss → AllByRecursion IsKnownSession ss → AllByRecursion (AreFrom 1) ss → AllByRecursion (IsReplied p es seal) ss
+  all_fit : (ss : List SessionState) (ts : List SessionAnswers) → length ts ≡ length ss → AllByRecursion IsKnownSession ss → AllByRecursion (AreFrom 1) ss
+      → AllByRecursion (IsReplied p es seal) ss
       → AllByRecursion (IsSessionTold p es seal base) ts
-      → ((j : ℕ) (s : SessionState) (t : SessionAnswers) → slice_get ss j ≡ Some s → slice_get ts j ≡ Some t → IsSessionAnswered p es seal s t) → AllByRecursion IsFit ts
+      → ((j : ℕ) (s : SessionState) (t : SessionAnswers) → slice_get ss j ≡ Some s → slice_get ts j ≡ Some t → IsSessionAnswered p es seal s t)
+      → AllByRecursion IsFit ts
   all_fit ss [] n known first replied told each = tt
   all_fit [] (t ∷ ts) n known first replied told each = absurd (omega (arith, n))
   all_fit (s ∷ ss) (t ∷ ts) n known first replied told each = (
@@ -160,8 +170,10 @@ module _ (p : Presented) (es : List BasisEntry) (seal : Option Seal) (base : ℕ
     all_fit ss ts (omega (arith, n)) known.1 first.1 replied.1 told.1 (λ j r u x y. each (suc j) r u x y),
   )
 
-  all_numbered : (k : ℕ) (ss : List SessionState) (ts : List SessionAnswers) → length ts ≡ length ss → ((i : ℕ) (s : SessionState) → slice_get ss i ≡ Some s → s.number ≡ i + k)
-      → ((j : ℕ) (s : SessionState) (t : SessionAnswers) → slice_get ss j ≡ Some s → slice_get ts j ≡ Some t → IsSessionAnswered p es seal s t) → AreNumbered k ts
+  all_numbered : (k : ℕ) (ss : List SessionState) (ts : List SessionAnswers) → length ts ≡ length ss
+      → ((i : ℕ) (s : SessionState) → slice_get ss i ≡ Some s → s.number ≡ i + k)
+      → ((j : ℕ) (s : SessionState) (t : SessionAnswers) → slice_get ss j ≡ Some s → slice_get ts j ≡ Some t → IsSessionAnswered p es seal s t)
+      → AreNumbered k ts
   all_numbered k ss [] n numbers each = tt
   all_numbered k [] (t ∷ ts) n numbers each = absurd (omega (arith, n))
   all_numbered k (s ∷ ss) (t ∷ ts) n numbers each =
@@ -176,12 +188,14 @@ module _ (p : Presented) (es : List BasisEntry) (seal : Option Seal) (base : ℕ
 named_so : (k : ℕ) (e : BasisEntry) (r : Recipe) → e.recipe ≡ r → recipe_of k (made_by r) ≡ r → recipe_of k (made_by e.recipe) ≡ e.recipe
 named_so k e r is h = subst (λ x. recipe_of k (made_by x) ≡ x) (sym is) h
 
-all_named : (k : ℕ) (es : List BasisEntry) → ((i : ℕ) (e : BasisEntry) → slice_get es i ≡ Some e → recipe_of (i + k) (made_by e.recipe) ≡ e.recipe) → NameThemselves k es
+all_named : (k : ℕ) (es : List BasisEntry) → ((i : ℕ) (e : BasisEntry) → slice_get es i ≡ Some e → recipe_of (i + k) (made_by e.recipe) ≡ e.recipe)
+    → NameThemselves k es
 all_named k [] each = tt
 all_named k (e ∷ es) each =
     let here : 0 + k ≡ k = omega arith in (
       subst (λ j. recipe_of j (made_by e.recipe) ≡ e.recipe) here (each 0 e refl),
-      all_named (k + 1) es (λ i x h. let next : suc i + k ≡ i + (k + 1) = omega arith in subst (λ j. recipe_of j (made_by x.recipe) ≡ x.recipe) next (each (suc i) x h)),
+      all_named (k + 1) es (λ i x h. let next : suc i + k ≡ i + (k + 1) = omega arith
+          in subst (λ j. recipe_of j (made_by x.recipe) ≡ x.recipe) next (each (suc i) x h)),
     )
 
 counted_items : (es : List BasisEntry) (seal : Option Seal) → count_items es seal ≡ item_count es seal
@@ -198,9 +212,11 @@ items_are es (Some s) = refl
 
 none_open : (f lo s n : ℕ) (answers : List Answered) → Rise lo answers → f ≤ lo → open_before f s n answers ≡ []
 none_open f lo s n [] rise le = refl
-none_open f lo s n (a ∷ others) rise le = by (nat_lt a.live.front f) refl (none_open f a.live.front s (n + 1) others rise.1 (let l = rise.0 in omega (arith, l, le)))
+none_open f lo s n (a ∷ others) rise le = by (nat_lt a.live.front f) refl (none_open f a.live.front s (n + 1) others rise.1 (let l = rise.0
+    in omega (arith, l, le)))
   where
-    by : (b : Bool) → nat_lt a.live.front f ≡ b → open_before f s (n + 1) others ≡ [] → (if b then (if is_open a.live.verdict then ((s, n), a.question) ∷ [] else []) else []) ++ open_before f s (n + 1) others ≡ []
+    by : (b : Bool) → nat_lt a.live.front f ≡ b → open_before f s (n + 1) others ≡ []
+        → (if b then (if is_open a.live.verdict then ((s, n), a.question) ∷ [] else []) else []) ++ open_before f s (n + 1) others ≡ []
     by true e h = absurd (let l = is_lt a.live.front f e in let r = rise.0 in omega (arith, l, le, r))
     by false e h = h
 
@@ -220,7 +236,8 @@ none_last = (0, record { shown = tt; within = tt })
 small_items : (k : ℕ) → k < 2 ^ 32 → k ≡ capped k
 small_items k small = omega (arith, small)
 
-module _ (es : List BasisEntry) (seal : Option Seal) (end : End) (ts : List SessionAnswers) (numbers : AreNumbered 1 ts) (shorts : AllByRecursion IsSessionShort ts) (closings : AreClosed (item_count es seal) ts)
+module _ (es : List BasisEntry) (seal : Option Seal) (end : End) (ts : List SessionAnswers) (numbers : AreNumbered 1 ts)
+    (shorts : AllByRecursion IsSessionShort ts) (closings : AreClosed (item_count es seal) ts)
     (names : NameThemselves 0 es) (few : length es + 1 < 2 ^ 32) (sealed : IsSome seal ↔ (end ≡ Sealed)) where
   abbrev told_so : History
   told_so = record { entries = es; seal = seal; end = end; sessions = ts }
@@ -239,7 +256,15 @@ module _ (es : List BasisEntry) (seal : Option Seal) (end : End) (ts : List Sess
 
   begun : IsBehind ts numbers shorts 0 (items_so [] [] false) [] nothing
   begun = (
-    record { from = refl; entries = refl; sealed = refl; end = refl; replies = refl; left = subst (λ o. AreLeft [] [] o) (sym (all_none_open ts shorts)) tt; unfinished = refl },
+    record {
+      from = refl;
+      entries = refl;
+      sealed = refl;
+      end = refl;
+      replies = refl;
+      left = subst (λ o. AreLeft [] [] o) (sym (all_none_open ts shorts)) tt;
+      unfinished = refl;
+    },
     none_counted ts shorts,
   )
 
@@ -270,7 +295,8 @@ module _ (es : List BasisEntry) (seal : Option Seal) (end : End) (ts : List Sess
         record {
           finished = refl;
           version = refl;
-          items = small_items items (subst (λ k. k < 2 ^ 32) count_is_so few_items) ∙ ap capped (sym (told_count ended (live ++ closing_replies ts) [] t h ∙ count_is_so));
+          items = small_items items (subst (λ k. k < 2 ^ 32) count_is_so few_items)
+              ∙ ap capped (sym (told_count ended (live ++ closing_replies ts) [] t h ∙ count_is_so));
           from = sym h.from;
           entries = sym h.entries;
           replies = ap (λ n. flat_map (replies_at ts) (range_with_len 1 n) ++ closing_replies ts) (sym (counted_items es seal)) ∙ sym h.replies;
@@ -278,12 +304,15 @@ module _ (es : List BasisEntry) (seal : Option Seal) (end : End) (ts : List Sess
         },
       ))
 
-  item_part : Goes (IsBehind ts numbers shorts 0 (items_so [] [] false) []) (told_from ts 0 (item_lines es seal)) (IsBehind ts numbers shorts items (items_so from (map entry_data es) (has_seal seal)) live)
+  item_part : Goes (IsBehind ts numbers shorts 0 (items_so [] [] false) []) (told_from ts 0 (item_lines es seal))
+      (IsBehind ts numbers shorts items (items_so from (map entry_data es) (has_seal seal)) live)
   item_part = items_told ts numbers shorts seal 0 es [] [] [] items (let e = counted_items es seal in omega (arith, e)) refl names none_last
 
-  end_part : Goes (IsBehind ts numbers shorts items (items_so from (map entry_data es) (has_seal seal)) live) (lines.End end ∷ []) (Says ended live (all_open_before (items_in ended + 1) ts))
+  end_part : Goes (IsBehind ts numbers shorts items (items_so from (map entry_data es) (has_seal seal)) live) (lines.End end ∷ [])
+      (Says ended live (all_open_before (items_in ended + 1) ts))
   end_part =
-      subst (λ n. Goes (IsBehind ts numbers shorts items (items_so from (map entry_data es) (has_seal seal)) live) (lines.End end ∷ []) (Says ended live (all_open_before (n + 1) ts))) (sym count_is_so)
+      subst (λ n. Goes (IsBehind ts numbers shorts items (items_so from (map entry_data es) (has_seal seal)) live) (lines.End end ∷ [])
+      (Says ended live (all_open_before (n + 1) ts))) (sym count_is_so)
       (end_told ts numbers shorts seal end items from (map entry_data es) live sealed live_shown)
 
   whole : Goes (IsBehind ts numbers shorts 0 (items_so [] [] false) []) (lines_of told_so) (λ u. IsDataOf u (data_of told_so))
@@ -317,7 +346,8 @@ module _ (r : Reported) (h : History) (known : IsKnown r) (can : IsReportable r)
   first = all_weaker r.sessions (λ s h. all_weaker s.kept (λ k l. omega (arith, l, some_base)) h) can.fronts
 
   fit : AllByRecursion (IsFit r.pres r.entries r.seal can.base) h.sessions
-  fit = all_fit r.pres r.entries r.seal can.base r.sessions h.sessions is.answered.count known.sessions first can.replies (all_told r h known can is) is.answered.each
+  fit = all_fit r.pres r.entries r.seal can.base r.sessions h.sessions is.answered.count known.sessions first can.replies (all_told r h known can is)
+      is.answered.each
 
   numbered : AreNumbered 1 h.sessions
   numbered = all_numbered r.pres r.entries r.seal can.base 1 r.sessions h.sessions is.answered.count can.numbers is.answered.each
@@ -326,7 +356,8 @@ module _ (r : Reported) (h : History) (known : IsKnown r) (can : IsReportable r)
   entry_named k e has = subst (λ j. recipe_of j (made_by e.recipe) ≡ e.recipe) (let n : k ≡ k + 0 = omega arith in n) (by (nat_lt k can.base) refl)
     where
       by : (b : Bool) → nat_lt k can.base ≡ b → recipe_of k (made_by e.recipe) ≡ e.recipe
-      by true lt = named_so k e (Gen k (has_negative_lead (vector_at can.entries.begins.gens k))) (can.entries.begins.each k e (get_first r.entries can.base k e (is_lt k can.base lt) has)).recipe refl
+      by true lt = named_so k e (Gen k (has_negative_lead (vector_at can.entries.begins.gens k)))
+          (can.entries.begins.each k e (get_first r.entries can.base k e (is_lt k can.base lt) has)).recipe refl
       by false ge = let sum = can.entries.later k e (is_ge k can.base ge) has in named_so k e (Sum sum.steps) sum.recipe refl
 
   same : h ≡ record { entries = r.entries; seal = r.seal; end = r.end; sessions = h.sessions }
@@ -336,7 +367,8 @@ module _ (r : Reported) (h : History) (known : IsKnown r) (can : IsReportable r)
   says_history =
       subst (λ x. IsReport r.pres (report_text r.pres (lines_of x)) (data_of x)) (sym same)
       (is_report r.entries r.seal r.end h.sessions numbered (all_weaker h.sessions (λ t x. x.short) fit) (all_weaker h.sessions (λ t x. x.closed) fit)
-      (all_named 0 r.entries entry_named) can.few can.sealed r.pres (subst (λ x. AllByRecursion (IsLineOf r.pres) (lines_of x)) same (valid_lines r h known can is)))
+      (all_named 0 r.entries entry_named) can.few can.sealed r.pres (subst (λ x. AllByRecursion (IsLineOf r.pres) (lines_of x)) same
+      (valid_lines r h known can is)))
 
 -- the reader answers it
 pub is_read_back : ((r : Reported) (h : History) → IsKnown r → IsReportable r → IsHistoryOf r h → IsReport r.pres (text_of r h) (data_of h))
@@ -345,5 +377,6 @@ pub is_read_back : ((r : Reported) (h : History) → IsKnown r → IsReportable 
     → (r : Reported) (h : History) → IsKnown r → IsReportable r → IsHistoryOf r h
     → (d : Result ReportData ReportFault) → Answers r.pres (text_of r h) d → IsReadBack h d
 is_read_back says alike never r h known can is (Ok d) answers = alike r.pres (text_of r h) d (data_of h) known.presented answers (says r h known can is)
-is_read_back says alike never r h known can is (Err (faults.Line n)) answers = never r.pres (text_of r h) (data_of h) n known.presented (says r h known can is) answers
+is_read_back says alike never r h known can is (Err (faults.Line n)) answers =
+    never r.pres (text_of r h) (data_of h) n known.presented (says r h known can is) answers
 is_read_back says alike never r h known can is (Err faults.NoMemory) answers = tt

@@ -1,6 +1,7 @@
 -- What a written report says when it is read.
 use Rattle.std.specs.List.{range_with_len, flat_map}
-use Rattle.std.specs.Prelude.{◌≡◌, ℕ, true, false, ◌==◌, if◌then◌else◌, List, [], ◌∷◌, ◌++◌, length, map, Option, Some, None, Result, Ok, Err}
+use Rattle.std.specs.Prelude.{◌≡◌, ℕ, true, false, ◌==◌, if◌then◌else◌, List, [], ◌∷◌, ◌++◌, length, map, Option, Some}
+use Rattle.std.specs.Prelude.{None, Result, Ok, Err}
 use Rattle.session_text.specs.declared.question.Question.{Question}
 use Rattle.basis_entry.specs.Entries.{BasisEntry}
 use Rattle.basis_entry.specs.Seals.{item_count}
@@ -17,7 +18,14 @@ entry_data e = record { recipe = e.recipe; vector = e.vector }
 -- ---- the answers while the log grew
 
 abbrev pub live_reply : ℕ → Answered → ReplyData
-live_reply s a = record { session = s; question = a.question; live = true; front = a.live.front; verdict = a.live.verdict; proofs = a.live.proofs }
+live_reply s a = record {
+  session = s;
+  question = a.question;
+  live = true;
+  front = a.live.front;
+  verdict = a.live.verdict;
+  proofs = a.live.proofs;
+}
 
 -- the answer of session s, if it was made at the front
 abbrev pub replied_at : ℕ → ℕ → Answered → List ReplyData
@@ -31,7 +39,14 @@ replies_at ss front = flat_map (λ s. flat_map (replied_at front s.number) s.ans
 
 abbrev pub closing_reply : ℕ → Question → Option Reply → List ReplyData
 closing_reply s q None = []
-closing_reply s q (Some r) = record { session = s; question = q; live = false; front = r.front; verdict = r.verdict; proofs = r.proofs } ∷ []
+closing_reply s q (Some r) = record {
+  session = s;
+  question = q;
+  live = false;
+  front = r.front;
+  verdict = r.verdict;
+  proofs = r.proofs;
+} ∷ []
 
 abbrev pub closed_in : ℕ → Answered → List ReplyData
 closed_in s a = closing_reply s a.question a.closing
@@ -49,7 +64,8 @@ data_of h = record {
   items = item_count h.entries h.seal;
   from = range_with_len 0 (length h.entries);
   entries = map entry_data h.entries;
-  replies = flat_map (replies_at h.sessions) (range_with_len 1 (item_count h.entries h.seal)) ++ closing_replies h.sessions;
+  replies = flat_map (replies_at h.sessions) (range_with_len 1 (item_count h.entries h.seal))
+      ++ closing_replies h.sessions;
   end = h.end;
 }
 

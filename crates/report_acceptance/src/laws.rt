@@ -14,8 +14,8 @@ ghost use Rattle.report_acceptance.specs.Saying.{data_of, IsReadBack};
 
 use report_reading::laws::{reports_have_no_fault, reports_say_one_thing};
 
-/// To the text that is written of a report the checker answers how many entries and proofs it holds, unless memory runs out:
-/// it never finds a line that fails.
+/// To the text that is written of a report the checker answers how many entries and proofs it holds, unless memory runs
+/// out: it never finds a line that fails.
 #[tactic(auto, using(crate::proofs::Acceptance::is_accepted))]
 pub fn written_reports_are_accepted()
     ensures { (r : Reported) (h : History) → IsKnown r → IsReportable r → IsHistoryOf r h
@@ -29,8 +29,8 @@ pub fn written_reports_hold()
         → TellsWhole r.pres (text_of r h) (Ok (told_amount r h)) }
 {}
 
-/// The text that is written of a report says the history that it was written from: its entries in order, the answers by their
-/// fronts with their proofs, behind them the answers to what was left open, and the end.
+/// The text that is written of a report says the history that it was written from: its entries in order, the answers by
+/// their fronts with their proofs, behind them the answers to what was left open, and the end.
 pub fn written_reports_say()
     ensures { (r : Reported) (h : History) → IsKnown r → IsReportable r → IsHistoryOf r h
         → IsReport r.pres (text_of r h) (data_of h) }

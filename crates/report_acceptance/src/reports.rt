@@ -18,12 +18,13 @@ use crate::laws::{
 };
 use report_text::Report;
 
-/// The checker accepts the text that is written of a report: the laws, for a report as the program has it. The report is
-/// gone through once, and nothing else is done.
+/// The checker accepts the text that is written of a report: the laws, for a report as the program has it. The report
+/// is gone through once, and nothing else is done.
 pub fn report_is_accepted(r: &Report)
     requires { IsReportable (reported r.now) }
     ensures answered { (h : History) → IsHistoryOf (reported r.now) h
-        → (c : Result Checked CertFault) → Answers (reported r.now).pres (text_of (reported r.now) h) c → IsAccepted (reported r.now) h c }
+        → (c : Result Checked CertFault) → Answers (reported r.now).pres (text_of (reported r.now) h) c
+        → IsAccepted (reported r.now) h c }
     ensures told { (h : History) → IsHistoryOf (reported r.now) h
         → TellsWhole (reported r.now).pres (text_of (reported r.now) h) (Ok (told_amount (reported r.now) h)) }
 {
@@ -32,12 +33,13 @@ pub fn report_is_accepted(r: &Report)
     written_reports_hold();
 }
 
-/// The reader of reports answers to that text the history that was written. The report is gone through once, and nothing else
-/// is done.
+/// The reader of reports answers to that text the history that was written. The report is gone through once, and
+/// nothing else is done.
 pub fn report_is_read_back(r: &Report)
     requires { IsReportable (reported r.now) }
     ensures { (h : History) → IsHistoryOf (reported r.now) h
-        → (d : Result ReportData ReportFault) → IsAnswer (reported r.now).pres (text_of (reported r.now) h) d → IsReadBack h d }
+        → (d : Result ReportData ReportFault) → IsAnswer (reported r.now).pres (text_of (reported r.now) h) d
+        → IsReadBack h d }
 {
     report_is_known(r);
     written_reports_are_read_back();

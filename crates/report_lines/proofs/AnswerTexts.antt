@@ -35,43 +35,56 @@ AreParts p = AreBoth (IsWritable p) (IsVerdictOf (length p.names))
 lacks : (p : Presented) → IsPresented p → (q : Question) → IsWritable p q → HasNoColon (written_question p.names q)
 lacks p known q h = question_lacks p known q h
 
-parts_fail : (p : Presented) (text : List ℕ) (f : SpellFault) → Reads (parts_text p.names) (AreParts p) text (Err f) → Reads (answer p.names) (IsPair p) text (Err f)
+parts_fail : (p : Presented) (text : List ℕ) (f : SpellFault) → Reads (parts_text p.names) (AreParts p) text (Err f)
+    → Reads (answer p.names) (IsPair p) text (Err f)
 parts_fail p text Spelling bad = λ x h e. bad x (h.question, h.verdict) e
 parts_fail p text NoMemory bad = tt
 
-pub no_parts : (p : Presented) → IsPresented p → (text : List ℕ) → IsRead (headed itself (codes " : ")) (IsHead HasNoColon) text None → Reads (answer p.names) (IsPair p) text (Err Spelling)
+pub no_parts : (p : Presented) → IsPresented p → (text : List ℕ) → IsRead (headed itself (codes " : ")) (IsHead HasNoColon) text None
+    → Reads (answer p.names) (IsPair p) text (Err Spelling)
 no_parts p known text bad =
-    parts_fail p text Spelling (colon_missing (written_question p.names) (IsWritable p) (verdict_text p.names) (IsVerdictOf (length p.names)) (lacks p known) text bad)
+    parts_fail p text Spelling (colon_missing (written_question p.names) (IsWritable p) (verdict_text p.names) (IsVerdictOf (length p.names))
+    (lacks p known) text bad)
 
-pub no_question : (p : Presented) → IsPresented p → (text front rest : List ℕ) → IsRead (headed itself (codes " : ")) (IsHead HasNoColon) text (Some (front, rest))
+pub no_question : (p : Presented) → IsPresented p → (text front rest : List ℕ)
+    → IsRead (headed itself (codes " : ")) (IsHead HasNoColon) text (Some (front, rest))
     → IsRead (written_question p.names) (IsWritable p) front None → Reads (answer p.names) (IsPair p) text (Err Spelling)
 no_question p known text front rest a bad =
-    parts_fail p text Spelling (front_fails (written_question p.names) (IsWritable p) (verdict_text p.names) (IsVerdictOf (length p.names)) (lacks p known) text front rest a Spelling bad)
+    parts_fail p text Spelling (front_fails (written_question p.names) (IsWritable p) (verdict_text p.names) (IsVerdictOf (length p.names)) (lacks p known) text
+    front rest a Spelling bad)
 
-pub verdict_fails : (p : Presented) → IsPresented p → (text front rest : List ℕ) → IsRead (headed itself (codes " : ")) (IsHead HasNoColon) text (Some (front, rest))
+pub verdict_fails : (p : Presented) → IsPresented p → (text front rest : List ℕ)
+    → IsRead (headed itself (codes " : ")) (IsHead HasNoColon) text (Some (front, rest))
     → (f : SpellFault) → Reads (verdict_text p.names) (IsVerdictOf (length p.names)) rest (Err f) → Reads (answer p.names) (IsPair p) text (Err f)
 verdict_fails p known text front rest a f bad =
-    parts_fail p text f (back_fails (written_question p.names) (IsWritable p) (verdict_text p.names) (IsVerdictOf (length p.names)) (lacks p known) text front rest a f bad)
+    parts_fail p text f (back_fails (written_question p.names) (IsWritable p) (verdict_text p.names) (IsVerdictOf (length p.names)) (lacks p known) text
+    front rest a f bad)
 
-both : (p : Presented) (text front rest : List ℕ) (q : Question) (v : Verdict) → IsRead (headed itself (codes " : ")) (IsHead HasNoColon) text (Some (front, rest))
+both : (p : Presented) (text front rest : List ℕ) (q : Question) (v : Verdict)
+    → IsRead (headed itself (codes " : ")) (IsHead HasNoColon) text (Some (front, rest))
     → IsRead (written_question p.names) (IsWritable p) front (Some q) → Reads (verdict_text p.names) (IsVerdictOf (length p.names)) rest (Ok v)
     → Reads (parts_text p.names) (AreParts p) text (Ok (q, v))
-both p text front rest q v a b c = around_both (written_question p.names) (IsWritable p) (verdict_text p.names) (IsVerdictOf (length p.names)) text front rest q v a b c
+both p text front rest q v a b c = around_both (written_question p.names) (IsWritable p) (verdict_text p.names) (IsVerdictOf (length p.names)) text front
+    rest q v a b c
 
 question_first : (p : Presented) → IsPresented p → IsFirst (written_question p.names) (IsWritable p) (codes " : ")
 question_first p known = colon_first (written_question p.names) (IsWritable p) (lacks p known) (λ q r h k e. one_spelling p q r known h k e)
 
-same_parts : (p : Presented) → IsPresented p → (x y : Question × Verdict) → AreParts p x → AreParts p y → parts_text p.names x ≡ parts_text p.names y → (x.0 ≡ y.0) × (x.1 ≡ y.1)
+same_parts : (p : Presented) → IsPresented p → (x y : Question × Verdict) → AreParts p x → AreParts p y → parts_text p.names x ≡ parts_text p.names y
+    → (x.0 ≡ y.0) × (x.1 ≡ y.1)
 same_parts p known x y h k e =
     pair_same (written_question p.names) (IsWritable p) (codes " : ") (verdict_text p.names) (IsVerdictOf (length p.names)) (question_first p known)
     (λ v w m n f. verdict_same p.names (names_of p known) v w m n f) x y h k e
 
-pub answer_same : (p : Presented) → IsPresented p → (x y : Question × Verdict) → IsPair p x → IsPair p y → answer p.names x ≡ answer p.names y → (x.0 ≡ y.0) × (x.1 ≡ y.1)
+pub answer_same : (p : Presented) → IsPresented p → (x y : Question × Verdict) → IsPair p x → IsPair p y → answer p.names x ≡ answer p.names y
+    → (x.0 ≡ y.0) × (x.1 ≡ y.1)
 answer_same p known x y h k e = same_parts p known x y (h.question, h.verdict) (k.question, k.verdict) e
 
 -- the verdict that is read may not stand for the question
-pub not_answered : (p : Presented) → IsPresented p → (text front rest : List ℕ) (q : Question) (v : Verdict) → IsRead (headed itself (codes " : ")) (IsHead HasNoColon) text (Some (front, rest))
-    → IsRead (written_question p.names) (IsWritable p) front (Some q) → Reads (verdict_text p.names) (IsVerdictOf (length p.names)) rest (Ok v) → (MayAnswer q v → ⊥)
+pub not_answered : (p : Presented) → IsPresented p → (text front rest : List ℕ) (q : Question) (v : Verdict)
+    → IsRead (headed itself (codes " : ")) (IsHead HasNoColon) text (Some (front, rest))
+    → IsRead (written_question p.names) (IsWritable p) front (Some q) → Reads (verdict_text p.names) (IsVerdictOf (length p.names)) rest (Ok v)
+    → (MayAnswer q v → ⊥)
     → Reads (answer p.names) (IsPair p) text (Err Spelling)
 not_answered p known text front rest q v a b c bad = λ x h e.
     let r = both p text front rest q v a b c in
@@ -80,7 +93,8 @@ not_answered p known text front rest q v a b c bad = λ x h e.
     let Q : Verdict → Type 0 = MayAnswer q in
     bad (subst Q s.1 (subst P s.0 h.answers))
 
-pub answer_read : (p : Presented) (text front rest : List ℕ) (q : Question) (v : Verdict) → IsRead (headed itself (codes " : ")) (IsHead HasNoColon) text (Some (front, rest))
+pub answer_read : (p : Presented) (text front rest : List ℕ) (q : Question) (v : Verdict)
+    → IsRead (headed itself (codes " : ")) (IsHead HasNoColon) text (Some (front, rest))
     → IsRead (written_question p.names) (IsWritable p) front (Some q) → Reads (verdict_text p.names) (IsVerdictOf (length p.names)) rest (Ok v) → MayAnswer q v
     → Reads (answer p.names) (IsPair p) text (Ok (q, v))
 answer_read p text front rest q v a b c may =

@@ -42,7 +42,8 @@ measures_apart = record { lacks = measure_lacks; one = λ a b h k e. measure_sam
 measure_first : IsFirst measure_text IsMeasure (codes " ")
 measure_first = first_by_cut 32 measure_text IsMeasure measures_apart
 
-pub no_measure : (text : List ℕ) → (text ≡ codes "entries" → ⊥) → (text ≡ codes "terms" → ⊥) → (text ≡ codes "steps" → ⊥) → IsRead measure_text IsMeasure text None
+pub no_measure : (text : List ℕ) → (text ≡ codes "entries" → ⊥) → (text ≡ codes "terms" → ⊥) → (text ≡ codes "steps" → ⊥)
+    → IsRead measure_text IsMeasure text None
 no_measure text entries terms steps = λ m h e. by m e where
   by : (m : Measure) → text ≡ measure_text m → ⊥
   by Entries e = entries e
@@ -100,7 +101,8 @@ is_spent names rest (Spent commits task) e = ((commits, task), refl, ap (drop 6)
 
 -- ---- the exits of the readers
 
-no_stopped : (names : List (List ℕ)) (text : List ℕ) → IsRead (stopped_text names) (AreStopped (length names)) text None → IsRead (end_text names) (IsEndOf (length names)) (codes "stopped " ++ text) None
+no_stopped : (names : List (List ℕ)) (text : List ℕ) → IsRead (stopped_text names) (AreStopped (length names)) text None
+    → IsRead (end_text names) (IsEndOf (length names)) (codes "stopped " ++ text) None
 no_stopped names text bad = λ e h is.
     let i = is_stopped names text e is in
     let P : End → Type 0 = IsEndOf (length names) in
@@ -110,17 +112,22 @@ pub no_stopped_task : (names : List (List ℕ)) (text : List ℕ) → IsRead (he
     → IsRead (end_text names) (IsEndOf (length names)) (codes "stopped " ++ text) None
 no_stopped_task names text bad = no_stopped names text (no_first task_text IsTask (codes " ") (stop_text names) (IsStopOf (length names)) text bad)
 
-pub no_stopped_stop : (names : List (List ℕ)) (text rest : List ℕ) (task : Task) → IsRead (headed task_text (codes " ")) (IsHead IsTask) text (Some (task, rest))
+pub no_stopped_stop : (names : List (List ℕ)) (text rest : List ℕ) (task : Task)
+    → IsRead (headed task_text (codes " ")) (IsHead IsTask) text (Some (task, rest))
     → IsRead (stop_text names) (IsStopOf (length names)) rest None → IsRead (end_text names) (IsEndOf (length names)) (codes "stopped " ++ text) None
-no_stopped_stop names text rest task a bad = no_stopped names text (no_second task_text IsTask (codes " ") (stop_text names) (IsStopOf (length names)) task_first text rest task a bad)
+no_stopped_stop names text rest task a bad = no_stopped names text (no_second task_text IsTask (codes " ") (stop_text names) (IsStopOf (length names))
+    task_first text rest task a bad)
 
-pub stopped_read : (names : List (List ℕ)) (text rest : List ℕ) (task : Task) (stop : Stop) → IsRead (headed task_text (codes " ")) (IsHead IsTask) text (Some (task, rest))
-    → IsRead (stop_text names) (IsStopOf (length names)) rest (Some stop) → IsRead (end_text names) (IsEndOf (length names)) (codes "stopped " ++ text) (Some (Stopped task stop))
+pub stopped_read : (names : List (List ℕ)) (text rest : List ℕ) (task : Task) (stop : Stop)
+    → IsRead (headed task_text (codes " ")) (IsHead IsTask) text (Some (task, rest))
+    → IsRead (stop_text names) (IsStopOf (length names)) rest (Some stop)
+    → IsRead (end_text names) (IsEndOf (length names)) (codes "stopped " ++ text) (Some (Stopped task stop))
 stopped_read names text rest task stop a b =
     let r = both_read task_text IsTask (codes " ") (stop_text names) (IsStopOf (length names)) text rest task stop a b in
     (r.0, ap (λ (t : List ℕ). codes "stopped " ++ t) r.1)
 
-no_full : (names : List (List ℕ)) (text : List ℕ) → IsRead full_text AreFull text None → IsRead (end_text names) (IsEndOf (length names)) (codes "full " ++ text) None
+no_full : (names : List (List ℕ)) (text : List ℕ) → IsRead full_text AreFull text None
+    → IsRead (end_text names) (IsEndOf (length names)) (codes "full " ++ text) None
 no_full names text bad = λ e h is.
     let i = is_full names text e is in
     let P : End → Type 0 = IsEndOf (length names) in
@@ -130,17 +137,21 @@ pub no_full_measure : (names : List (List ℕ)) (text : List ℕ) → IsRead (he
     → IsRead (end_text names) (IsEndOf (length names)) (codes "full " ++ text) None
 no_full_measure names text bad = no_full names text (no_first measure_text IsMeasure (codes " ") decimal IsSmall text bad)
 
-pub no_full_count : (names : List (List ℕ)) (text rest : List ℕ) (measure : Measure) → IsRead (headed measure_text (codes " ")) (IsHead IsMeasure) text (Some (measure, rest))
+pub no_full_count : (names : List (List ℕ)) (text rest : List ℕ) (measure : Measure)
+    → IsRead (headed measure_text (codes " ")) (IsHead IsMeasure) text (Some (measure, rest))
     → IsRead decimal IsSmall rest None → IsRead (end_text names) (IsEndOf (length names)) (codes "full " ++ text) None
-no_full_count names text rest measure a bad = no_full names text (no_second measure_text IsMeasure (codes " ") decimal IsSmall measure_first text rest measure a bad)
+no_full_count names text rest measure a bad = no_full names text (no_second measure_text IsMeasure (codes " ") decimal IsSmall measure_first text rest
+    measure a bad)
 
-pub full_read : (names : List (List ℕ)) (text rest : List ℕ) (measure : Measure) (count : ℕ) → IsRead (headed measure_text (codes " ")) (IsHead IsMeasure) text (Some (measure, rest))
+pub full_read : (names : List (List ℕ)) (text rest : List ℕ) (measure : Measure) (count : ℕ)
+    → IsRead (headed measure_text (codes " ")) (IsHead IsMeasure) text (Some (measure, rest))
     → IsRead decimal IsSmall rest (Some count) → IsRead (end_text names) (IsEndOf (length names)) (codes "full " ++ text) (Some (Full measure count))
 full_read names text rest measure count a b =
     let r = both_read measure_text IsMeasure (codes " ") decimal IsSmall text rest measure count a b in
     (r.0.1, ap (λ (t : List ℕ). codes "full " ++ t) r.1)
 
-no_spent : (names : List (List ℕ)) (text : List ℕ) → IsRead spent_text AreSpent text None → IsRead (end_text names) (IsEndOf (length names)) (codes "spent " ++ text) None
+no_spent : (names : List (List ℕ)) (text : List ℕ) → IsRead spent_text AreSpent text None
+    → IsRead (end_text names) (IsEndOf (length names)) (codes "spent " ++ text) None
 no_spent names text bad = λ e h is.
     let i = is_spent names text e is in
     let P : End → Type 0 = IsEndOf (length names) in
@@ -150,17 +161,20 @@ pub no_spent_commits : (names : List (List ℕ)) (text : List ℕ) → IsRead (h
     → IsRead (end_text names) (IsEndOf (length names)) (codes "spent " ++ text) None
 no_spent_commits names text bad = no_spent names text (no_first decimal IsSmall (codes " ") task_text IsTask text bad)
 
-pub no_spent_task : (names : List (List ℕ)) (text rest : List ℕ) (commits : ℕ) → IsRead (headed decimal (codes " ")) (IsHead IsSmall) text (Some (commits, rest))
+pub no_spent_task : (names : List (List ℕ)) (text rest : List ℕ) (commits : ℕ)
+    → IsRead (headed decimal (codes " ")) (IsHead IsSmall) text (Some (commits, rest))
     → IsRead task_text IsTask rest None → IsRead (end_text names) (IsEndOf (length names)) (codes "spent " ++ text) None
 no_spent_task names text rest commits a bad = no_spent names text (no_second decimal IsSmall (codes " ") task_text IsTask number_first text rest commits a bad)
 
-pub spent_read : (names : List (List ℕ)) (text rest : List ℕ) (commits : ℕ) (task : Task) → IsRead (headed decimal (codes " ")) (IsHead IsSmall) text (Some (commits, rest))
+pub spent_read : (names : List (List ℕ)) (text rest : List ℕ) (commits : ℕ) (task : Task)
+    → IsRead (headed decimal (codes " ")) (IsHead IsSmall) text (Some (commits, rest))
     → IsRead task_text IsTask rest (Some task) → IsRead (end_text names) (IsEndOf (length names)) (codes "spent " ++ text) (Some (Spent commits task))
 spent_read names text rest commits task a b =
     let r = both_read decimal IsSmall (codes " ") task_text IsTask text rest commits task a b in
     (r.0, ap (λ (t : List ℕ). codes "spent " ++ t) r.1)
 
-pub no_end : (names : List (List ℕ)) (text : List ℕ) → (text ≡ codes "sealed" → ⊥) → ((r : List ℕ) → text ≡ codes "stopped " ++ r → ⊥) → ((r : List ℕ) → text ≡ codes "full " ++ r → ⊥)
+pub no_end : (names : List (List ℕ)) (text : List ℕ) → (text ≡ codes "sealed" → ⊥) → ((r : List ℕ) → text ≡ codes "stopped " ++ r → ⊥)
+    → ((r : List ℕ) → text ≡ codes "full " ++ r → ⊥)
     → ((r : List ℕ) → text ≡ codes "spent " ++ r → ⊥) → IsRead (end_text names) (IsEndOf (length names)) text None
 no_end names text sealed stopped full spent = λ e h is. by e is where
   by : (e : End) → text ≡ end_text names e → ⊥
@@ -171,12 +185,14 @@ no_end names text sealed stopped full spent = λ e h is. by e is where
 
 -- ---- a text is that of one end
 
-pub end_same : (names : List (List ℕ)) → AreNames names → (e f : End) → IsEndOf (length names) e → IsEndOf (length names) f → end_text names e ≡ end_text names f → e ≡ f
+pub end_same : (names : List (List ℕ)) → AreNames names → (e f : End) → IsEndOf (length names) e → IsEndOf (length names) f
+    → end_text names e ≡ end_text names f → e ≡ f
 end_same names known Sealed f h k e = sym (is_sealed names f e)
 end_same names known (Stopped task stop) f h k e =
     let i = is_stopped names (stopped_text names (task, stop)) f e in
     let P : End → Type 0 = IsEndOf (length names) in
-    let a = pair_same task_text IsTask (codes " ") (stop_text names) (IsStopOf (length names)) task_first (λ x y p q g. stop_same names known x y p q g) (task, stop) i.0 h (subst P i.1 k) i.2 in
+    let a = pair_same task_text IsTask (codes " ") (stop_text names) (IsStopOf (length names)) task_first (λ x y p q g. stop_same names known x y p q g)
+    (task, stop) i.0 h (subst P i.1 k) i.2 in
     (λ j. Stopped (a.0 j) (a.1 j)) ∙ sym i.1
 end_same names known (Full measure count) f h k e =
     let i = is_full names (full_text (measure, count)) f e in

@@ -45,7 +45,8 @@ no_made names text plus minus sum (Gen true) e = minus e
 no_made names text plus minus sum (Gen false) e = plus e
 no_made names text plus minus sum (Sum steps) e = sum (steps_text names steps) e
 
-pub sum_fails : (names : List (List ℕ)) (text rest : List ℕ) → text ≡ codes "sum " ++ rest → (f : SpellFault) → Reads (steps_text names) (AreStepsOf (length names)) rest (Err f)
+pub sum_fails : (names : List (List ℕ)) (text rest : List ℕ) → text ≡ codes "sum " ++ rest → (f : SpellFault)
+    → Reads (steps_text names) (AreStepsOf (length names)) rest (Err f)
     → Reads (made_text names) (IsMadeOf (length names)) text (Err f)
 sum_fails names text rest is Spelling bad = λ m h e.
     let i = is_sum names rest m (sym is ∙ e) in
@@ -53,13 +54,15 @@ sum_fails names text rest is Spelling bad = λ m h e.
     bad i.0 (subst P i.1 h) i.2
 sum_fails names text rest is NoMemory bad = tt
 
-pub sum_read : (names : List (List ℕ)) (text rest : List ℕ) (steps : List Step) → text ≡ codes "sum " ++ rest → Reads (steps_text names) (AreStepsOf (length names)) rest (Ok steps)
+pub sum_read : (names : List (List ℕ)) (text rest : List ℕ) (steps : List Step) → text ≡ codes "sum " ++ rest
+    → Reads (steps_text names) (AreStepsOf (length names)) rest (Ok steps)
     → Reads (made_text names) (IsMadeOf (length names)) text (Ok (Sum steps))
 sum_read names text rest steps is a = (a.0, is ∙ ap (λ (t : List ℕ). codes "sum " ++ t) a.1)
 
 -- ---- a text is that of one way, and no colon stands in it
 
-pub made_same : (names : List (List ℕ)) → AreNames names → (m o : Made) → IsMadeOf (length names) m → IsMadeOf (length names) o → made_text names m ≡ made_text names o → m ≡ o
+pub made_same : (names : List (List ℕ)) → AreNames names → (m o : Made) → IsMadeOf (length names) m → IsMadeOf (length names) o
+    → made_text names m ≡ made_text names o → m ≡ o
 made_same names known (Gen true) o h k e = sym (is_minus names o e)
 made_same names known (Gen false) o h k e = sym (is_plus names o e)
 made_same names known (Sum steps) o h k e =

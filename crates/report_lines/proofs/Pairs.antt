@@ -1,5 +1,6 @@
 -- Texts of two parts with a separator between them, read from the first part on.
-use Rattle.std.proofs.Common.{◌≡◌, ℕ, ◌<◌, ◌==◌, Bool, true, false, if◌then◌else◌, nat_eq, List, [], ◌∷◌, ◌++◌, take, length, Option, Some, None, Ok, Err, codes, refl, sym, ap, ◌∙◌, arith, append_assoc}
+use Rattle.std.proofs.Common.{◌≡◌, ℕ, ◌<◌, ◌==◌, Bool, true, false, if◌then◌else◌, nat_eq, List, [], ◌∷◌, ◌++◌, take, length, Option, Some, None, Ok, Err}
+use Rattle.std.proofs.Common.{codes, refl, sym, ap, ◌∙◌, arith, append_assoc}
 use Rattle.std.proofs.lemmas.Option.{none-some}
 use Rattle.std.specs.Cmp.Lexicographic.{pointwise}
 use Rattle.spelling.specs.Spelling.{IsRead, cut}
@@ -43,26 +44,31 @@ first_by_cut c f IsA apart = record {
       (apart.one a b h k both.0, both.1);
 }
 
-pub uncut : {A : Type 0} (c : ℕ) (f : A → List ℕ) (IsA : A → Type 0) → IsApart c f IsA → (text : List ℕ) → cut c text ≡ None → IsRead (headed f (c ∷ [])) (IsHead IsA) text None
+pub uncut : {A : Type 0} (c : ℕ) (f : A → List ℕ) (IsA : A → Type 0) → IsApart c f IsA → (text : List ℕ) → cut c text ≡ None
+    → IsRead (headed f (c ∷ [])) (IsHead IsA) text None
 uncut c f IsA apart text none = λ x h e. none-some _ (sym none ∙ ap (cut c) e ∙ cut_here c (f x.0) x.1 (apart.lacks x.0 h))
 
-pub no_head : {A : Type 0} (c : ℕ) (f : A → List ℕ) (IsA : A → Type 0) → IsApart c f IsA → (text front rest : List ℕ) → cut c text ≡ Some (front, rest) → IsRead f IsA front None
+pub no_head : {A : Type 0} (c : ℕ) (f : A → List ℕ) (IsA : A → Type 0) → IsApart c f IsA → (text front rest : List ℕ) → cut c text ≡ Some (front, rest)
+    → IsRead f IsA front None
     → IsRead (headed f (c ∷ [])) (IsHead IsA) text None
 no_head c f IsA apart text front rest k bad = λ x h e.
     let both = some_pair (front, rest) (f x.0, x.1) (sym k ∙ ap (cut c) e ∙ cut_here c (f x.0) x.1 (apart.lacks x.0 h)) in
     bad x.0 h both.0
 
-pub head_read : {A : Type 0} (c : ℕ) (f : A → List ℕ) (IsA : A → Type 0) (text front rest : List ℕ) (a : A) → cut c text ≡ Some (front, rest) → IsRead f IsA front (Some a)
+pub head_read : {A : Type 0} (c : ℕ) (f : A → List ℕ) (IsA : A → Type 0) (text front rest : List ℕ) (a : A) → cut c text ≡ Some (front, rest)
+    → IsRead f IsA front (Some a)
     → IsRead (headed f (c ∷ [])) (IsHead IsA) text (Some (a, rest))
 head_read c f IsA text front rest a k good = (good.0, cut_joins c text front rest k ∙ ap (λ (t : List ℕ). t ++ c ∷ rest) good.1)
 
 -- ---- pairs by their first part
 
-pub no_first : {A B : Type 0} (f : A → List ℕ) (IsA : A → Type 0) (sep : List ℕ) (g : B → List ℕ) (IsB : B → Type 0) (text : List ℕ) → IsRead (headed f sep) (IsHead IsA) text None
+pub no_first : {A B : Type 0} (f : A → List ℕ) (IsA : A → Type 0) (sep : List ℕ) (g : B → List ℕ) (IsB : B → Type 0) (text : List ℕ)
+    → IsRead (headed f sep) (IsHead IsA) text None
     → IsRead (paired f sep g) (AreBoth IsA IsB) text None
 no_first f IsA sep g IsB text bad = λ x h e. bad (x.0, g x.1) h.0 e
 
-pub no_second : {A B : Type 0} (f : A → List ℕ) (IsA : A → Type 0) (sep : List ℕ) (g : B → List ℕ) (IsB : B → Type 0) → IsFirst f IsA sep → (text rest : List ℕ) (a : A)
+pub no_second : {A B : Type 0} (f : A → List ℕ) (IsA : A → Type 0) (sep : List ℕ) (g : B → List ℕ) (IsB : B → Type 0) → IsFirst f IsA sep
+    → (text rest : List ℕ) (a : A)
     → IsRead (headed f sep) (IsHead IsA) text (Some (a, rest)) → IsRead g IsB rest None → IsRead (paired f sep g) (AreBoth IsA IsB) text None
 no_second f IsA sep g IsB first text rest a good bad = λ x h e.
     let s = first.same x.0 a (g x.1) rest h.0 good.0 (sym e ∙ good.1) in bad x.1 h.1 (sym s.1)
@@ -71,13 +77,16 @@ pub both_read : {A B : Type 0} (f : A → List ℕ) (IsA : A → Type 0) (sep : 
     → IsRead (headed f sep) (IsHead IsA) text (Some (a, rest)) → IsRead g IsB rest (Some b) → IsRead (paired f sep g) (AreBoth IsA IsB) text (Some (a, b))
 both_read f IsA sep g IsB text rest a b good next = ((good.0, next.0), good.1 ∙ ap (λ (t : List ℕ). f a ++ (sep ++ t)) next.1)
 
-pub second_fails : {A B : Type 0} (f : A → List ℕ) (IsA : A → Type 0) (sep : List ℕ) (g : B → List ℕ) (IsB : B → Type 0) → IsFirst f IsA sep → (text rest : List ℕ) (a : A)
-    → IsRead (headed f sep) (IsHead IsA) text (Some (a, rest)) → (e : SpellFault) → Reads g IsB rest (Err e) → Reads (paired f sep g) (AreBoth IsA IsB) text (Err e)
+pub second_fails : {A B : Type 0} (f : A → List ℕ) (IsA : A → Type 0) (sep : List ℕ) (g : B → List ℕ) (IsB : B → Type 0) → IsFirst f IsA sep
+    → (text rest : List ℕ) (a : A)
+    → IsRead (headed f sep) (IsHead IsA) text (Some (a, rest)) → (e : SpellFault) → Reads g IsB rest (Err e)
+    → Reads (paired f sep g) (AreBoth IsA IsB) text (Err e)
 second_fails f IsA sep g IsB first text rest a good Spelling bad = no_second f IsA sep g IsB first text rest a good bad
 second_fails f IsA sep g IsB first text rest a good NoMemory bad = tt
 
 pub pair_same : {A B : Type 0} (f : A → List ℕ) (IsA : A → Type 0) (sep : List ℕ) (g : B → List ℕ) (IsB : B → Type 0) → IsFirst f IsA sep
-    → ((a b : B) → IsB a → IsB b → g a ≡ g b → a ≡ b) → (x y : A × B) → AreBoth IsA IsB x → AreBoth IsA IsB y → paired f sep g x ≡ paired f sep g y → (x.0 ≡ y.0) × (x.1 ≡ y.1)
+    → ((a b : B) → IsB a → IsB b → g a ≡ g b → a ≡ b) → (x y : A × B) → AreBoth IsA IsB x → AreBoth IsA IsB y → paired f sep g x ≡ paired f sep g y
+    → (x.0 ≡ y.0) × (x.1 ≡ y.1)
 pair_same f IsA sep g IsB first one x y h k e =
     let s = first.same x.0 y.0 (g x.1) (g y.1) h.0 k.0 e in (s.0, one x.1 y.1 h.1 k.1 s.1)
 
@@ -105,16 +114,19 @@ lacks_front c (x ∷ a) b h = (h.0, lacks_front c a b h.1)
 -- the colon with its spaces is found behind a text without a colon
 around : (front rest : List ℕ) → HasNoColon front → cut 58 (front ++ (codes " : " ++ rest)) ≡ Some (front ++ 32 ∷ [], 32 ∷ rest)
 around front rest h =
-    ap (cut 58) (sym (append_assoc front (32 ∷ []) (58 ∷ 32 ∷ rest))) ∙ cut_here 58 (front ++ 32 ∷ []) (32 ∷ rest) (lacks_append 58 front (32 ∷ []) h (refl, tt))
+    ap (cut 58) (sym (append_assoc front (32 ∷ []) (58 ∷ 32 ∷ rest)))
+    ∙ cut_here 58 (front ++ 32 ∷ []) (32 ∷ rest) (lacks_append 58 front (32 ∷ []) h (refl, tt))
 
 pub no_colon : (text : List ℕ) → cut 58 text ≡ None → IsRead (headed itself (codes " : ")) (IsHead HasNoColon) text None
 no_colon text none = λ x h e. none-some _ (sym none ∙ ap (cut 58) e ∙ around x.0 x.1 h)
 
-pub no_space_before : (text front rest : List ℕ) → cut 58 text ≡ Some (front, rest) → ((f : List ℕ) → front ≡ f ++ 32 ∷ [] → ⊥) → IsRead (headed itself (codes " : ")) (IsHead HasNoColon) text None
+pub no_space_before : (text front rest : List ℕ) → cut 58 text ≡ Some (front, rest) → ((f : List ℕ) → front ≡ f ++ 32 ∷ [] → ⊥)
+    → IsRead (headed itself (codes " : ")) (IsHead HasNoColon) text None
 no_space_before text front rest k bad = λ x h e.
     let both = some_pair (front, rest) (x.0 ++ 32 ∷ [], 32 ∷ x.1) (sym k ∙ ap (cut 58) e ∙ around x.0 x.1 h) in bad x.0 both.0
 
-pub no_space_after : (text front rest : List ℕ) → cut 58 text ≡ Some (front, rest) → ((r : List ℕ) → rest ≡ 32 ∷ r → ⊥) → IsRead (headed itself (codes " : ")) (IsHead HasNoColon) text None
+pub no_space_after : (text front rest : List ℕ) → cut 58 text ≡ Some (front, rest) → ((r : List ℕ) → rest ≡ 32 ∷ r → ⊥)
+    → IsRead (headed itself (codes " : ")) (IsHead HasNoColon) text None
 no_space_after text front rest k bad = λ x h e.
     let both = some_pair (front, rest) (x.0 ++ 32 ∷ [], 32 ∷ x.1) (sym k ∙ ap (cut 58) e ∙ around x.0 x.1 h) in bad x.1 both.1
 
@@ -149,23 +161,27 @@ before_colon = record {
   tail k = cc
 
 -- so the text of a value does, where no colon stands in it
-pub colon_first : {A : Type 0} (f : A → List ℕ) (IsA : A → Type 0) → ((a : A) → IsA a → HasNoColon (f a)) → ((a b : A) → IsA a → IsA b → f a ≡ f b → a ≡ b) → IsFirst f IsA (codes " : ")
+pub colon_first : {A : Type 0} (f : A → List ℕ) (IsA : A → Type 0) → ((a : A) → IsA a → HasNoColon (f a)) → ((a b : A) → IsA a → IsA b → f a ≡ f b → a ≡ b)
+    → IsFirst f IsA (codes " : ")
 colon_first f IsA plain one = record {
   same = λ a b r s h k e. let t = before_colon.same (f a) (f b) r s (plain a h) (plain b k) e in (one a b h k t.0, t.1);
 }
 
-pub colon_missing : {A B : Type 0} (f : A → List ℕ) (IsA : A → Type 0) (g : B → List ℕ) (IsB : B → Type 0) → ((a : A) → IsA a → HasNoColon (f a)) → (text : List ℕ)
+pub colon_missing : {A B : Type 0} (f : A → List ℕ) (IsA : A → Type 0) (g : B → List ℕ) (IsB : B → Type 0) → ((a : A) → IsA a → HasNoColon (f a))
+    → (text : List ℕ)
     → IsRead (headed itself (codes " : ")) (IsHead HasNoColon) text None → IsRead (paired f (codes " : ") g) (AreBoth IsA IsB) text None
 colon_missing f IsA g IsB plain text bad = λ x h e. bad (f x.0, g x.1) (plain x.0 h.0) e
 
-pub front_fails : {A B : Type 0} (f : A → List ℕ) (IsA : A → Type 0) (g : B → List ℕ) (IsB : B → Type 0) → ((a : A) → IsA a → HasNoColon (f a)) → (text front rest : List ℕ)
+pub front_fails : {A B : Type 0} (f : A → List ℕ) (IsA : A → Type 0) (g : B → List ℕ) (IsB : B → Type 0) → ((a : A) → IsA a → HasNoColon (f a))
+    → (text front rest : List ℕ)
     → IsRead (headed itself (codes " : ")) (IsHead HasNoColon) text (Some (front, rest)) → (e : SpellFault) → Reads f IsA front (Err e)
     → Reads (paired f (codes " : ") g) (AreBoth IsA IsB) text (Err e)
 front_fails f IsA g IsB plain text front rest good Spelling bad = λ x h e.
     let t = before_colon.same (f x.0) front (g x.1) rest (plain x.0 h.0) good.0 (sym e ∙ good.1) in bad x.0 h.0 (sym t.0)
 front_fails f IsA g IsB plain text front rest good NoMemory bad = tt
 
-pub back_fails : {A B : Type 0} (f : A → List ℕ) (IsA : A → Type 0) (g : B → List ℕ) (IsB : B → Type 0) → ((a : A) → IsA a → HasNoColon (f a)) → (text front rest : List ℕ)
+pub back_fails : {A B : Type 0} (f : A → List ℕ) (IsA : A → Type 0) (g : B → List ℕ) (IsB : B → Type 0) → ((a : A) → IsA a → HasNoColon (f a))
+    → (text front rest : List ℕ)
     → IsRead (headed itself (codes " : ")) (IsHead HasNoColon) text (Some (front, rest)) → (e : SpellFault) → Reads g IsB rest (Err e)
     → Reads (paired f (codes " : ") g) (AreBoth IsA IsB) text (Err e)
 back_fails f IsA g IsB plain text front rest good Spelling bad = λ x h e.

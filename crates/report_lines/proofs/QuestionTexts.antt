@@ -1,12 +1,14 @@
 -- No colon stands in the text of a question.
-use Rattle.std.proofs.Common.{◌≡◌, inr, ℕ, suc, ◌<◌, ◌≤◌, ◌^◌, ◌==◌, Bool, true, false, if◌then◌else◌, List, [], ◌∷◌, ◌++◌, length, map, codes, decimal, refl, arith}
+use Rattle.std.proofs.Common.{◌≡◌, inr, ℕ, suc, ◌<◌, ◌≤◌, ◌^◌, ◌==◌, Bool, true, false, if◌then◌else◌, List, [], ◌∷◌, ◌++◌, length, map, codes, decimal, refl}
+use Rattle.std.proofs.Common.{arith}
 use Rattle.std.specs.List.{AllByRecursion}
 use Rattle.free_words.specs.declared.letter.Letter.{Letter}
 use Rattle.spelling.proofs.Lacking.{lacks_append, decimal_lacks}
 use Rattle.word_text.specs.Scan.{is_name_byte, is_letter, is_digit}
 use Rattle.presentation.specs.declared.runs.Run.{Run}
 use Rattle.presentation.specs.Presented.{Presented, IsPresented, IsName, IsWritten}
-use Rattle.presentation.specs.Writing.{is_same, once, behind, runs, AreOver, led_by, joined, name_of, written_exponent, written_run, written_word, written_bare, written_presentation}
+use Rattle.presentation.specs.Writing.{is_same, once, behind, runs, AreOver, led_by, joined, name_of, written_exponent, written_run, written_word, written_bare}
+use Rattle.presentation.specs.Writing.{written_presentation}
 use Rattle.presentation.proofs.WritingRuns.{over_runs}
 use Rattle.presentation.proofs.WritingNames.{name_passes}
 use Rattle.presentation.proofs.WritingBack.{AreNames, names_of}
@@ -54,7 +56,8 @@ exponent_lacks false n h = by (n == 1) where
 
 run_lacks : (names : List (List ℕ)) (r : Run) → AreNames names → r.letter.g < length names → r.count < 2 ^ 128 → HasNoColon (written_run names r)
 run_lacks names r known lt small =
-    lacks_append 58 (name_of names r.letter.g) (written_exponent r.letter.inv r.count) (name_lacks 58 names r.letter.g no_name_byte known lt) (exponent_lacks r.letter.inv r.count small)
+    lacks_append 58 (name_of names r.letter.g) (written_exponent r.letter.inv r.count) (name_lacks 58 names r.letter.g no_name_byte known lt)
+    (exponent_lacks r.letter.inv r.count small)
 
 -- ---- lists
 
@@ -69,9 +72,13 @@ joined_lacks : (separator : List ℕ) (ts : List (List ℕ)) → HasNoColon sepa
 joined_lacks separator [] h k = tt
 joined_lacks separator (t ∷ ts) h k = lacks_append 58 t (led_by separator ts) k.0 (led_lacks separator ts h k.1)
 
-runs_lack : (names : List (List ℕ)) (n : ℕ) (rs : List Run) → AreNames names → AreOver (length names) rs → AreWithin n rs → n < 2 ^ 128 → AllLack (map (written_run names) rs)
+runs_lack : (names : List (List ℕ)) (n : ℕ) (rs : List Run) → AreNames names → AreOver (length names) rs → AreWithin n rs → n < 2 ^ 128
+    → AllLack (map (written_run names) rs)
 runs_lack names n [] known over within small = tt
-runs_lack names n (r ∷ rs) known over within small = (run_lacks names r known over.0 (omega (arith, within.0)), runs_lack names n rs known over.1 within.1 small)
+runs_lack names n (r ∷ rs) known over within small = (
+  run_lacks names r known over.0 (omega (arith, within.0)),
+  runs_lack names n rs known over.1 within.1 small,
+)
 
 word_lacks : (names : List (List ℕ)) (w : List Letter) → AreNames names → IsWritten (length names) w → HasNoColon (written_word names w)
 word_lacks names [] known h = (refl, tt)
@@ -79,7 +86,8 @@ word_lacks names (l ∷ ls) known h =
     joined_lacks (32 ∷ []) (map (written_run names) (runs (l ∷ ls))) (refl, tt)
     (runs_lack names (length (l ∷ ls)) (runs (l ∷ ls)) known (over_runs (length names) (l ∷ ls) h.0) (runs_within (l ∷ ls)) (omega (arith, h.1)))
 
-words_lack : (names : List (List ℕ)) (ws : List (List Letter)) → AreNames names → AllByRecursion (IsWritten (length names)) ws → AllLack (map (written_word names) ws)
+words_lack : (names : List (List ℕ)) (ws : List (List Letter)) → AreNames names → AllByRecursion (IsWritten (length names)) ws
+    → AllLack (map (written_word names) ws)
 words_lack names [] known h = tt
 words_lack names (w ∷ ws) known h = (word_lacks names w known h.0, words_lack names ws known h.1)
 
@@ -98,10 +106,12 @@ presentation_lacks p h none =
     let names : List ℕ = joined (codes ", ") p.names in
     let relators : List ℕ = joined (codes ", ") (map (written_word p.names) p.relators) in
     let names_lack : HasNoColon names = joined_lacks (codes ", ") p.names (literal 58 (codes ", ") refl) (names_lack p.names h.names) in
-    let relators_lack : HasNoColon relators = joined_lacks (codes ", ") (map (written_word p.names) p.relators) (literal 58 (codes ", ") refl) (words_lack p.names p.relators (names_of p h) h.relators) in
+    let relators_lack : HasNoColon relators = joined_lacks (codes ", ") (map (written_word p.names) p.relators) (literal 58 (codes ", ") refl)
+    (words_lack p.names p.relators (names_of p h) h.relators) in
     let head : HasNoColon (codes "<" ++ names) = lacks_append 58 (codes "<") names (refl, tt) names_lack in
     let middle : HasNoColon (codes "<" ++ names ++ codes " | ") = lacks_append 58 (codes "<" ++ names) (codes " | ") head (literal 58 (codes " | ") refl) in
-    let front : HasNoColon (codes "<" ++ names ++ codes " | " ++ relators) = lacks_append 58 (codes "<" ++ names ++ codes " | ") relators middle relators_lack in
+    let front : HasNoColon (codes "<" ++ names ++ codes " | " ++ relators) =
+    lacks_append 58 (codes "<" ++ names ++ codes " | ") relators middle relators_lack in
     let bare : HasNoColon (written_bare p.names p.relators) = lacks_append 58 (codes "<" ++ names ++ codes " | " ++ relators) (codes ">") front (refl, tt) in
     rw none (lacks_append 58 (written_bare p.names p.relators) [] bare tt)
 
@@ -111,8 +121,10 @@ question_lacks p known (Trivial w) h =
 question_lacks p known (Equal u v) h =
     let head : HasNoColon (codes "equal " ++ written_word p.names u) =
     lacks_append 58 (codes "equal ") (written_word p.names u) (literal 58 (codes "equal ") refl) (word_lacks p.names u (names_of p known) ((h.0).1).0) in
-    let front : HasNoColon (codes "equal " ++ written_word p.names u ++ codes " = ") = lacks_append 58 (codes "equal " ++ written_word p.names u) (codes " = ") head (literal 58 (codes " = ") refl) in
-    lacks_append 58 (codes "equal " ++ written_word p.names u ++ codes " = ") (written_word p.names v) front (word_lacks p.names v (names_of p known) ((h.0).1).1)
+    let front : HasNoColon (codes "equal " ++ written_word p.names u ++ codes " = ") =
+    lacks_append 58 (codes "equal " ++ written_word p.names u) (codes " = ") head (literal 58 (codes " = ") refl) in
+    lacks_append 58 (codes "equal " ++ written_word p.names u ++ codes " = ") (written_word p.names v) front
+    (word_lacks p.names v (names_of p known) ((h.0).1).1)
 question_lacks p known (Normal w) h =
     lacks_append 58 (codes "normal ") (written_word p.names w) (literal 58 (codes "normal ") refl) (word_lacks p.names w (names_of p known) (h.0).1)
 question_lacks p known (Hom source images) h =

@@ -61,36 +61,44 @@ is_steep names rest (Steep degree) e = (degree, refl, ap (drop 6) e)
 
 -- ---- the exits of the readers
 
-no_wide : (names : List (List ℕ)) (text : List ℕ) → IsRead (wide_text names) (AreWide (length names)) text None → IsRead (stop_text names) (IsStopOf (length names)) (codes "wide " ++ text) None
+no_wide : (names : List (List ℕ)) (text : List ℕ) → IsRead (wide_text names) (AreWide (length names)) text None
+    → IsRead (stop_text names) (IsStopOf (length names)) (codes "wide " ++ text) None
 no_wide names text bad = λ s h e.
     let i = is_wide names text s e in
     let P : Stop → Type 0 = IsStopOf (length names) in
     let k = subst P i.1 h in
     bad i.0 (k.1, k.0) i.2
 
-pub no_wide_step : (names : List (List ℕ)) (text : List ℕ) → IsRead (headed decimal (codes " ")) (IsHead IsSmall) text None → IsRead (stop_text names) (IsStopOf (length names)) (codes "wide " ++ text) None
+pub no_wide_step : (names : List (List ℕ)) (text : List ℕ) → IsRead (headed decimal (codes " ")) (IsHead IsSmall) text None
+    → IsRead (stop_text names) (IsStopOf (length names)) (codes "wide " ++ text) None
 no_wide_step names text bad = no_wide names text (no_first decimal IsSmall (codes " ") (place_text names) (IsPlaceOf (length names)) text bad)
 
-pub no_wide_place : (names : List (List ℕ)) (text rest : List ℕ) (step : ℕ) (f : SpellFault) → IsRead (headed decimal (codes " ")) (IsHead IsSmall) text (Some (step, rest))
-    → Reads (place_text names) (IsPlaceOf (length names)) rest (Err f) → f ≡ Spelling → IsRead (stop_text names) (IsStopOf (length names)) (codes "wide " ++ text) None
+pub no_wide_place : (names : List (List ℕ)) (text rest : List ℕ) (step : ℕ) (f : SpellFault)
+    → IsRead (headed decimal (codes " ")) (IsHead IsSmall) text (Some (step, rest))
+    → Reads (place_text names) (IsPlaceOf (length names)) rest (Err f) → f ≡ Spelling
+    → IsRead (stop_text names) (IsStopOf (length names)) (codes "wide " ++ text) None
 no_wide_place names text rest step f a bad is =
     let bad' = rw is at bad in
     no_wide names text (no_second decimal IsSmall (codes " ") (place_text names) (IsPlaceOf (length names)) number_first text rest step a bad')
 
-pub wide_read : (names : List (List ℕ)) (text rest : List ℕ) (step : ℕ) (at : Place) → IsRead (headed decimal (codes " ")) (IsHead IsSmall) text (Some (step, rest))
-    → Reads (place_text names) (IsPlaceOf (length names)) rest (Ok at) → IsRead (stop_text names) (IsStopOf (length names)) (codes "wide " ++ text) (Some (Wide at step))
+pub wide_read : (names : List (List ℕ)) (text rest : List ℕ) (step : ℕ) (at : Place)
+    → IsRead (headed decimal (codes " ")) (IsHead IsSmall) text (Some (step, rest))
+    → Reads (place_text names) (IsPlaceOf (length names)) rest (Ok at)
+    → IsRead (stop_text names) (IsStopOf (length names)) (codes "wide " ++ text) (Some (Wide at step))
 wide_read names text rest step at a b =
     let r = both_read decimal IsSmall (codes " ") (place_text names) (IsPlaceOf (length names)) text rest step at a b in
     ((r.0.1, r.0.0), ap (λ (t : List ℕ). codes "wide " ++ t) r.1)
 
-no_long : (names : List (List ℕ)) (text : List ℕ) → IsRead long_text AreLong text None → IsRead (stop_text names) (IsStopOf (length names)) (codes "long " ++ text) None
+no_long : (names : List (List ℕ)) (text : List ℕ) → IsRead long_text AreLong text None
+    → IsRead (stop_text names) (IsStopOf (length names)) (codes "long " ++ text) None
 no_long names text bad = λ s h e.
     let i = is_long names text s e in
     let P : Stop → Type 0 = IsStopOf (length names) in
     let k = subst P i.1 h in
     bad i.0 (k.1, k.0) i.2
 
-pub no_long_step : (names : List (List ℕ)) (text : List ℕ) → IsRead (headed decimal (codes " ")) (IsHead IsSmall) text None → IsRead (stop_text names) (IsStopOf (length names)) (codes "long " ++ text) None
+pub no_long_step : (names : List (List ℕ)) (text : List ℕ) → IsRead (headed decimal (codes " ")) (IsHead IsSmall) text None
+    → IsRead (stop_text names) (IsStopOf (length names)) (codes "long " ++ text) None
 no_long_step names text bad = no_long names text (no_first decimal IsSmall (codes " ") decimal IsSmall text bad)
 
 pub no_long_terms : (names : List (List ℕ)) (text rest : List ℕ) (step : ℕ) → IsRead (headed decimal (codes " ")) (IsHead IsSmall) text (Some (step, rest))
@@ -103,16 +111,19 @@ long_read names text rest step terms a b =
     let r = both_read decimal IsSmall (codes " ") decimal IsSmall text rest step terms a b in
     ((r.0.1, r.0.0), ap (λ (t : List ℕ). codes "long " ++ t) r.1)
 
-pub no_degree : (names : List (List ℕ)) (text : List ℕ) → IsRead decimal IsSmall text None → IsRead (stop_text names) (IsStopOf (length names)) (codes "steep " ++ text) None
+pub no_degree : (names : List (List ℕ)) (text : List ℕ) → IsRead decimal IsSmall text None
+    → IsRead (stop_text names) (IsStopOf (length names)) (codes "steep " ++ text) None
 no_degree names text bad = λ s h e.
     let i = is_steep names text s e in
     let P : Stop → Type 0 = IsStopOf (length names) in
     bad i.0 (subst P i.1 h) i.2
 
-pub steep_read : (names : List (List ℕ)) (text : List ℕ) (degree : ℕ) → IsRead decimal IsSmall text (Some degree) → IsRead (stop_text names) (IsStopOf (length names)) (codes "steep " ++ text) (Some (Steep degree))
+pub steep_read : (names : List (List ℕ)) (text : List ℕ) (degree : ℕ) → IsRead decimal IsSmall text (Some degree)
+    → IsRead (stop_text names) (IsStopOf (length names)) (codes "steep " ++ text) (Some (Steep degree))
 steep_read names text degree a = (a.0, ap (λ (t : List ℕ). codes "steep " ++ t) a.1)
 
-pub no_stop : (names : List (List ℕ)) (text : List ℕ) → (text ≡ codes "deep" → ⊥) → ((r : List ℕ) → text ≡ codes "wide " ++ r → ⊥) → ((r : List ℕ) → text ≡ codes "long " ++ r → ⊥)
+pub no_stop : (names : List (List ℕ)) (text : List ℕ) → (text ≡ codes "deep" → ⊥) → ((r : List ℕ) → text ≡ codes "wide " ++ r → ⊥)
+    → ((r : List ℕ) → text ≡ codes "long " ++ r → ⊥)
     → ((r : List ℕ) → text ≡ codes "steep " ++ r → ⊥) → IsRead (stop_text names) (IsStopOf (length names)) text None
 no_stop names text deep wide long steep = λ s h e. by s e where
   by : (s : Stop) → text ≡ stop_text names s → ⊥
@@ -123,12 +134,14 @@ no_stop names text deep wide long steep = λ s h e. by s e where
 
 -- ---- a text is that of one stop
 
-pub stop_same : (names : List (List ℕ)) → AreNames names → (s t : Stop) → IsStopOf (length names) s → IsStopOf (length names) t → stop_text names s ≡ stop_text names t → s ≡ t
+pub stop_same : (names : List (List ℕ)) → AreNames names → (s t : Stop) → IsStopOf (length names) s → IsStopOf (length names) t
+    → stop_text names s ≡ stop_text names t → s ≡ t
 stop_same names known (Wide at step) t h k e =
     let i = is_wide names (wide_text names (step, at)) t e in
     let P : Stop → Type 0 = IsStopOf (length names) in
     let k' = subst P i.1 k in
-    let a = pair_same decimal IsSmall (codes " ") (place_text names) (IsPlaceOf (length names)) number_first (λ x y p q f. place_same names known x y p q f) (step, at) i.0 (h.1, h.0) (k'.1, k'.0) i.2 in
+    let a = pair_same decimal IsSmall (codes " ") (place_text names) (IsPlaceOf (length names)) number_first (λ x y p q f. place_same names known x y p q f)
+    (step, at) i.0 (h.1, h.0) (k'.1, k'.0) i.2 in
     (λ j. Wide (a.1 j) (a.0 j)) ∙ sym i.1
 stop_same names known (Long terms step) t h k e =
     let i = is_long names (long_text (step, terms)) t e in

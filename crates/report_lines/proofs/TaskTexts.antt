@@ -59,21 +59,26 @@ no_task text bad = λ t h e. bad (t.i, (t.j, t.kind)) (h.i, (h.j, tt)) e
 pub no_i : (text : List ℕ) → IsRead (headed decimal (codes " ")) (IsHead IsSmall) text None → IsRead task_text IsTask text None
 no_i text bad = no_task text (no_first decimal IsSmall (codes " ") later ArePartsLater text bad)
 
-pub no_j : (text rest : List ℕ) (i : ℕ) → IsRead (headed decimal (codes " ")) (IsHead IsSmall) text (Some (i, rest)) → IsRead (headed decimal (codes " ")) (IsHead IsSmall) rest None
+pub no_j : (text rest : List ℕ) (i : ℕ) → IsRead (headed decimal (codes " ")) (IsHead IsSmall) text (Some (i, rest))
+    → IsRead (headed decimal (codes " ")) (IsHead IsSmall) rest None
     → IsRead task_text IsTask text None
 no_j text rest i a bad =
-    no_task text (no_second decimal IsSmall (codes " ") later ArePartsLater number_first text rest i a (no_first decimal IsSmall (codes " ") kind_text IsKind rest bad))
+    no_task text (no_second decimal IsSmall (codes " ") later ArePartsLater number_first text rest i a
+    (no_first decimal IsSmall (codes " ") kind_text IsKind rest bad))
 
-pub no_last : (text rest last : List ℕ) (i j : ℕ) → IsRead (headed decimal (codes " ")) (IsHead IsSmall) text (Some (i, rest)) → IsRead (headed decimal (codes " ")) (IsHead IsSmall) rest (Some (j, last))
+pub no_last : (text rest last : List ℕ) (i j : ℕ) → IsRead (headed decimal (codes " ")) (IsHead IsSmall) text (Some (i, rest))
+    → IsRead (headed decimal (codes " ")) (IsHead IsSmall) rest (Some (j, last))
     → IsRead kind_text IsKind last None → IsRead task_text IsTask text None
 no_last text rest last i j a b bad =
     no_task text (no_second decimal IsSmall (codes " ") later ArePartsLater number_first text rest i a
     (no_second decimal IsSmall (codes " ") kind_text IsKind number_first rest last j b bad))
 
 pub task_read : (text rest last : List ℕ) (i j : ℕ) (k : PairKind) → IsRead (headed decimal (codes " ")) (IsHead IsSmall) text (Some (i, rest))
-    → IsRead (headed decimal (codes " ")) (IsHead IsSmall) rest (Some (j, last)) → IsRead kind_text IsKind last (Some k) → IsRead task_text IsTask text (Some (record { i = i; j = j; kind = k }))
+    → IsRead (headed decimal (codes " ")) (IsHead IsSmall) rest (Some (j, last)) → IsRead kind_text IsKind last (Some k)
+    → IsRead task_text IsTask text (Some (record { i = i; j = j; kind = k }))
 task_read text rest last i j k a b c =
-    let r = both_read decimal IsSmall (codes " ") later ArePartsLater text rest i (j, k) a (both_read decimal IsSmall (codes " ") kind_text IsKind rest last j k b c) in
+    let r = both_read decimal IsSmall (codes " ") later ArePartsLater text rest i (j, k) a
+    (both_read decimal IsSmall (codes " ") kind_text IsKind rest last j k b c) in
     (record { i = r.0.0; j = r.0.1.0 }, r.1)
 
 pub task_same : (s t : Task) → IsTask s → IsTask t → task_text s ≡ task_text t → s ≡ t
@@ -107,15 +112,19 @@ spread t rest = simp append_assoc
 none_behind : (text : List ℕ) → IsRead behind_i AreBehindI text None → IsRead (headed task_text (codes " ")) (IsHead IsTask) text None
 none_behind text bad = λ x h e. bad (x.0.i, (x.0.j, (x.0.kind, x.1))) (h.i, (h.j, tt)) (e ∙ spread x.0 x.1)
 
-pub no_i_then : (text : List ℕ) → IsRead (headed decimal (codes " ")) (IsHead IsSmall) text None → IsRead (headed task_text (codes " ")) (IsHead IsTask) text None
+pub no_i_then : (text : List ℕ) → IsRead (headed decimal (codes " ")) (IsHead IsSmall) text None
+    → IsRead (headed task_text (codes " ")) (IsHead IsTask) text None
 no_i_then text bad = none_behind text (no_first decimal IsSmall (codes " ") behind_j AreBehindJ text bad)
 
-pub no_j_then : (text rest : List ℕ) (i : ℕ) → IsRead (headed decimal (codes " ")) (IsHead IsSmall) text (Some (i, rest)) → IsRead (headed decimal (codes " ")) (IsHead IsSmall) rest None
+pub no_j_then : (text rest : List ℕ) (i : ℕ) → IsRead (headed decimal (codes " ")) (IsHead IsSmall) text (Some (i, rest))
+    → IsRead (headed decimal (codes " ")) (IsHead IsSmall) rest None
     → IsRead (headed task_text (codes " ")) (IsHead IsTask) text None
 no_j_then text rest i a bad =
-    none_behind text (no_second decimal IsSmall (codes " ") behind_j AreBehindJ number_first text rest i a (no_first decimal IsSmall (codes " ") behind_kind (IsHead IsKind) rest bad))
+    none_behind text (no_second decimal IsSmall (codes " ") behind_j AreBehindJ number_first text rest i a
+    (no_first decimal IsSmall (codes " ") behind_kind (IsHead IsKind) rest bad))
 
-pub no_kind_then : (text rest last : List ℕ) (i j : ℕ) → IsRead (headed decimal (codes " ")) (IsHead IsSmall) text (Some (i, rest)) → IsRead (headed decimal (codes " ")) (IsHead IsSmall) rest (Some (j, last))
+pub no_kind_then : (text rest last : List ℕ) (i j : ℕ) → IsRead (headed decimal (codes " ")) (IsHead IsSmall) text (Some (i, rest))
+    → IsRead (headed decimal (codes " ")) (IsHead IsSmall) rest (Some (j, last))
     → IsRead behind_kind (IsHead IsKind) last None → IsRead (headed task_text (codes " ")) (IsHead IsTask) text None
 no_kind_then text rest last i j a b bad =
     none_behind text (no_second decimal IsSmall (codes " ") behind_j AreBehindJ number_first text rest i a
@@ -125,7 +134,8 @@ pub task_then_read : (text rest last more : List ℕ) (i j : ℕ) (k : PairKind)
     → IsRead (headed decimal (codes " ")) (IsHead IsSmall) rest (Some (j, last)) → IsRead behind_kind (IsHead IsKind) last (Some (k, more))
     → IsRead (headed task_text (codes " ")) (IsHead IsTask) text (Some (record { i = i; j = j; kind = k }, more))
 task_then_read text rest last more i j k a b c =
-    let r = both_read decimal IsSmall (codes " ") behind_j AreBehindJ text rest i (j, (k, more)) a (both_read decimal IsSmall (codes " ") behind_kind (IsHead IsKind) rest last j (k, more) b c) in
+    let r = both_read decimal IsSmall (codes " ") behind_j AreBehindJ text rest i (j, (k, more)) a
+    (both_read decimal IsSmall (codes " ") behind_kind (IsHead IsKind) rest last j (k, more) b c) in
     (record { i = r.0.0; j = r.0.1.0 }, r.1 ∙ sym (spread (record { i = i; j = j; kind = k }) more))
 
 -- a task ends where a space stands behind its kind

@@ -97,7 +97,8 @@ is_stop names rest (Stop subject stop) e = ((subject, stop), refl, ap (drop 5) e
 
 -- ---- the exits of the readers
 
-pub normal_fails : (names : List (List ℕ)) (text rest : List ℕ) → text ≡ codes "normal " ++ rest → (f : SpellFault) → Reads (vector_text names) (IsVectorOf (length names)) rest (Err f)
+pub normal_fails : (names : List (List ℕ)) (text rest : List ℕ) → text ≡ codes "normal " ++ rest → (f : SpellFault)
+    → Reads (vector_text names) (IsVectorOf (length names)) rest (Err f)
     → Reads (verdict_text names) (IsVerdictOf (length names)) text (Err f)
 normal_fails names text rest is Spelling bad = λ v h e.
     let i = is_normal names rest v (sym is ∙ e) in
@@ -105,7 +106,8 @@ normal_fails names text rest is Spelling bad = λ v h e.
     bad i.0 (subst P i.1 h) i.2
 normal_fails names text rest is NoMemory bad = tt
 
-pub normal_read : (names : List (List ℕ)) (text rest : List ℕ) (v : List Term) → text ≡ codes "normal " ++ rest → Reads (vector_text names) (IsVectorOf (length names)) rest (Ok v)
+pub normal_read : (names : List (List ℕ)) (text rest : List ℕ) (v : List Term) → text ≡ codes "normal " ++ rest
+    → Reads (vector_text names) (IsVectorOf (length names)) rest (Ok v)
     → Reads (verdict_text names) (IsVerdictOf (length names)) text (Ok (Normal v))
 normal_read names text rest v is a = (a.0, is ∙ ap (λ (t : List ℕ). codes "normal " ++ t) a.1)
 
@@ -144,10 +146,13 @@ no_stop_subject names text bad = no_stop names text (no_first decimal IsSmall (c
 
 pub no_stop_reason : (names : List (List ℕ)) (text rest : List ℕ) (j : ℕ) → IsRead (headed decimal (codes " ")) (IsHead IsSmall) text (Some (j, rest))
     → IsRead (stop_text names) (IsStopOf (length names)) rest None → IsRead (verdict_text names) (IsVerdictOf (length names)) (codes "stop " ++ text) None
-no_stop_reason names text rest j a bad = no_stop names text (no_second decimal IsSmall (codes " ") (stop_text names) (IsStopOf (length names)) number_first text rest j a bad)
+no_stop_reason names text rest j a bad = no_stop names text (no_second decimal IsSmall (codes " ") (stop_text names) (IsStopOf (length names)) number_first
+    text rest j a bad)
 
-pub stop_read : (names : List (List ℕ)) (text rest : List ℕ) (j : ℕ) (stop : stops.Stop) → IsRead (headed decimal (codes " ")) (IsHead IsSmall) text (Some (j, rest))
-    → IsRead (stop_text names) (IsStopOf (length names)) rest (Some stop) → IsRead (verdict_text names) (IsVerdictOf (length names)) (codes "stop " ++ text) (Some (Stop j stop))
+pub stop_read : (names : List (List ℕ)) (text rest : List ℕ) (j : ℕ) (stop : stops.Stop)
+    → IsRead (headed decimal (codes " ")) (IsHead IsSmall) text (Some (j, rest))
+    → IsRead (stop_text names) (IsStopOf (length names)) rest (Some stop)
+    → IsRead (verdict_text names) (IsVerdictOf (length names)) (codes "stop " ++ text) (Some (Stop j stop))
 stop_read names text rest j stop a b =
     let r = both_read decimal IsSmall (codes " ") (stop_text names) (IsStopOf (length names)) text rest j stop a b in
     (r.0, ap (λ (t : List ℕ). codes "stop " ++ t) r.1)
@@ -165,7 +170,8 @@ no_verdict names text trivial other extends normal fails unknown stop (Stop j s)
 
 -- ---- a text is that of one verdict
 
-pub verdict_same : (names : List (List ℕ)) → AreNames names → (v w : Verdict) → IsVerdictOf (length names) v → IsVerdictOf (length names) w → verdict_text names v ≡ verdict_text names w → v ≡ w
+pub verdict_same : (names : List (List ℕ)) → AreNames names → (v w : Verdict) → IsVerdictOf (length names) v → IsVerdictOf (length names) w
+    → verdict_text names v ≡ verdict_text names w → v ≡ w
 verdict_same names known Trivial w h k e = sym (is_trivial names w e)
 verdict_same names known NotTrivial w h k e = sym (is_not_trivial names w e)
 verdict_same names known (Normal v) w h k e =
@@ -184,5 +190,6 @@ verdict_same names known (Unknown j) w h k e =
 verdict_same names known (Stop j s) w h k e =
     let i = is_stop names (stopped_text names (j, s)) w e in
     let P : Verdict → Type 0 = IsVerdictOf (length names) in
-    let a = pair_same decimal IsSmall (codes " ") (stop_text names) (IsStopOf (length names)) number_first (λ x y p q g. stop_same names known x y p q g) (j, s) i.0 h (subst P i.1 k) i.2 in
+    let a = pair_same decimal IsSmall (codes " ") (stop_text names) (IsStopOf (length names)) number_first (λ x y p q g. stop_same names known x y p q g) (j, s)
+    i.0 h (subst P i.1 k) i.2 in
     (λ x. Stop (a.0 x) (a.1 x)) ∙ sym i.1

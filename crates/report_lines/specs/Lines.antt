@@ -110,10 +110,12 @@ VerdictIsOver n (verdicts.Stop subject stop) = StopIsOver n stop
 abbrev pub LineIsOver : Presented → Line → Type 0
 LineIsOver p (lines.Entry number made vector) = MadeIsOver (length p.names) made × VectorIsOver (length p.names) vector
 LineIsOver p lines.Seal = Unit {0}
-LineIsOver p (lines.Live session number front question verdict) = IsQuestion p question × VerdictIsOver (length p.names) verdict
+LineIsOver p (lines.Live session number front question verdict) =
+    IsQuestion p question × VerdictIsOver (length p.names) verdict
 LineIsOver p (lines.Proof subject steps) = StepsAreOver (length p.names) steps
 LineIsOver p (lines.End end) = EndIsOver (length p.names) end
-LineIsOver p (lines.Close session number question verdict) = IsQuestion p question × VerdictIsOver (length p.names) verdict
+LineIsOver p (lines.Close session number question verdict) = IsQuestion p question
+    × VerdictIsOver (length p.names) verdict
 LineIsOver p lines.Done = Unit {0}
 
 -- ---- what is read: the values with numbers of at most 2^32 - 1
@@ -162,10 +164,13 @@ pub record IsAnswer (p : Presented) (q : Question) (v : Verdict) : Type 0 where
 
 -- a line of a report over p; that the images of a homomorphism are short is another rule
 abbrev pub IsLineOf : Presented → Line → Type 0
-IsLineOf p (lines.Entry number made vector) = IsSmall number × (IsMadeOf (length p.names) made × IsVectorOf (length p.names) vector)
+IsLineOf p (lines.Entry number made vector) = IsSmall number
+    × (IsMadeOf (length p.names) made × IsVectorOf (length p.names) vector)
 IsLineOf p lines.Seal = Unit {0}
-IsLineOf p (lines.Live session number front question verdict) = IsSmall session × (IsSmall number × (IsSmall front × IsAnswer p question verdict))
+IsLineOf p (lines.Live session number front question verdict) = IsSmall session
+    × (IsSmall number × (IsSmall front × IsAnswer p question verdict))
 IsLineOf p (lines.Proof subject steps) = IsSmall subject × AreStepsOf (length p.names) steps
 IsLineOf p (lines.End end) = IsEndOf (length p.names) end
-IsLineOf p (lines.Close session number question verdict) = IsSmall session × (IsSmall number × IsAnswer p question verdict)
+IsLineOf p (lines.Close session number question verdict) = IsSmall session
+    × (IsSmall number × IsAnswer p question verdict)
 IsLineOf p lines.Done = Unit {0}

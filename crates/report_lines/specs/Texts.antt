@@ -87,7 +87,8 @@ line_text p (lines.Entry number made vector) =
     codes "entry " ++ spaced (decimal number) (coloned (made_text p.names made) (vector_text p.names vector))
 line_text p lines.Seal = codes "seal"
 line_text p (lines.Live session number front question verdict) =
-    codes "live " ++ spaced (decimal session) (spaced (decimal number) (spaced (decimal front) (answer_text p.names question verdict)))
+    codes "live " ++ spaced (decimal session) (spaced (decimal number)
+    (spaced (decimal front) (answer_text p.names question verdict)))
 line_text p (lines.Proof subject steps) = codes "proof " ++ spaced (decimal subject) (steps_text p.names steps)
 line_text p (lines.End end) = codes "end " ++ end_text p.names end
 line_text p (lines.Close session number question verdict) =

@@ -76,7 +76,8 @@ fn read_measure(text: &[u8]) -> Option<Measure>
 }
 
 fn measure_then(text: &[u8]) -> Option<(Measure, &[u8])>
-    ensures { IsRead (headed measure_text (codes " ")) (IsHead IsMeasure) text.now (option_map (λ x. (x.0, x.1.now)) result) }
+    ensures { IsRead (headed measure_text (codes " ")) (IsHead IsMeasure) text.now
+        (option_map (λ x. (x.0, x.1.now)) result) }
 {
     let (front, rest) = cut(text, b' ')?;
     let measure = read_measure(front)?;

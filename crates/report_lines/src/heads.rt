@@ -14,7 +14,8 @@ pub fn is_title(text: &[u8]) -> bool
     text == b"metab report 1".as_slice()
 }
 
-/// Whether the text is the second line of a report over this presentation: `pres `, and the presentation as it is written.
+/// Whether the text is the second line of a report over this presentation: `pres `, and the presentation as it is
+/// written.
 pub fn is_pres_line(alloc: Global, p: &Presentation, text: &[u8]) -> Result<bool, AllocError>
     ensures { IfOk result (λ same. IsTrue same ↔ (text.now ≡ pres_line p.now)) }
 {

@@ -9,7 +9,8 @@ ghost use Rattle.report_lines.specs.Lines.{LineIsOver, IsLineOf};
 /// A text is that of one line.
 #[tactic(auto, using(crate::proofs::ReadingBack::one_line))]
 pub fn one_line()
-    ensures { (p : Presented) (l m : Line) → IsPresented p → IsLineOf p l → IsLineOf p m → line_text p l ≡ line_text p m → l ≡ m }
+    ensures { (p : Presented) (l m : Line) → IsPresented p → IsLineOf p l → IsLineOf p m
+        → line_text p l ≡ line_text p m → l ≡ m }
 {}
 
 /// A line that is read can be written.

@@ -1,8 +1,8 @@
 //! The lines of a report: a type for each of them, and their one spelling.
 //!
-//! A report says how completion went and what was answered: the entries with their recipes, the answers with their proofs,
-//! and the end. Here a line is taken by itself, without its line end, over the presentation of the report. Which lines may
-//! follow which, and whether they hold, is said elsewhere.
+//! A report says how completion went and what was answered: the entries with their recipes, the answers with their
+//! proofs, and the end. Here a line is taken by itself, without its line end, over the presentation of the report.
+//! Which lines may follow which, and whether they hold, is said elsewhere.
 #![tactic(auto)]
 
 mod answers;

@@ -27,8 +27,8 @@ pub enum Line {
     },
     /// No entry follows: the list is complete.
     Seal,
-    /// What is answered to a question after `front` entries and seals. Sessions, and the questions of each, are numbered
-    /// from 1.
+    /// What is answered to a question after `front` entries and seals. Sessions, and the questions of each, are
+    /// numbered from 1.
     Live {
         session: u32,
         number: u32,

@@ -17,7 +17,8 @@ pub fn number_then(text: &[u8]) -> Option<(u32, &[u8])>
 
 /// What stands before the first colon, and what stands behind it; there is a space on each side of the colon.
 pub fn around_colon(text: &[u8]) -> Option<(&[u8], &[u8])>
-    ensures { IsRead (headed itself (codes " : ")) (IsHead HasNoColon) text.now (option_map (λ x. (x.0.now, x.1.now)) result) }
+    ensures { IsRead (headed itself (codes " : ")) (IsHead HasNoColon) text.now
+        (option_map (λ x. (x.0.now, x.1.now)) result) }
 {
     let (front, rest) = cut(text, b':')?;
     let before = front.strip_suffix(b" ")?;
@@ -27,7 +28,8 @@ pub fn around_colon(text: &[u8]) -> Option<(&[u8], &[u8])>
 
 /// What stands in the text behind the word, where the text begins with it.
 pub fn behind<'a>(text: &'a [u8], word: &[u8]) -> Option<&'a [u8]>
-    ensures { MatchOption result ((rest : List ℕ) → text.now ≡ word.now ++ rest → ⊥) (λ rest. text.now ≡ word.now ++ rest.now) }
+    ensures { MatchOption result ((rest : List ℕ) → text.now ≡ word.now ++ rest
+        → ⊥) (λ rest. text.now ≡ word.now ++ rest.now) }
 {
     text.strip_prefix(word)
 }

@@ -104,7 +104,8 @@ pub fn put_generator(
     vector: &ModVec,
 ) -> Result<(), AllocError>
     requires { VectorIsOver (length p.now.names) vector.now }
-    ensures { OnOk result (out.new.items ≡ out.old.items ++ line_text p.now (lines.Entry number (Gen negated) vector.now)) }
+    ensures { OnOk result (out.new.items ≡ out.old.items ++ line_text p.now
+        (lines.Entry number (Gen negated) vector.now)) }
 {
     out.extend_from_slice(b"entry ")?;
     write_number(out, number)?;
@@ -124,7 +125,8 @@ pub fn put_sum(
 ) -> Result<(), AllocError>
     requires steps { StepsAreOver (length p.now.names) steps.now }
     requires vector { VectorIsOver (length p.now.names) vector.now }
-    ensures { OnOk result (out.new.items ≡ out.old.items ++ line_text p.now (lines.Entry number (Sum steps.now) vector.now)) }
+    ensures { OnOk result (out.new.items ≡ out.old.items ++ line_text p.now
+        (lines.Entry number (Sum steps.now) vector.now)) }
 {
     out.extend_from_slice(b"entry ")?;
     write_number(out, number)?;
@@ -146,7 +148,8 @@ pub fn put_live(
 ) -> Result<(), AllocError>
     requires question { IsQuestion p.now question.now }
     requires verdict { VerdictIsOver (length p.now.names) verdict.now }
-    ensures { OnOk result (out.new.items ≡ out.old.items ++ line_text p.now (lines.Live at.session at.number front question.now verdict.now)) }
+    ensures { OnOk result (out.new.items ≡ out.old.items ++ line_text p.now
+        (lines.Live at.session at.number front question.now verdict.now)) }
 {
     put_word_and_numbers(out, b"live ", at)?;
     write_number(out, front)?;
@@ -190,7 +193,8 @@ pub fn put_closing(
 ) -> Result<(), AllocError>
     requires question { IsQuestion p.now question.now }
     requires verdict { VerdictIsOver (length p.now.names) verdict.now }
-    ensures { OnOk result (out.new.items ≡ out.old.items ++ line_text p.now (lines.Close at.session at.number question.now verdict.now)) }
+    ensures { OnOk result (out.new.items ≡ out.old.items ++ line_text p.now
+        (lines.Close at.session at.number question.now verdict.now)) }
 {
     put_word_and_numbers(out, b"close ", at)?;
     put_answer(alloc, out, p, question, verdict)
@@ -202,7 +206,8 @@ fn put_word_and_numbers(
     word: &[u8],
     at: QuestionNumber,
 ) -> Result<(), AllocError>
-    ensures { OnOk result (out.new.items ≡ out.old.items ++ (word.now ++ (decimal at.session ++ (codes " " ++ (decimal at.number ++ codes " "))))) }
+    ensures { OnOk result (out.new.items ≡ out.old.items ++ (word.now
+        ++ (decimal at.session ++ (codes " " ++ (decimal at.number ++ codes " "))))) }
 {
     out.extend_from_slice(word)?;
     write_number(out, at.session)?;

@@ -15,7 +15,8 @@ use Rattle.report_reading.proofs.LineBytes.{head_line}
 use Rattle.report_reading.proofs.Excluding.{some_same, none_some, first_cut, append_nothing, title_cut}
 
 -- the text of lines is that of no others, and so tells one thing
-one_told : (p : Presented) → IsPresented p → (s t u : Told) (text : List ℕ) (ls ms : List Line) → AllByRecursion (IsLineOf p) ls → AllByRecursion (IsLineOf p) ms → Tell s ls t → Tell s ms u
+one_told : (p : Presented) → IsPresented p → (s t u : Told) (text : List ℕ) (ls ms : List Line) → AllByRecursion (IsLineOf p) ls
+    → AllByRecursion (IsLineOf p) ms → Tell s ls t → Tell s ms u
     → text ≡ lines_text p ls ++ [] → text ≡ lines_text p ms ++ [] → t ≡ u
 one_told p known s t u text [] [] vl vm tl tm is was = sym tl ∙ tm
 one_told p known s t u text [] (m ∷ ms) vl vm tl tm is was = absurd (none_some (ap (cut 10) (sym is) ∙ first_cut p known text m ms [] vm.0 was))
@@ -28,8 +29,10 @@ one_told p known s t u text (l ∷ ls) (m ∷ ms) vl vm tl tm is was =
 -- two texts behind the same head
 behind_head : (p : Presented) → IsPresented p → (ls ms : List Line) → report_text p ls ≡ report_text p ms → lines_text p ls ≡ lines_text p ms
 behind_head p known ls ms is =
-    let front = ap (λ x. x.1) (some_same (sym (title_cut (report_text p ls) (pres_line p ++ 10 ∷ lines_text p ls) refl) ∙ title_cut (report_text p ls) (pres_line p ++ 10 ∷ lines_text p ms) is)) in
-    ap (λ x. x.1) (some_same (sym (cut_here 10 (pres_line p) (lines_text p ls) (head_line p known)) ∙ (ap (cut 10) front ∙ cut_here 10 (pres_line p) (lines_text p ms) (head_line p known))))
+    let front = ap (λ x. x.1) (some_same (sym (title_cut (report_text p ls) (pres_line p ++ 10 ∷ lines_text p ls) refl)
+    ∙ title_cut (report_text p ls) (pres_line p ++ 10 ∷ lines_text p ms) is)) in
+    ap (λ x. x.1) (some_same (sym (cut_here 10 (pres_line p) (lines_text p ls) (head_line p known))
+    ∙ (ap (cut 10) front ∙ cut_here 10 (pres_line p) (lines_text p ms) (head_line p known))))
 
 one_says : (t : Told) (d e : ReportData) → IsDataOf t d → IsDataOf t e → d ≡ e
 one_says t d e a b =
@@ -45,6 +48,7 @@ pub one_data : (p : Presented) (text : List ℕ) (d e : ReportData) → IsPresen
 one_data p text d e known a b =
     let bodies : lines_text p a.ls ≡ lines_text p b.ls = behind_head p known a.ls b.ls (sym a.spelled ∙ b.spelled) in
     let same : a.told ≡ b.told =
-    one_told p known nothing a.told b.told (lines_text p a.ls) a.ls b.ls a.begins.valid b.begins.valid a.begins.tells b.begins.tells (append_nothing (lines_text p a.ls))
+    one_told p known nothing a.told b.told (lines_text p a.ls) a.ls b.ls a.begins.valid b.begins.valid a.begins.tells b.begins.tells
+    (append_nothing (lines_text p a.ls))
     (bodies ∙ append_nothing (lines_text p b.ls)) in
     one_says b.told d e (subst (λ t. IsDataOf t d) same a.says) b.says

@@ -22,7 +22,8 @@ pub none_some : {X : Type 0} {x : X} → None ≡ Some x → ⊥
 none_some e = cc
 
 -- the first line of some lines
-pub first_cut : (p : Presented) → IsPresented p → (text : List ℕ) (l : Line) (ls : List Line) (rest : List ℕ) → IsLineOf p l → text ≡ lines_text p (l ∷ ls) ++ rest
+pub first_cut : (p : Presented) → IsPresented p → (text : List ℕ) (l : Line) (ls : List Line) (rest : List ℕ) → IsLineOf p l
+    → text ≡ lines_text p (l ∷ ls) ++ rest
     → cut 10 text ≡ Some (line_text p l, lines_text p ls ++ rest)
 first_cut p known text l ls rest valid is =
     ap (cut 10) (is
@@ -47,7 +48,8 @@ no_fault p known s t u text (l ∷ ls) [] rest d vl vm tl tm is says was fails =
 no_fault p known s t u text (l ∷ ls) (m ∷ ms) rest d vl vm tl tm is says was fails =
     let same = some_same (sym (first_cut p known text l ls [] vl.0 is) ∙ first_cut p known text m ms rest vm.0 was) in
     let one : l ≡ m = one_line p l m known vl.0 vm.0 (ap (λ x. x.0) same) in
-    no_fault p known (tell s l) t u (lines_text p ls ++ []) ls ms rest d vl.1 vm.1 tl.1 (subst (λ x. Tell (tell s x) ms u) (sym one) tm.1) refl says (ap (λ x. x.1) same) fails
+    no_fault p known (tell s l) t u (lines_text p ls ++ []) ls ms rest d vl.1 vm.1 tl.1 (subst (λ x. Tell (tell s x) ms u) (sym one) tm.1) refl says
+    (ap (λ x. x.1) same) fails
 
 pub append_nothing : (xs : List ℕ) → xs ≡ xs ++ []
 append_nothing [] = refl
@@ -67,8 +69,11 @@ excluded p text d _ known report (at_presentation others is other) =
     ap (λ x. x.1) (some_same (sym (title_cut text others is) ∙ title_cut text (pres_line p ++ 10 ∷ lines_text p report.ls) report.spelled)) in
     subst (IsOther (pres_line p)) (ap (cut 10) same ∙ cut_here 10 (pres_line p) (lines_text p report.ls) (head_line p known)) other refl
 excluded p text d _ known report (behind n body is stands) =
-    let front = ap (λ x. x.1) (some_same (sym (title_cut text (pres_line p ++ 10 ∷ body) is) ∙ title_cut text (pres_line p ++ 10 ∷ lines_text p report.ls) report.spelled)) in
+    let front = ap (λ x. x.1) (some_same (sym (title_cut text (pres_line p ++ 10 ∷ body) is)
+    ∙ title_cut text (pres_line p ++ 10 ∷ lines_text p report.ls) report.spelled)) in
     let same : body ≡ lines_text p report.ls =
-    ap (λ x. x.1) (some_same (sym (cut_here 10 (pres_line p) body (head_line p known)) ∙ (ap (cut 10) front ∙ cut_here 10 (pres_line p) (lines_text p report.ls) (head_line p known)))) in
-    no_fault p known nothing report.told stands.told body report.ls stands.ls stands.rest d report.begins.valid stands.begins.valid report.begins.tells stands.begins.tells
+    ap (λ x. x.1) (some_same (sym (cut_here 10 (pres_line p) body (head_line p known))
+    ∙ (ap (cut 10) front ∙ cut_here 10 (pres_line p) (lines_text p report.ls) (head_line p known)))) in
+    no_fault p known nothing report.told stands.told body report.ls stands.ls stands.rest d report.begins.valid stands.begins.valid report.begins.tells
+    stands.begins.tells
     (same ∙ append_nothing (lines_text p report.ls)) report.says stands.spelled stands.fails

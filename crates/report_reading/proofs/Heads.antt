@@ -23,7 +23,8 @@ behind_line wanted text line others cuts is = cut_joins 10 text line others cuts
 pub no_presentation : (p : Presented) (text others : List ℕ) → text ≡ title ++ 10 ∷ others → cut 10 others ≡ None → IsFirstFault p text 2
 no_presentation p text others is none = IsFirstFault.at_presentation others is (subst (IsOther (pres_line p)) (sym none) tt)
 
-pub other_presentation : (p : Presented) (text others second body : List ℕ) → text ≡ title ++ 10 ∷ others → cut 10 others ≡ Some (second, body) → second ≢ pres_line p
+pub other_presentation : (p : Presented) (text others second body : List ℕ) → text ≡ title ++ 10 ∷ others → cut 10 others ≡ Some (second, body)
+    → second ≢ pres_line p
     → IsFirstFault p text 2
 other_presentation p text others second body is cuts other = IsFirstFault.at_presentation others is (subst (IsOther (pres_line p)) (sym cuts) other)
 
@@ -35,7 +36,8 @@ pub head_fails : (p : Presented) (text : List ℕ) (e : ReportFault) → HeadFai
 head_fails p text (AtLine n) h = h
 head_fails p text NoMemory h = tt
 
-pub whole : (p : Presented) (text body : List ℕ) (r : Result ReportData ReportFault) → text ≡ title ++ 10 ∷ (pres_line p ++ 10 ∷ body) → AnswersBody p body r → Answers p text r
+pub whole : (p : Presented) (text body : List ℕ) (r : Result ReportData ReportFault) → text ≡ title ++ 10 ∷ (pres_line p ++ 10 ∷ body) → AnswersBody p body r
+    → Answers p text r
 whole p text body (Ok d) is b = record {
   ls = b.ls;
   told = b.told;

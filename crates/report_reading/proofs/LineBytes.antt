@@ -35,7 +35,8 @@ use Rattle.report_lines.specs.declared.lines.Made.{Made}
 use Rattle.report_lines.specs.declared.lines.Made.TheVariants.{Gen, Sum}
 use Rattle.report_lines.specs.declared.lines.Line.{Line}
 use Rattle.report_lines.specs.declared.lines.Line.TheVariants as lines
-use Rattle.report_lines.specs.Texts.{pres_line, spaced, coloned, made_text, stop_text, kind_text, task_text, measure_text, end_text, verdict_text, answer_text, line_text}
+use Rattle.report_lines.specs.Texts.{pres_line, spaced, coloned, made_text, stop_text, kind_text, task_text, measure_text, end_text, verdict_text, answer_text}
+use Rattle.report_lines.specs.Texts.{line_text}
 use Rattle.report_lines.specs.Lines.{IsStopOf, IsMadeOf, IsTask, IsEndOf, IsVerdictOf, IsAnswer, IsLineOf}
 use Rattle.report_lines.proofs.Pairs.{literal}
 use Rattle.report_reading.proofs.WordBytes.{IsOneLine, number_line, join_line, presentation_line, question_line}
@@ -65,7 +66,8 @@ kind_line G = (refl, tt)
 kind_line S = (refl, tt)
 
 task_line : (t : Task) → IsTask t → IsOneLine (task_text t)
-task_line t h = spaced_line (decimal t.i) (spaced (decimal t.j) (kind_text t.kind)) (small_line t.i h.i) (spaced_line (decimal t.j) (kind_text t.kind) (small_line t.j h.j) (kind_line t.kind))
+task_line t h = spaced_line (decimal t.i) (spaced (decimal t.j) (kind_text t.kind)) (small_line t.i h.i)
+    (spaced_line (decimal t.j) (kind_text t.kind) (small_line t.j h.j) (kind_line t.kind))
 
 measure_line : (m : Measure) → IsOneLine (measure_text m)
 measure_line measures.Entries = literal 10 (codes "entries") refl
@@ -89,7 +91,8 @@ module _ (names : List (List ℕ)) (known : AreNames names) where
 
   steps_line : (ss : List Step) → AreStepsOf (length names) ss → IsOneLine (steps_text names ss)
   steps_line [] h = (refl, tt)
-  steps_line (s ∷ ss) h = listed_lacks 10 32 (step_text names) (s ∷ ss) (λ e. omega (arith, e)) (all_weaker (s ∷ ss) (λ x q. step_lacks 10 names outside known x q) h)
+  steps_line (s ∷ ss) h = listed_lacks 10 32 (step_text names) (s ∷ ss) (λ e. omega (arith, e))
+      (all_weaker (s ∷ ss) (λ x q. step_lacks 10 names outside known x q) h)
 
   made_line : (m : Made) → IsMadeOf (length names) m → IsOneLine (made_text names m)
   made_line (Gen true) h = literal 10 (codes "gen -") refl
@@ -99,20 +102,25 @@ module _ (names : List (List ℕ)) (known : AreNames names) where
   stop_line : (s : Stop) → IsStopOf (length names) s → IsOneLine (stop_text names s)
   stop_line (stops.Wide at step) h =
       join_line (codes "wide ") (spaced (decimal step) (place_text names at)) (literal 10 (codes "wide ") refl)
-      (spaced_line (decimal step) (place_text names at) (small_line step h.1) (place_lacks 10 names at outside.other outside.point (λ e. omega (arith, e)) known h.0))
+      (spaced_line (decimal step) (place_text names at) (small_line step h.1) (place_lacks 10 names at outside.other outside.point
+      (λ e. omega (arith, e)) known h.0))
   stop_line (stops.Long terms step) h =
-      join_line (codes "long ") (spaced (decimal step) (decimal terms)) (literal 10 (codes "long ") refl) (spaced_line (decimal step) (decimal terms) (small_line step h.1) (small_line terms h.0))
+      join_line (codes "long ") (spaced (decimal step) (decimal terms)) (literal 10 (codes "long ") refl)
+      (spaced_line (decimal step) (decimal terms) (small_line step h.1) (small_line terms h.0))
   stop_line stops.Deep h = literal 10 (codes "deep") refl
   stop_line (stops.Steep degree) h = join_line (codes "steep ") (decimal degree) (literal 10 (codes "steep ") refl) (small_line degree h)
 
   end_line : (e : End) → IsEndOf (length names) e → IsOneLine (end_text names e)
   end_line ends.Sealed h = literal 10 (codes "sealed") refl
   end_line (ends.Stopped task stop) h =
-      join_line (codes "stopped ") (spaced (task_text task) (stop_text names stop)) (literal 10 (codes "stopped ") refl) (spaced_line (task_text task) (stop_text names stop) (task_line task h.0) (stop_line stop h.1))
+      join_line (codes "stopped ") (spaced (task_text task) (stop_text names stop)) (literal 10 (codes "stopped ") refl)
+      (spaced_line (task_text task) (stop_text names stop) (task_line task h.0) (stop_line stop h.1))
   end_line (ends.Full measure count) h =
-      join_line (codes "full ") (spaced (measure_text measure) (decimal count)) (literal 10 (codes "full ") refl) (spaced_line (measure_text measure) (decimal count) (measure_line measure) (small_line count h))
+      join_line (codes "full ") (spaced (measure_text measure) (decimal count)) (literal 10 (codes "full ") refl)
+      (spaced_line (measure_text measure) (decimal count) (measure_line measure) (small_line count h))
   end_line (ends.Spent commits task) h =
-      join_line (codes "spent ") (spaced (decimal commits) (task_text task)) (literal 10 (codes "spent ") refl) (spaced_line (decimal commits) (task_text task) (small_line commits h.0) (task_line task h.1))
+      join_line (codes "spent ") (spaced (decimal commits) (task_text task)) (literal 10 (codes "spent ") refl)
+      (spaced_line (decimal commits) (task_text task) (small_line commits h.0) (task_line task h.1))
 
   verdict_line : (v : Verdict) → IsVerdictOf (length names) v → IsOneLine (verdict_text names v)
   verdict_line verdicts.Trivial h = literal 10 (codes "trivial") refl
@@ -122,25 +130,31 @@ module _ (names : List (List ℕ)) (known : AreNames names) where
   verdict_line (verdicts.Fails j) h = join_line (codes "fails ") (decimal j) (literal 10 (codes "fails ") refl) (small_line j h)
   verdict_line (verdicts.Unknown j) h = join_line (codes "unknown ") (decimal j) (literal 10 (codes "unknown ") refl) (small_line j h)
   verdict_line (verdicts.Stop j stop) h =
-      join_line (codes "stop ") (spaced (decimal j) (stop_text names stop)) (literal 10 (codes "stop ") refl) (spaced_line (decimal j) (stop_text names stop) (small_line j h.0) (stop_line stop h.1))
+      join_line (codes "stop ") (spaced (decimal j) (stop_text names stop)) (literal 10 (codes "stop ") refl)
+      (spaced_line (decimal j) (stop_text names stop) (small_line j h.0) (stop_line stop h.1))
 
 module _ (p : Presented) (known : IsPresented p) where
   answer_line : (q : Question) (v : Verdict) → IsAnswer p q v → IsOneLine (answer_text p.names q v)
-  answer_line q v h = coloned_line (written_question p.names q) (verdict_text p.names v) (question_line p known q h.question) (verdict_line p.names (names_of p known) v h.verdict)
+  answer_line q v h = coloned_line (written_question p.names q) (verdict_text p.names v) (question_line p known q h.question)
+      (verdict_line p.names (names_of p known) v h.verdict)
 
   pub whole_line : (l : Line) → IsLineOf p l → IsOneLine (line_text p l)
   whole_line (lines.Entry number made vector) h =
       join_line (codes "entry ") (spaced (decimal number) (coloned (made_text p.names made) (vector_text p.names vector))) (literal 10 (codes "entry ") refl)
       (spaced_line (decimal number) (coloned (made_text p.names made) (vector_text p.names vector)) (small_line number h.0)
-      (coloned_line (made_text p.names made) (vector_text p.names vector) (made_line p.names (names_of p known) made h.1.0) (vector_line p.names (names_of p known) vector h.1.1)))
+      (coloned_line (made_text p.names made) (vector_text p.names vector) (made_line p.names (names_of p known) made h.1.0)
+      (vector_line p.names (names_of p known) vector h.1.1)))
   whole_line lines.Seal h = literal 10 (codes "seal") refl
   whole_line (lines.Live session number front question verdict) h =
       let answer : IsOneLine (answer_text p.names question verdict) = answer_line question verdict h.1.1.1 in
-      let from : IsOneLine (spaced (decimal front) (answer_text p.names question verdict)) = spaced_line (decimal front) (answer_text p.names question verdict) (small_line front h.1.1.0) answer in
+      let from : IsOneLine (spaced (decimal front) (answer_text p.names question verdict)) =
+      spaced_line (decimal front) (answer_text p.names question verdict) (small_line front h.1.1.0) answer in
       let numbered : IsOneLine (spaced (decimal number) (spaced (decimal front) (answer_text p.names question verdict))) =
       spaced_line (decimal number) (spaced (decimal front) (answer_text p.names question verdict)) (small_line number h.1.0) from in
-      join_line (codes "live ") (spaced (decimal session) (spaced (decimal number) (spaced (decimal front) (answer_text p.names question verdict)))) (literal 10 (codes "live ") refl)
-      (spaced_line (decimal session) (spaced (decimal number) (spaced (decimal front) (answer_text p.names question verdict))) (small_line session h.0) numbered)
+      join_line (codes "live ") (spaced (decimal session) (spaced (decimal number) (spaced (decimal front) (answer_text p.names question verdict))))
+      (literal 10 (codes "live ") refl)
+      (spaced_line (decimal session) (spaced (decimal number) (spaced (decimal front) (answer_text p.names question verdict)))
+      (small_line session h.0) numbered)
   whole_line (lines.Proof subject steps) h =
       join_line (codes "proof ") (spaced (decimal subject) (steps_text p.names steps)) (literal 10 (codes "proof ") refl)
       (spaced_line (decimal subject) (steps_text p.names steps) (small_line subject h.0) (steps_line p.names (names_of p known) steps h.1))

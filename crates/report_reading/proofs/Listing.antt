@@ -22,7 +22,8 @@ tell_more s t u [] l is follows made = (subst (λ x. MayFollow x l) (sym is) fol
 tell_more s t u (m ∷ ls) l told follows made = (told.0, tell_more (tell s m) t u ls l told.1 follows made)
 
 -- one more line behind the others
-text_more : (p : Presented) (ls : List Line) (l : Line) (others : List ℕ) → lines_text p (ls ++ l ∷ []) ++ others ≡ lines_text p ls ++ (line_text p l ++ 10 ∷ others)
+text_more : (p : Presented) (ls : List Line) (l : Line) (others : List ℕ) → lines_text p (ls ++ l ∷ []) ++ others
+    ≡ lines_text p ls ++ (line_text p l ++ 10 ∷ others)
 text_more p [] l others =
     append_assoc (line_text p l ++ 10 ∷ []) [] others ∙ append_assoc (line_text p l) (10 ∷ []) others
 text_more p (m ∷ ls) l others =
@@ -47,7 +48,8 @@ pub record IsLeft (p : Presented) (text : List ℕ) (n : ℕ) (t : Told) (rest :
 pub left_all : (p : Presented) (text : List ℕ) (t : Told) → t ≡ nothing → IsLeft p text 3 t text
 left_all p text t is = record { ls = []; begins = record { valid = tt; tells = sym is }; spelled = refl; number = refl }
 
-pub left_others : (p : Presented) (text : List ℕ) (n m : ℕ) (t u : Told) (rest line others : List ℕ) → IsLeft p text n t rest → cut 10 rest ≡ Some (line, others)
+pub left_others : (p : Presented) (text : List ℕ) (n m : ℕ) (t u : Told) (rest line others : List ℕ) → IsLeft p text n t rest
+    → cut 10 rest ≡ Some (line, others)
     → IsTaken p t line u → m ≡ min (n + 1) 4294967295 → IsLeft p text m u others
 left_others p text n m t u rest line others left cuts taken next =
     let joined : rest ≡ line_text p taken.line ++ 10 ∷ others = cut_joins 10 rest line others cuts ∙ ap (λ x. x ++ 10 ∷ others) taken.spelled in
@@ -89,7 +91,8 @@ append_nothing : (xs : List ℕ) → xs ++ [] ≡ xs
 append_nothing [] = refl
 append_nothing (x ∷ xs) = ap (λ ys. x ∷ ys) (append_nothing xs)
 
-pub is_body : (p : Presented) (text : List ℕ) (n : ℕ) (t : Told) (rest : List ℕ) (d : ReportData) → IsLeft p text n t rest → rest ≡ [] → IsDataOf t d → IsBody p text d
+pub is_body : (p : Presented) (text : List ℕ) (n : ℕ) (t : Told) (rest : List ℕ) (d : ReportData) → IsLeft p text n t rest → rest ≡ [] → IsDataOf t d
+    → IsBody p text d
 is_body p text n t rest d left empty says = record {
   ls = left.ls;
   told = t;

@@ -13,15 +13,18 @@ use Rattle.report_reading.specs.Telling.{Told, MayFollow, IsNextOpen, with_proof
 use Rattle.report_reading.specs.Reading.{TakesLine, TakesBytes}
 
 -- the last reply gets one more proof
-pub proof_behind : (steps : List Step) (rs : List ReplyData) (r : ReplyData) → with_proof steps (rs ++ r ∷ []) ≡ rs ++ record r { proofs = r.proofs ++ steps ∷ [] } ∷ []
+pub proof_behind : (steps : List Step) (rs : List ReplyData) (r : ReplyData)
+    → with_proof steps (rs ++ r ∷ []) ≡ rs ++ record r { proofs = r.proofs ++ steps ∷ [] } ∷ []
 proof_behind steps [] r = refl
 proof_behind steps (s ∷ []) r = refl
 proof_behind steps (s ∷ t ∷ rs) r = ap (λ l. s ∷ l) (proof_behind steps (t ∷ rs) r)
 
-pub proof_put : (steps : List Step) (old rest new : List ReplyData) (r : ReplyData) (proofs : List (List Step)) → old ≡ rest ++ r ∷ [] → proofs ≡ r.proofs ++ steps ∷ []
+pub proof_put : (steps : List Step) (old rest new : List ReplyData) (r : ReplyData) (proofs : List (List Step)) → old ≡ rest ++ r ∷ []
+    → proofs ≡ r.proofs ++ steps ∷ []
     → new ≡ rest ++ record r { proofs = proofs } ∷ [] → new ≡ with_proof steps old
 proof_put steps old rest new r proofs popped more pushed =
-    pushed ∙ (ap (λ (ps : List (List Step)). rest ++ record r { proofs = ps } ∷ []) more ∙ (sym (proof_behind steps rest r) ∙ ap (with_proof steps) (sym popped)))
+    pushed ∙ (ap (λ (ps : List (List Step)). rest ++ record r { proofs = ps } ∷ []) more
+    ∙ (sym (proof_behind steps rest r) ∙ ap (with_proof steps) (sym popped)))
 
 some_same : {X : Type 0} {x y : X} → Some x ≡ Some y → x ≡ y
 some_same e = cc
@@ -40,7 +43,8 @@ next_open t s n place at q reply b first same is asked = (
 none_some : {X : Type 0} {x : X} → None ≡ Some x → ⊥
 none_some e = cc
 
-pub no_reply : (t : Told) (s n place : ℕ) (at : ℕ × ℕ) (q : Question) → slice_get t.left_open 0 ≡ Some (at, place) → slice_get t.replies place ≡ None → IsTrue false ↔ IsNextOpen t s n q
+pub no_reply : (t : Told) (s n place : ℕ) (at : ℕ × ℕ) (q : Question) → slice_get t.left_open 0 ≡ Some (at, place) → slice_get t.replies place ≡ None
+    → IsTrue false ↔ IsNextOpen t s n q
 no_reply t s n place at q first none = (
   λ wrong. absurd (never_true wrong),
   λ o. absurd (none_some (sym none ∙ (ap (slice_get t.replies) (sym (first_place t s n place at q first o)) ∙ o.is))),
@@ -50,8 +54,10 @@ no_reply t s n place at q first none = (
     never_true wrong = cc
 
 -- the bytes of a line are those of no other
-pub line_taken : {E : Type 0} (p : Presented) (t : Told) (bytes : List ℕ) (line : Line) (r : Result (Option Told) E) → IsPresented p → IsLineOf p line → bytes ≡ line_text p line
+pub line_taken : {E : Type 0} (p : Presented) (t : Told) (bytes : List ℕ) (line : Line) (r : Result (Option Told) E) → IsPresented p → IsLineOf p line
+    → bytes ≡ line_text p line
     → IfOk r (TakesLine t line) → IfOk r (TakesBytes p t bytes)
-line_taken p t bytes line (Ok None) known valid is never = λ l v follows spelled. never (subst (MayFollow t) (one_line p l line known v valid (sym spelled ∙ is)) follows)
+line_taken p t bytes line (Ok None) known valid is never =
+    λ l v follows spelled. never (subst (MayFollow t) (one_line p l line known v valid (sym spelled ∙ is)) follows)
 line_taken p t bytes line (Ok (Some u)) known valid is taken = record { line = line; valid = valid; spelled = is; follows = taken.0; is = taken.1 }
 line_taken p t bytes line (Err e) known valid is h = tt

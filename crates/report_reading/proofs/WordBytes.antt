@@ -1,12 +1,14 @@
 -- No line end stands within words, presentations and questions.
-use Rattle.std.proofs.Common.{◌≡◌, inl, inr, ℕ, suc, ◌<◌, ◌≤◌, ◌^◌, ◌==◌, Bool, true, false, if◌then◌else◌, List, [], ◌∷◌, ◌++◌, length, map, codes, decimal, refl, arith}
+use Rattle.std.proofs.Common.{◌≡◌, inl, inr, ℕ, suc, ◌<◌, ◌≤◌, ◌^◌, ◌==◌, Bool, true, false, if◌then◌else◌, List, [], ◌∷◌, ◌++◌, length, map, codes, decimal}
+use Rattle.std.proofs.Common.{refl, arith}
 use Rattle.std.specs.List.{AllByRecursion}
 use Rattle.free_words.specs.declared.letter.Letter.{Letter}
 use Rattle.spelling.proofs.Lacking.{Lacks, lacks_append, decimal_lacks}
 use Rattle.word_text.specs.Scan.{is_name_byte, is_letter, is_digit}
 use Rattle.presentation.specs.declared.runs.Run.{Run}
 use Rattle.presentation.specs.Presented.{Presented, IsPresented, IsName, IsWritten, IsModulus}
-use Rattle.presentation.specs.Writing.{is_same, once, behind, runs, AreOver, led_by, joined, name_of, written_exponent, written_run, written_word, written_modulus, written_bare, written_presentation}
+use Rattle.presentation.specs.Writing.{is_same, once, behind, runs, AreOver, led_by, joined, name_of, written_exponent, written_run, written_word}
+use Rattle.presentation.specs.Writing.{written_modulus, written_bare, written_presentation}
 use Rattle.presentation.proofs.WritingRuns.{over_runs}
 use Rattle.presentation.proofs.WritingNames.{name_passes}
 use Rattle.presentation.proofs.WritingBack.{AreNames, names_of}
@@ -65,7 +67,8 @@ exponent_line false n h = by (n == 1) where
 
 run_line : (names : List (List ℕ)) (r : Run) → AreNames names → r.letter.g < length names → r.count < 2 ^ 128 → IsOneLine (written_run names r)
 run_line names r known lt small =
-    join_line (name_of names r.letter.g) (written_exponent r.letter.inv r.count) (name_lacks 10 names r.letter.g no_name_byte known lt) (exponent_line r.letter.inv r.count small)
+    join_line (name_of names r.letter.g) (written_exponent r.letter.inv r.count) (name_lacks 10 names r.letter.g no_name_byte known lt)
+    (exponent_line r.letter.inv r.count small)
 
 led_line : (separator : List ℕ) (ts : List (List ℕ)) → IsOneLine separator → AreOneLine ts → IsOneLine (led_by separator ts)
 led_line separator [] h k = tt
@@ -75,7 +78,8 @@ joined_line : (separator : List ℕ) (ts : List (List ℕ)) → IsOneLine separa
 joined_line separator [] h k = tt
 joined_line separator (t ∷ ts) h k = join_line t (led_by separator ts) k.0 (led_line separator ts h k.1)
 
-run_lines : (names : List (List ℕ)) (n : ℕ) (rs : List Run) → AreNames names → AreOver (length names) rs → AreWithin n rs → n < 2 ^ 128 → AreOneLine (map (written_run names) rs)
+run_lines : (names : List (List ℕ)) (n : ℕ) (rs : List Run) → AreNames names → AreOver (length names) rs → AreWithin n rs → n < 2 ^ 128
+    → AreOneLine (map (written_run names) rs)
 run_lines names n [] known over within small = tt
 run_lines names n (r ∷ rs) known over within small = (run_line names r known over.0 (omega (arith, within.0)), run_lines names n rs known over.1 within.1 small)
 
@@ -85,7 +89,8 @@ word_line names (l ∷ ls) known h =
     joined_line (32 ∷ []) (map (written_run names) (runs (l ∷ ls))) (refl, tt)
     (run_lines names (length (l ∷ ls)) (runs (l ∷ ls)) known (over_runs (length names) (l ∷ ls) h.0) (runs_within (l ∷ ls)) (omega (arith, h.1)))
 
-word_lines : (names : List (List ℕ)) (ws : List (List Letter)) → AreNames names → AllByRecursion (IsWritten (length names)) ws → AreOneLine (map (written_word names) ws)
+word_lines : (names : List (List ℕ)) (ws : List (List Letter)) → AreNames names → AllByRecursion (IsWritten (length names)) ws
+    → AreOneLine (map (written_word names) ws)
 word_lines names [] known h = tt
 word_lines names (w ∷ ws) known h = (word_line names w known h.0, word_lines names ws known h.1)
 
@@ -122,12 +127,16 @@ presentation_line p h =
     join_line (written_bare p.names p.relators) (written_modulus p.modulus) bare (modulus_line p.modulus h.modulus)
 
 pub question_line : (p : Presented) → IsPresented p → (q : Question) → IsWritable p q → IsOneLine (written_question p.names q)
-question_line p known (Trivial w) h = join_line (codes "trivial ") (written_word p.names w) (literal 10 (codes "trivial ") refl) (word_line p.names w (names_of p known) h.0.1)
+question_line p known (Trivial w) h = join_line (codes "trivial ") (written_word p.names w) (literal 10 (codes "trivial ") refl)
+    (word_line p.names w (names_of p known) h.0.1)
 question_line p known (Equal u v) h =
-    let head : IsOneLine (codes "equal " ++ written_word p.names u) = join_line (codes "equal ") (written_word p.names u) (literal 10 (codes "equal ") refl) (word_line p.names u (names_of p known) h.0.1.0) in
-    let front : IsOneLine (codes "equal " ++ written_word p.names u ++ codes " = ") = join_line (codes "equal " ++ written_word p.names u) (codes " = ") head (literal 10 (codes " = ") refl) in
+    let head : IsOneLine (codes "equal " ++ written_word p.names u) =
+    join_line (codes "equal ") (written_word p.names u) (literal 10 (codes "equal ") refl) (word_line p.names u (names_of p known) h.0.1.0) in
+    let front : IsOneLine (codes "equal " ++ written_word p.names u ++ codes " = ") =
+    join_line (codes "equal " ++ written_word p.names u) (codes " = ") head (literal 10 (codes " = ") refl) in
     join_line (codes "equal " ++ written_word p.names u ++ codes " = ") (written_word p.names v) front (word_line p.names v (names_of p known) h.0.1.1)
-question_line p known (Normal w) h = join_line (codes "normal ") (written_word p.names w) (literal 10 (codes "normal ") refl) (word_line p.names w (names_of p known) h.0.1)
+question_line p known (Normal w) h = join_line (codes "normal ") (written_word p.names w) (literal 10 (codes "normal ") refl)
+    (word_line p.names w (names_of p known) h.0.1)
 question_line p known (Hom source images) h =
     let head : IsOneLine (codes "hom " ++ written_presentation source) =
     join_line (codes "hom ") (written_presentation source) (literal 10 (codes "hom ") refl) (presentation_line source h.1) in

@@ -65,8 +65,8 @@ abbrev pub IsOther : List ℕ → Option (List ℕ × List ℕ) → Type 0
 IsOther wanted None = Unit {0}
 IsOther wanted (Some parts) = parts.0 ≢ wanted
 
--- what is left of the text can't stand behind what was told: its first line may not follow; or no whole line is left, and
--- either something was to follow or some bytes do
+-- what is left of the text can't stand behind what was told: its first line may not follow; or no whole line is left,
+-- and either something was to follow or some bytes do
 abbrev pub CantStand : Presented → Told → List ℕ → Option (List ℕ × List ℕ) → Type 0
 CantStand p t rest None = (d : ReportData) → rest ≡ [] → IsDataOf t d → ⊥
 CantStand p t rest (Some parts) = NoneFollows p t parts.0
@@ -84,8 +84,10 @@ pub record StandsUpTo (p : Presented) (text : List ℕ) (n : ℕ) : Type 0 where
 -- the line with this number is the first that can't stand
 pub data IsFirstFault (p : Presented) (text : List ℕ) : ℕ → Type 0 where
   at_title : IsOther title (cut 10 text) → IsFirstFault p text 1
-  at_presentation : (others : List ℕ) → text ≡ title ++ 10 ∷ others → IsOther (pres_line p) (cut 10 others) → IsFirstFault p text 2
-  behind : (n : ℕ) (body : List ℕ) → text ≡ title ++ 10 ∷ (pres_line p ++ 10 ∷ body) → StandsUpTo p body n → IsFirstFault p text n
+  at_presentation : (others : List ℕ) → text ≡ title ++ 10 ∷ others → IsOther (pres_line p) (cut 10 others)
+      → IsFirstFault p text 2
+  behind : (n : ℕ) (body : List ℕ) → text ≡ title ++ 10 ∷ (pres_line p ++ 10 ∷ body) → StandsUpTo p body n
+      → IsFirstFault p text n
 
 -- what is answered to a text, unless memory runs out
 abbrev pub Answers : Presented → List ℕ → Result ReportData ReportFault → Type 0

@@ -1,5 +1,6 @@
 -- What the lines of a report tell, and which line may follow them.
-use Rattle.std.specs.Prelude.{◌≡◌, ◌↔◌, ℕ, ◌+◌, ◌-◌, ◌<◌, ◌≤◌, Bool, true, false, if◌then◌else◌, List, [], ◌∷◌, ◌++◌, length, drop, slice_get, Option, Some, None, IsSome}
+use Rattle.std.specs.Prelude.{◌≡◌, ◌↔◌, ℕ, ◌+◌, ◌-◌, ◌<◌, ◌≤◌, Bool, true, false, if◌then◌else◌, List, [], ◌∷◌, ◌++◌}
+use Rattle.std.specs.Prelude.{length, drop, slice_get, Option, Some, None, IsSome}
 use Rattle.std.specs.Option.{unwrap_or}
 use Rattle.std.specs.declared.cmp.Ordering.{Ordering}
 use Rattle.std.specs.Ordering.{nat_cmp, ordering_then}
@@ -41,7 +42,16 @@ pub record Told : Type 0 where
 
 -- no lines tell this
 abbrev pub nothing : Told
-nothing = record { from = []; entries = []; sealed = false; replies = []; numbers = []; left_open = []; end = None; finished = false }
+nothing = record {
+  from = [];
+  entries = [];
+  sealed = false;
+  replies = [];
+  numbers = [];
+  left_open = [];
+  end = None;
+  finished = false;
+}
 
 -- ---- what is told so far
 
@@ -112,14 +122,15 @@ abbrev pub IsClosing : Told → Type 0
 IsClosing t = IsSome t.end × (t.finished ≡ false) × IsShown (last_reply t)
 
 -- The line may follow. Items are numbered in order, and none follows the seal; an answer stands behind the item that
--- completes its front, by session and question, and no image in it is past its limit; a proof stands behind its answer; the
--- seal stands exactly where the end is `sealed`; behind the end, by session and question, exactly the questions that are left
--- open are answered once more
+-- completes its front, by session and question, and no image in it is past its limit; a proof stands behind its answer;
+-- the seal stands exactly where the end is `sealed`; behind the end, by session and question, exactly the questions
+-- that are left open are answered once more
 abbrev pub MayFollow : Told → Line → Type 0
 MayFollow t (lines.Entry number made vector) = MayGoOn t × (t.sealed ≡ false) × (number ≡ length t.entries)
 MayFollow t lines.Seal = MayGoOn t × (t.sealed ≡ false)
 MayFollow t (lines.Live session number front q v) =
-    MayGoOn t × (front ≡ item_count t) × (number ≡ last_number t session + 1) × IsInOrder session front (last_reply t) × (first_long_image q ≡ None)
+    MayGoOn t × (front ≡ item_count t) × (number ≡ last_number t session + 1) × IsInOrder session front (last_reply t)
+    × (first_long_image q ≡ None)
 MayFollow t (lines.Proof subject steps) = IsDue subject (last_reply t)
 MayFollow t (lines.End end) = MayGoOn t × ((t.sealed ≡ true) ↔ (end ≡ ends.Sealed))
 MayFollow t (lines.Close session number q v) = IsClosing t × IsNextOpen t session number q
@@ -143,17 +154,38 @@ with_proof steps (r ∷ s ∷ rs) = r ∷ with_proof steps (s ∷ rs)
 
 abbrev pub tell : Told → Line → Told
 tell t (lines.Entry number made vector) =
-    record t { from = t.from ++ number ∷ []; entries = t.entries ++ record { recipe = recipe_of number made; vector = vector } ∷ [] }
+    record t {
+      from = t.from ++ number ∷ [];
+      entries = t.entries ++ record {
+        recipe = recipe_of number made;
+        vector = vector;
+      } ∷ [];
+    }
 tell t lines.Seal = record t { sealed = true }
 tell t (lines.Live session number front q v) = record t {
-  replies = t.replies ++ record { session = session; question = q; live = true; front = front; verdict = v; proofs = [] } ∷ [];
+  replies = t.replies ++ record {
+    session = session;
+    question = q;
+    live = true;
+    front = front;
+    verdict = v;
+    proofs = [];
+  } ∷ [];
   numbers = insert_entry nat_cmp t.numbers session number;
-  left_open = if is_open v then insert_entry by_number t.left_open (session, number) (length t.replies) else t.left_open;
+  left_open = if is_open v then insert_entry by_number t.left_open (session, number) (length t.replies)
+      else t.left_open;
 }
 tell t (lines.Proof subject steps) = record t { replies = with_proof steps t.replies }
 tell t (lines.End end) = record t { end = Some end }
 tell t (lines.Close session number q v) = record t {
-  replies = t.replies ++ record { session = session; question = q; live = false; front = capped (item_count t); verdict = v; proofs = [] } ∷ [];
+  replies = t.replies ++ record {
+    session = session;
+    question = q;
+    live = false;
+    front = capped (item_count t);
+    verdict = v;
+    proofs = [];
+  } ∷ [];
   left_open = drop 1 t.left_open;
 }
 tell t lines.Done = record t { finished = true }

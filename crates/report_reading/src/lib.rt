@@ -1,8 +1,8 @@
 //! Reading a report: the data that its text spells, or the first line that can't stand.
 //!
 //! The text is gone through once, line by line. A line can stand where it may follow those before it: numbers count on,
-//! answers stand behind the items that they were made from, proofs behind their answers, and behind the end each question
-//! that was left open is answered once more. Whether entries and proofs hold is not tested here.
+//! answers stand behind the items that they were made from, proofs behind their answers, and behind the end each
+//! question that was left open is answered once more. Whether entries and proofs hold is not tested here.
 #![tactic(auto)]
 
 mod data;

@@ -9,7 +9,8 @@ ghost use Rattle.session_text.specs.Questions.{IsWritable, first_long_image};
 ghost use Rattle.report_lines.specs.Lines.{subject_count, IsLineOf};
 ghost use Rattle.report_lines.specs.declared.lines.Made.{Made};
 ghost use Rattle.report_lines.specs.declared.lines.Line.TheVariants as lines;
-ghost use Rattle.report_reading.specs.Telling.{proof_count, item_count, last_reply, last_number, IsShown, IsDue, IsInOrder, IsNextOpen, MayGoOn, IsClosing, MayFollow};
+ghost use Rattle.report_reading.specs.Telling.{proof_count, item_count, last_reply, last_number, IsShown, IsDue};
+ghost use Rattle.report_reading.specs.Telling.{IsInOrder, IsNextOpen, MayGoOn, IsClosing, MayFollow};
 
 use crate::ReplyData;
 use crate::reader::Reader;

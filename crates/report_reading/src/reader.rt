@@ -19,7 +19,8 @@ pub struct Reader {
     pub(crate) replies: Vec<ReplyData>,
     /// The number of each session's last question.
     pub(crate) numbers: BTreeMap<u32, u32>,
-    /// Where among the answers those stand that leave their question open and have no closing one, by session and question.
+    /// Where among the answers those stand that leave their question open and have no closing one, by session and
+    /// question.
     pub(crate) left_open: BTreeMap<(u32, u32), usize>,
     pub(crate) end: Option<End>,
     pub(crate) finished: bool,
@@ -61,7 +62,8 @@ impl Reader {
 
     /// The data, if the last line was taken and no bytes are left.
     pub fn into_data(self, rest: &[u8]) -> Option<ReportData>
-        ensures { MatchOption result ((d : ReportData) → rest.now ≡ [] → IsDataOf self d → ⊥) (λ d. (rest.now ≡ []) × IsDataOf self d) }
+        ensures { MatchOption result ((d : ReportData) → rest.now ≡ [] → IsDataOf self d
+            → ⊥) (λ d. (rest.now ≡ []) × IsDataOf self d) }
     {
         if !self.finished {
             return None;

@@ -11,12 +11,12 @@ use report_lines::{is_pres_line, is_title};
 use spelling::cut;
 use std::alloc::Global;
 
-/// What the report over the presentation says whose text this is, or else the first line that can't stand after those before
-/// it; one more than the last line's number where a line is missing at the end.
+/// What the report over the presentation says whose text this is, or else the first line that can't stand after those
+/// before it; one more than the last line's number where a line is missing at the end.
 ///
-/// It tests the order of lines, their numbers, that `seal` stands exactly where the end is `sealed`, that images are short,
-/// and that exactly the questions left open are answered behind the end. Which entries are generators, which entries steps
-/// name, and whether entries and proofs hold, is not tested.
+/// It tests the order of lines, their numbers, that `seal` stands exactly where the end is `sealed`, that images are
+/// short, and that exactly the questions left open are answered behind the end. Which entries are generators, which
+/// entries steps name, and whether entries and proofs hold, is not tested.
 pub fn read_report(alloc: Global, p: &Presentation, text: &[u8]) -> Result<ReportData, ReportFault>
     ensures { Answers p.now text.now result }
 {

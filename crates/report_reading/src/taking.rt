@@ -122,7 +122,11 @@ impl Reader {
 
     /// Notes a question that the verdict leaves open.
     fn with_question(self, at: QuestionNumber, verdict: &Verdict) -> Result<Reader, AllocError>
-        ensures { IfOk result (λ taken. taken ≡ record self { left_open = if is_open verdict.now then insert_entry by_number self.left_open (at.session, at.number) (length self.replies) else self.left_open }) }
+        ensures { IfOk result (λ taken. taken ≡ record self {
+          left_open =
+              if is_open verdict.now then insert_entry by_number self.left_open (at.session, at.number)
+              (length self.replies) else self.left_open;
+        }) }
     {
         if !leaves_open(verdict) {
             return Ok(self);

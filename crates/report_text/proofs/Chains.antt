@@ -1,5 +1,6 @@
 -- Chains by vectors over some generators stay over them: their steps, their rests and the places of their stops.
-use Rattle.std.proofs.Common.{◌≡◌, ◌≢◌, ◌⊎◌, inl, inr, ℕ, zero, suc, ◌≤◌, Bool, true, false, ℤ, pos, negsuc, ◌+ℤ◌, ◌-ℤ◌, ◌<ℤ◌, unsigned_abs, if◌then◌else◌, List, [], ◌∷◌, ◌++◌, length, slice_get, Some, refl, sym, subst, ◌∙◌, arith}
+use Rattle.std.proofs.Common.{◌≡◌, ◌≢◌, ◌⊎◌, inl, inr, ℕ, zero, suc, ◌≤◌, Bool, true, false, ℤ, pos, negsuc, ◌+ℤ◌, ◌-ℤ◌, ◌<ℤ◌, unsigned_abs, if◌then◌else◌}
+use Rattle.std.proofs.Common.{List, [], ◌∷◌, ◌++◌, length, slice_get, Some, refl, sym, subst, ◌∙◌, arith}
 use borrow.Author.Differences.{ints}
 use Rattle.std.proofs.Math.IntN.{+ℤ_idl}
 use Rattle.std.specs.Int.{int_div_euclid}
@@ -55,7 +56,8 @@ grows false q c n one le = omega (arith, ints)
 
 fox_small : (u w : List Letter) (x : Place) → unsigned_abs (coefficient same_place (fox_after u w) x) ≤ length w
 fox_small u [] x = omega arith
-fox_small u (l ∷ w) x = grows (same_place (letter_term u l).1 x) (letter_term u l).0 (coefficient same_place (fox_after (u ++ l ∷ []) w) x) (length w) (sign_by u l l.inv refl) (fox_small (u ++ l ∷ []) w x)
+fox_small u (l ∷ w) x = grows (same_place (letter_term u l).1 x) (letter_term u l).0 (coefficient same_place (fox_after (u ++ l ∷ []) w) x) (length w)
+    (sign_by u l l.inv refl) (fox_small (u ++ l ∷ []) w x)
 
 pub fox_supported : (n : ℕ) (w : List Letter) → IsOver n w → IsSupported n (fox_at w)
 unfolding IsSupported

@@ -19,12 +19,14 @@ use Rattle.report_text.proofs.Verdicts.{yes_is_shown}
 
 -- ---- a session
 
-module _ (p : Presented) (es : List BasisEntry) (seal : Option Seal) (s : SessionState) (replied : IsReplied p es seal s) (closings : HasClosings p es seal s) where
+module _ (p : Presented) (es : List BasisEntry) (seal : Option Seal) (s : SessionState) (replied : IsReplied p es seal s)
+    (closings : HasClosings p es seal s) where
   answer : (i : ℕ) (at : Told p es seal s replied i) → (a : Answered) × IsAnswered p es seal at.q at.k a
   answer i at = by (is_left_open at.k.tag) refl
     where
       shown : (proofs : List (List Step)) × AreProofsOf (vectors_below es at.k.front) (to_show at.q at.reply.verdict) proofs
-      shown = proofs_there (vectors_below es at.k.front) (to_show at.q at.reply.verdict) (yes_is_shown p (vectors_below es at.k.front) (seal_below es seal at.k.front) at.q at.reply.verdict at.reply.is)
+      shown = proofs_there (vectors_below es at.k.front) (to_show at.q at.reply.verdict)
+          (yes_is_shown p (vectors_below es at.k.front) (seal_below es seal at.k.front) at.q at.reply.verdict at.reply.is)
 
       live : Reply
       live = record { front = at.k.front; verdict = at.reply.verdict; proofs = shown.0 }
@@ -43,8 +45,10 @@ module _ (p : Presented) (es : List BasisEntry) (seal : Option Seal) (s : Sessio
         record { question = refl; front = refl; live = right; closing = closed_verdict p es seal s replied i at e },
       )
 
-  session_answers : Listed (length s.questions) (λ i a. (q : Question) (k : Kept) → slice_get s.questions i ≡ Some q → slice_get s.kept i ≡ Some k → IsAnswered p es seal q k a)
-  session_answers = listed (length s.questions) (λ i a. (q : Question) (k : Kept) → slice_get s.questions i ≡ Some q → slice_get s.kept i ≡ Some k → IsAnswered p es seal q k a)
+  session_answers : Listed (length s.questions) (λ i a. (q : Question) (k : Kept) → slice_get s.questions i ≡ Some q → slice_get s.kept i ≡ Some k
+      → IsAnswered p es seal q k a)
+  session_answers = listed (length s.questions) (λ i a. (q : Question) (k : Kept) → slice_get s.questions i ≡ Some q → slice_get s.kept i ≡ Some k
+      → IsAnswered p es seal q k a)
       (λ i lt. let at : Told p es seal s replied i = told_at p es seal s replied i lt in
       let made = answer i at in (
         made.0,
@@ -69,7 +73,8 @@ pub history_there : (r : Reported) → IsReportable r → AllByRecursion (HasClo
 history_there r can closings =
     let made = listed (length r.sessions) (λ i t. (s : SessionState) → slice_get r.sessions i ≡ Some s → IsSessionAnswered r.pres r.entries r.seal s t)
     (λ i lt. let at = stands_at r.sessions i lt in
-    let t = session_answered r.pres r.entries r.seal at.item (at_place (IsReplied r.pres r.entries r.seal) r.sessions i at.item can.replies at.here) (at_place (HasClosings r.pres r.entries r.seal) r.sessions i at.item closings at.here) in
+    let t = session_answered r.pres r.entries r.seal at.item (at_place (IsReplied r.pres r.entries r.seal) r.sessions i at.item can.replies at.here)
+    (at_place (HasClosings r.pres r.entries r.seal) r.sessions i at.item closings at.here) in
     (t.0, λ s is. let e : at.item ≡ s = some_is at.item s (sym at.here ∙ is) in subst (λ x. IsSessionAnswered r.pres r.entries r.seal x t.0) e t.1)) in (
       record { entries = r.entries; seal = r.seal; end = r.end; sessions = made.items },
       record { entries = refl; seal = refl; end = refl; answered = record { count = made.count; each = λ i s t is at. made.each i t at s is } },

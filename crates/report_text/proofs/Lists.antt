@@ -1,5 +1,6 @@
 -- Lists by their places.
-use Rattle.std.proofs.Common.{◌≡◌, ℕ, zero, suc, ◌+◌, ◌<◌, ◌≤◌, List, [], ◌∷◌, length, min, take, drop, get_or, slice_get, Some, refl, sym, ap, subst, ◌∙◌, arith}
+use Rattle.std.proofs.Common.{◌≡◌, ℕ, zero, suc, ◌+◌, ◌<◌, ◌≤◌, List, [], ◌∷◌, length, min, take, drop, get_or, slice_get, Some, refl, sym, ap, subst, ◌∙◌}
+use Rattle.std.proofs.Common.{arith}
 use Rattle.std.specs.List.{AllByRecursion}
 use Rattle.std.proofs.lemmas.List.{take_all, take_min}
 use Rattle.module_vec.specs.declared.places.Term.{Term}
@@ -45,7 +46,8 @@ at_place P (y ∷ xs) (suc i) x h is = at_place P xs i x h.1 is
 -- ---- entries below a front
 
 -- as many of the vectors as there are entries below the front
-pub vectors_counted : (m front : ℕ) (vs : List (List Term)) (es : List BasisEntry) → vs ≡ vectors_of es → m ≡ min front (length vs) → take m vs ≡ vectors_of (take front es)
+pub vectors_counted : (m front : ℕ) (vs : List (List Term)) (es : List BasisEntry) → vs ≡ vectors_of es → m ≡ min front (length vs)
+    → take m vs ≡ vectors_of (take front es)
 vectors_counted m front vs es is count = ap (λ k. take k vs) count ∙ take_min front vs ∙ vectors_taken front vs es is
 
 pub entries_counted : (front : ℕ) (vs : List (List Term)) (es : List BasisEntry) → vs ≡ vectors_of es → AreEntries vs → AreEntries (vectors_of (take front es))
@@ -70,12 +72,14 @@ read_first (suc m) i [] lt = absurd (omega (arith, lt))
 read_first (suc m) zero (x ∷ xs) lt = refl
 read_first (suc m) (suc i) (x ∷ xs) lt = read_first m i xs (omega (arith, lt))
 
-pub vectors_first : (n front : ℕ) (vs : List (List Term)) (es : List BasisEntry) → vs ≡ vectors_of es → n ≤ length (vectors_of (take front es)) → take n vs ≡ take n (vectors_of (take front es))
+pub vectors_first : (n front : ℕ) (vs : List (List Term)) (es : List BasisEntry) → vs ≡ vectors_of es → n ≤ length (vectors_of (take front es))
+    → take n vs ≡ take n (vectors_of (take front es))
 vectors_first n front vs es is le =
     let same : take front vs ≡ vectors_of (take front es) = vectors_taken front vs es is in
     sym (take_within n front vs (subst (λ l. n ≤ length l) (sym same) le)) ∙ ap (take n) same
 
-pub vector_first : (front i : ℕ) (vs : List (List Term)) (es : List BasisEntry) → vs ≡ vectors_of es → i < length (vectors_of (take front es)) → slice_get vs i ≡ slice_get (vectors_of (take front es)) i
+pub vector_first : (front i : ℕ) (vs : List (List Term)) (es : List BasisEntry) → vs ≡ vectors_of es → i < length (vectors_of (take front es))
+    → slice_get vs i ≡ slice_get (vectors_of (take front es)) i
 vector_first front i vs es is lt =
     let same : take front vs ≡ vectors_of (take front es) = vectors_taken front vs es is in
     sym (read_first front i vs (subst (λ l. i < length l) (sym same) lt)) ∙ ap (λ l. slice_get l i) same
@@ -93,7 +97,8 @@ got [] i x lt is = absurd (omega (arith, lt))
 got (y ∷ xs) zero x lt is = ap Some (sym is)
 got (y ∷ xs) (suc i) x lt is = got xs i x (omega (arith, lt)) is
 
-pub all_more : {A : Type 0} (P : A → Type 0) (xs : List A) (i : ℕ) (x : A) → i < length xs → x ≡ get_or xs i x → AllByRecursion P (take i xs) → P x → AllByRecursion P (take (i + 1) xs)
+pub all_more : {A : Type 0} (P : A → Type 0) (xs : List A) (i : ℕ) (x : A) → i < length xs → x ≡ get_or xs i x → AllByRecursion P (take i xs) → P x
+    → AllByRecursion P (take (i + 1) xs)
 all_more P [] i x lt is h own = absurd (omega (arith, lt))
 all_more P (y ∷ xs) zero x lt is h own = (subst P is own, tt)
 all_more P (y ∷ xs) (suc i) x lt is h own =

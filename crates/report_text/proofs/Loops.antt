@@ -1,5 +1,6 @@
 -- One more piece of a text that is written in a loop.
-use Rattle.std.proofs.Common.{◌≡◌, ◌≢◌, ℕ, zero, suc, ◌+◌, ◌-◌, ◌/◌, ◌<◌, ◌≤◌, List, [], ◌∷◌, ◌++◌, length, drop, slice_get, slice_index_or, Option, Some, refl, sym, ap, subst, ◌∙◌, arith}
+use Rattle.std.proofs.Common.{◌≡◌, ◌≢◌, ℕ, zero, suc, ◌+◌, ◌-◌, ◌/◌, ◌<◌, ◌≤◌, List, [], ◌∷◌, ◌++◌, length, drop, slice_get, slice_index_or, Option, Some, refl}
+use Rattle.std.proofs.Common.{sym, ap, subst, ◌∙◌, arith}
 use Rattle.mb_io.specs.Shelf.{TakesPrefix}
 use Rattle.presentation.specs.Presented.{Presented}
 use Rattle.module_vec.specs.declared.places.Term.{Term}
@@ -58,7 +59,8 @@ module _ (b : List (List Term)) (q : Question) (proofs : List (List Step)) (are 
       → Goes o (lines_text p (proof_lines 1 proofs)) (lines_text p (proof_lines (i + 1 + 1) (drop (i + 1) proofs))) n
   proofs_go_on o m n p i lt goes took =
       let at : StandsAt proofs i = proof_there i lt in
-      goes_more o m n (lines_text p (proof_lines 1 proofs)) (line_piece p (lines.Proof (i + 1) at.item)) (lines_text p (proof_lines (i + 1 + 1) (drop (i + 1) proofs)))
+      goes_more o m n (lines_text p (proof_lines 1 proofs)) (line_piece p (lines.Proof (i + 1) at.item))
+      (lines_text p (proof_lines (i + 1 + 1) (drop (i + 1) proofs)))
       (subst (λ t. Goes o (lines_text p (proof_lines 1 proofs)) t m) (proofs_left p proofs i at) goes) (took at.item (proof_is i lt))
 
   pub proofs_stop : (o m n : Option (List ℕ)) (p : Presented) (i : ℕ) (lt : i < length (subjects q))
@@ -67,7 +69,8 @@ module _ (b : List (List Term)) (q : Question) (proofs : List (List Step)) (are 
       → Stops o (lines_text p (proof_lines 1 proofs)) n
   proofs_stop o m n p i lt goes stops =
       let at : StandsAt proofs i = proof_there i lt in
-      goes_stops o m n (lines_text p (proof_lines 1 proofs)) (line_piece p (lines.Proof (i + 1) at.item)) (lines_text p (proof_lines (i + 1 + 1) (drop (i + 1) proofs)))
+      goes_stops o m n (lines_text p (proof_lines 1 proofs)) (line_piece p (lines.Proof (i + 1) at.item))
+      (lines_text p (proof_lines (i + 1 + 1) (drop (i + 1) proofs)))
       (subst (λ t. Goes o (lines_text p (proof_lines 1 proofs)) t m) (proofs_left p proofs i at) goes) (stops at.item (proof_is i lt))
 
   pub proofs_end : (o m : Option (List ℕ)) (p : Presented) (i : ℕ) → length (subjects q) ≤ i
@@ -116,11 +119,13 @@ module _ (base front : ℕ) (ks : List Kept) (rising : AreRising base ks) where
       other at.item at.here (omega (arith, low, up, same))
 
 -- what is written of a session that is answered
-module _ (p : Presented) (es : List BasisEntry) (seal : Option Seal) (s : SessionState) (t : SessionAnswers) (are : IsSessionAnswered p es seal s t) (full : length s.kept ≡ length s.questions) where
+module _ (p : Presented) (es : List BasisEntry) (seal : Option Seal) (s : SessionState) (t : SessionAnswers) (are : IsSessionAnswered p es seal s t)
+    (full : length s.kept ≡ length s.questions) where
   answer_there : (i : ℕ) → i < length s.kept → StandsAt t.answers i
   answer_there i lt = stands_at t.answers i (omega (arith, lt, are.count, full))
 
-  answered : (i : ℕ) (k : Kept) (a : Answered) → slice_get s.kept i ≡ Some k → slice_get t.answers i ≡ Some a → (q : Question) × (slice_get s.questions i ≡ Some q) × IsAnswered p es seal q k a
+  answered : (i : ℕ) (k : Kept) (a : Answered) → slice_get s.kept i ≡ Some k → slice_get t.answers i ≡ Some a
+      → (q : Question) × (slice_get s.questions i ≡ Some q) × IsAnswered p es seal q k a
   answered i k a is at =
       let lt : i < length s.kept = read_within s.kept i k is in
       let q : StandsAt s.questions i = stands_at s.questions i (omega (arith, lt, full)) in
@@ -145,16 +150,19 @@ module _ (p : Presented) (es : List BasisEntry) (seal : Option Seal) (s : Sessio
         let is : a.live.front ≡ k.item.front = front_of i k.item a k.here at in
         omega (arith, less, is, same))
         ∙ ap (λ k. live_from front s.number k (drop (m - 1) t.answers)) e in
-        subst (λ l. Goes o (lines_text p (live_from front s.number 1 t.answers)) (lines_text p l) o) skipped (goes_from o (lines_text p (live_from front s.number 1 t.answers)))
+        subst (λ l. Goes o (lines_text p (live_from front s.number 1 t.answers)) (lines_text p l) o) skipped
+        (goes_from o (lines_text p (live_from front s.number 1 t.answers)))
 
     -- the answer that is next
     module _ (o m n : Option (List ℕ)) (number : ℕ) (first : 1 ≤ number) (k : Kept) (here : slice_get s.kept (number - 1) ≡ Some k) (same : k.front ≡ front)
-        (goes : Goes o (lines_text p (live_from front s.number 1 t.answers)) (lines_text p (live_from front s.number number (drop (number - 1) t.answers))) m) where
+        (goes : Goes o (lines_text p (live_from front s.number 1 t.answers))
+        (lines_text p (live_from front s.number number (drop (number - 1) t.answers))) m) where
       next_answer : StandsAt t.answers (number - 1)
       next_answer = answer_there (number - 1) (read_within s.kept (number - 1) k here)
 
       split : Goes o (lines_text p (live_from front s.number 1 t.answers))
-          (lines_text p (live_lines s.number number next_answer.item) ++ lines_text p (live_from front s.number (number + 1) (drop (number + 1 - 1) t.answers))) m
+          (lines_text p (live_lines s.number number next_answer.item) ++ lines_text p
+          (live_from front s.number (number + 1) (drop (number + 1 - 1) t.answers))) m
       split =
           let e : number - 1 + 1 ≡ number + 1 - 1 = omega (arith, first) in
           let is : next_answer.item.live.front ≡ front = front_of (number - 1) k next_answer.item here next_answer.here ∙ same in
@@ -163,18 +171,23 @@ module _ (p : Presented) (es : List BasisEntry) (seal : Option Seal) (s : Sessio
           ∙ ap (λ j. lines_text p (live_lines s.number number next_answer.item) ++ lines_text p (live_from front s.number (number + 1) (drop j t.answers))) e)
           goes
 
-      pub session_goes_on : ((q : Question) (a : Answered) → slice_get s.questions (number - 1) ≡ Some q → IsAnswered p es seal q k a → TakesPrefix m (lines_text p (live_lines s.number number a)) n)
-          → Goes o (lines_text p (live_from front s.number 1 t.answers)) (lines_text p (live_from front s.number (number + 1) (drop (number + 1 - 1) t.answers))) n
+      pub session_goes_on : ((q : Question) (a : Answered) → slice_get s.questions (number - 1) ≡ Some q → IsAnswered p es seal q k a
+          → TakesPrefix m (lines_text p (live_lines s.number number a)) n)
+          → Goes o (lines_text p (live_from front s.number 1 t.answers))
+          (lines_text p (live_from front s.number (number + 1) (drop (number + 1 - 1) t.answers))) n
       session_goes_on took =
           let h = answered (number - 1) k next_answer.item here next_answer.here in
-          goes_more o m n (lines_text p (live_from front s.number 1 t.answers)) (lines_text p (live_lines s.number number next_answer.item)) (lines_text p (live_from front s.number (number + 1) (drop (number + 1 - 1) t.answers))) split
+          goes_more o m n (lines_text p (live_from front s.number 1 t.answers)) (lines_text p (live_lines s.number number next_answer.item))
+          (lines_text p (live_from front s.number (number + 1) (drop (number + 1 - 1) t.answers))) split
           (took h.0 next_answer.item h.1 h.2)
 
-      pub session_stops : ((q : Question) (a : Answered) → slice_get s.questions (number - 1) ≡ Some q → IsAnswered p es seal q k a → Stops m (lines_text p (live_lines s.number number a)) n)
+      pub session_stops : ((q : Question) (a : Answered) → slice_get s.questions (number - 1) ≡ Some q → IsAnswered p es seal q k a
+          → Stops m (lines_text p (live_lines s.number number a)) n)
           → Stops o (lines_text p (live_from front s.number 1 t.answers)) n
       session_stops stops =
           let h = answered (number - 1) k next_answer.item here next_answer.here in
-          goes_stops o m n (lines_text p (live_from front s.number 1 t.answers)) (lines_text p (live_lines s.number number next_answer.item)) (lines_text p (live_from front s.number (number + 1) (drop (number + 1 - 1) t.answers))) split
+          goes_stops o m n (lines_text p (live_from front s.number 1 t.answers)) (lines_text p (live_lines s.number number next_answer.item))
+          (lines_text p (live_from front s.number (number + 1) (drop (number + 1 - 1) t.answers))) split
           (stops h.0 next_answer.item h.1 h.2)
 
     -- no answer of the front is left
@@ -190,4 +203,5 @@ module _ (p : Presented) (es : List BasisEntry) (seal : Option Seal) (s : Sessio
         let k : StandsAt s.kept (number - 1 + i) = kept_at (number - 1 + i) a at' in
         let is : a.live.front ≡ k.item.front = front_of (number - 1 + i) k.item a k.here at' in
         other_behind base front s.kept rising number first behind other (number - 1 + i) k.item (omega (arith, first)) k.here (sym is ∙ same)) in
-        goes_all o m (lines_text p (live_from front s.number 1 t.answers)) (subst (λ l. Goes o (lines_text p (live_from front s.number 1 t.answers)) (lines_text p l) m) none goes)
+        goes_all o m (lines_text p (live_from front s.number 1 t.answers))
+        (subst (λ l. Goes o (lines_text p (live_from front s.number 1 t.answers)) (lines_text p l) m) none goes)

@@ -68,8 +68,10 @@ same_verdict (verdicts.Stop j stop) (verdicts.Normal v') told e = absurd told
 same_verdict (verdicts.Stop j stop) verdicts.Extends told e = absurd cc
 same_verdict (verdicts.Stop j stop) (verdicts.Fails j') told e = absurd cc
 same_verdict (verdicts.Stop j stop) (verdicts.Unknown j') told e = absurd cc
-same_verdict (verdicts.Stop j stop) (verdicts.Stop j' stop') told e = let d : j ≡ j' = cc in let f : stop ≡ stop' = cc in ap (λ x. verdicts.Stop x stop) d ∙ ap (λ x. verdicts.Stop j' x) f
+same_verdict (verdicts.Stop j stop) (verdicts.Stop j' stop') told e = let d : j ≡ j' = cc in let f : stop ≡ stop' = cc
+    in ap (λ x. verdicts.Stop x stop) d ∙ ap (λ x. verdicts.Stop j' x) f
 
 -- the verdict that a tag tells is that of which it is the tag
-pub told_verdict : (p : Presented) (b : List (List Term)) (seal : Option Seal) (q : Question) (v w : Verdict) → IsVerdict p b seal q v → tag_of v ≡ tag_of w → IsTold w → IsVerdict p b seal q w
+pub told_verdict : (p : Presented) (b : List (List Term)) (seal : Option Seal) (q : Question) (v w : Verdict) → IsVerdict p b seal q v → tag_of v ≡ tag_of w
+    → IsTold w → IsVerdict p b seal q w
 told_verdict p b seal q v w is same told = subst (IsVerdict p b seal q) (same_verdict v w told same) is

@@ -178,7 +178,8 @@ module _ (p : Presented) (b : List (List Term)) (seal : Option Seal) (q : Questi
   one_verdict (verdicts.Stop i s) verdicts.Extends h g = absurd (all_stop b q i s g.1 h)
   one_verdict (verdicts.Stop i s) (verdicts.Fails j) h g = absurd (some_stop b q j i s g.2 h)
   one_verdict (verdicts.Stop i s) (verdicts.Unknown j) h g = absurd (some_stop b q j i s g.1 h)
-  one_verdict (verdicts.Stop i s) (verdicts.Stop j t) h g = ap (λ x. verdicts.Stop x s) (same_number b q i j s t h g) ∙ ap (λ x. verdicts.Stop j x) (same_stop b q i j s t h g)
+  one_verdict (verdicts.Stop i s) (verdicts.Stop j t) h g = ap (λ x. verdicts.Stop x s) (same_number b q i j s t h g)
+      ∙ ap (λ x. verdicts.Stop j x) (same_stop b q i j s t h g)
 
   -- a yes is shown
   pub yes_is_shown : (v : Verdict) → IsVerdict p b seal q v → AllByRecursion (IsShown b) (to_show q v)
@@ -191,7 +192,8 @@ module _ (p : Presented) (b : List (List Term)) (seal : Option Seal) (q : Questi
   yes_is_shown (verdicts.Stop j stop) h = tt
 
   -- what a verdict names is over the generators of the presentation
-  pub verdict_over : (v : Verdict) → CanBeAsked p q → AreEntries b → AllByRecursion (VectorIsOver (length p.names)) b → IsVerdict p b seal q v → VerdictIsOver (length p.names) v
+  pub verdict_over : (v : Verdict) → CanBeAsked p q → AreEntries b → AllByRecursion (VectorIsOver (length p.names)) b → IsVerdict p b seal q v
+      → VerdictIsOver (length p.names) v
   verdict_over verdicts.Trivial asked entries over h = tt
   verdict_over verdicts.NotTrivial asked entries over h = tt
   verdict_over (verdicts.Normal v) asked entries over h =

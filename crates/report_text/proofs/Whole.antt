@@ -35,8 +35,10 @@ head_split a b t =
 pub text_split : (r : Reported) (h : History) → IsHistoryOf r h → text_of r h ≡ pieces r h
 text_split r h is =
     let items : lines_text r.pres (told_from h.sessions 0 (item_lines h.entries h.seal)) ≡ items_piece r h =
-    ap (λ es. lines_text r.pres (told_from h.sessions 0 (item_lines es h.seal))) is.entries ∙ ap (λ s. lines_text r.pres (told_from h.sessions 0 (item_lines r.entries s))) is.seal in
-    let tail : lines_text r.pres (lines.End h.end ∷ (closing_of h.sessions ++ lines.Done ∷ [])) ≡ line_piece r.pres (lines.End r.end) ++ (closing_piece r h ++ (line_piece r.pres lines.Done ++ [])) =
+    ap (λ es. lines_text r.pres (told_from h.sessions 0 (item_lines es h.seal))) is.entries
+    ∙ ap (λ s. lines_text r.pres (told_from h.sessions 0 (item_lines r.entries s))) is.seal in
+    let tail : lines_text r.pres (lines.End h.end ∷ (closing_of h.sessions ++ lines.Done ∷ []))
+    ≡ line_piece r.pres (lines.End r.end) ++ (closing_piece r h ++ (line_piece r.pres lines.Done ++ [])) =
     ap (λ e. line_piece r.pres (lines.End e) ++ lines_text r.pres (closing_of h.sessions ++ lines.Done ∷ [])) is.end
     ∙ ap (λ t. line_piece r.pres (lines.End r.end) ++ t) (lines_append r.pres (closing_of h.sessions) (lines.Done ∷ [])) in
     head_split title (pres_line r.pres) (lines_text r.pres (lines_of h))
@@ -53,27 +55,34 @@ begins r h is o = subst (λ t. Goes o (text_of r h) t o) (text_split r h is) (go
 module _ (r : Reported) (h : History) (is : IsHistoryOf r h) (o : Option (List ℕ)) where
   module _ (a : Option (List ℕ)) where
     pub head_stops : Stops o (head_piece r) a → Stops o (text_of r h) a
-    head_stops s = goes_stops o o a (text_of r h) (head_piece r) (items_piece r h ++ (line_piece r.pres (lines.End r.end) ++ (closing_piece r h ++ (line_piece r.pres lines.Done ++ [])))) (begins r h is o) s
+    head_stops s = goes_stops o o a (text_of r h) (head_piece r) (items_piece r h
+        ++ (line_piece r.pres (lines.End r.end) ++ (closing_piece r h ++ (line_piece r.pres lines.Done ++ [])))) (begins r h is o) s
 
     module _ (head : TakesPrefix o (head_piece r) a) where
-      pub behind_head : Goes o (text_of r h) (items_piece r h ++ (line_piece r.pres (lines.End r.end) ++ (closing_piece r h ++ (line_piece r.pres lines.Done ++ [])))) a
-      behind_head = goes_more o o a (text_of r h) (head_piece r) (items_piece r h ++ (line_piece r.pres (lines.End r.end) ++ (closing_piece r h ++ (line_piece r.pres lines.Done ++ [])))) (begins r h is o) head
+      pub behind_head : Goes o (text_of r h) (items_piece r h ++ (line_piece r.pres (lines.End r.end)
+          ++ (closing_piece r h ++ (line_piece r.pres lines.Done ++ [])))) a
+      behind_head = goes_more o o a (text_of r h) (head_piece r) (items_piece r h
+          ++ (line_piece r.pres (lines.End r.end) ++ (closing_piece r h ++ (line_piece r.pres lines.Done ++ [])))) (begins r h is o) head
 
       module _ (b : Option (List ℕ)) where
         pub items_stop : Stops a (items_piece r h) b → Stops o (text_of r h) b
-        items_stop s = goes_stops o a b (text_of r h) (items_piece r h) (line_piece r.pres (lines.End r.end) ++ (closing_piece r h ++ (line_piece r.pres lines.Done ++ []))) behind_head s
+        items_stop s = goes_stops o a b (text_of r h) (items_piece r h) (line_piece r.pres (lines.End r.end)
+            ++ (closing_piece r h ++ (line_piece r.pres lines.Done ++ []))) behind_head s
 
         module _ (items : TakesPrefix a (items_piece r h) b) where
           pub behind_items : Goes o (text_of r h) (line_piece r.pres (lines.End r.end) ++ (closing_piece r h ++ (line_piece r.pres lines.Done ++ []))) b
-          behind_items = goes_more o a b (text_of r h) (items_piece r h) (line_piece r.pres (lines.End r.end) ++ (closing_piece r h ++ (line_piece r.pres lines.Done ++ []))) behind_head items
+          behind_items = goes_more o a b (text_of r h) (items_piece r h) (line_piece r.pres (lines.End r.end)
+              ++ (closing_piece r h ++ (line_piece r.pres lines.Done ++ []))) behind_head items
 
           module _ (c : Option (List ℕ)) where
             pub end_stops : Stops b (line_piece r.pres (lines.End r.end)) c → Stops o (text_of r h) c
-            end_stops s = goes_stops o b c (text_of r h) (line_piece r.pres (lines.End r.end)) (closing_piece r h ++ (line_piece r.pres lines.Done ++ [])) behind_items s
+            end_stops s = goes_stops o b c (text_of r h) (line_piece r.pres (lines.End r.end)) (closing_piece r h ++ (line_piece r.pres lines.Done ++ []))
+                behind_items s
 
             module _ (ended : TakesPrefix b (line_piece r.pres (lines.End r.end)) c) where
               pub behind_end : Goes o (text_of r h) (closing_piece r h ++ (line_piece r.pres lines.Done ++ [])) c
-              behind_end = goes_more o b c (text_of r h) (line_piece r.pres (lines.End r.end)) (closing_piece r h ++ (line_piece r.pres lines.Done ++ [])) behind_items ended
+              behind_end = goes_more o b c (text_of r h) (line_piece r.pres (lines.End r.end)) (closing_piece r h ++ (line_piece r.pres lines.Done ++ []))
+                  behind_items ended
 
               module _ (d : Option (List ℕ)) where
                 pub closings_halt : Stops c (closing_piece r h) d → Stops o (text_of r h) d
@@ -83,12 +92,15 @@ module _ (r : Reported) (h : History) (is : IsHistoryOf r h) (o : Option (List �
                   pub behind_closings : Goes o (text_of r h) (line_piece r.pres lines.Done ++ []) d
                   behind_closings = goes_more o c d (text_of r h) (closing_piece r h) (line_piece r.pres lines.Done ++ []) behind_end closings
 
-                  pub done_puts : (e : Option (List ℕ)) (result : Result (Unit {0}) WriteFault) → Puts d (line_piece r.pres lines.Done) result e → Puts o (text_of r h) result e
+                  pub done_puts : (e : Option (List ℕ)) (result : Result (Unit {0}) WriteFault) → Puts d (line_piece r.pres lines.Done) result e
+                      → Puts o (text_of r h) result e
                   done_puts e result puts =
-                      goes_puts o d e (text_of r h) (line_piece r.pres lines.Done ++ []) result behind_closings (subst (λ t. Puts d t result e) (sym (append-nil (line_piece r.pres lines.Done))) puts)
+                      goes_puts o d e (text_of r h) (line_piece r.pres lines.Done ++ []) result behind_closings
+                      (subst (λ t. Puts d t result e) (sym (append-nil (line_piece r.pres lines.Done))) puts)
 
 -- what is said of the same log under other names
-pub moved_in : (P : Presented → List BasisEntry → Option Seal → List SessionState → Type 0) (r : Reported) (p : Presented) (es : List BasisEntry) (seal : Option Seal) (ss : List SessionState)
+pub moved_in : (P : Presented → List BasisEntry → Option Seal → List SessionState
+    → Type 0) (r : Reported) (p : Presented) (es : List BasisEntry) (seal : Option Seal) (ss : List SessionState)
     → p ≡ r.pres → es ≡ r.entries → seal ≡ r.seal → ss ≡ r.sessions → P p es seal ss → P r.pres r.entries r.seal r.sessions
 moved_in P r p es seal ss a b c d h =
     subst (λ x. P r.pres r.entries r.seal x) d (subst (λ x. P r.pres r.entries x ss) c (subst (λ x. P r.pres x seal ss) b (subst (λ x. P x es seal ss) a h)))

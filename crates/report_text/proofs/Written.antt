@@ -1,5 +1,6 @@
 -- Texts that are written piece by piece.
-use Rattle.std.proofs.Common.{◌≡◌, ℕ, List, [], ◌∷◌, ◌++◌, take, drop, Option, Some, None, Result, Ok, Err, refl, sym, ap, subst, ◌∙◌, append_assoc, append-nil, take-append-drop}
+use Rattle.std.proofs.Common.{◌≡◌, ℕ, List, [], ◌∷◌, ◌++◌, take, drop, Option, Some, None, Result, Ok, Err, refl, sym, ap, subst, ◌∙◌, append_assoc, append-nil}
+use Rattle.std.proofs.Common.{take-append-drop}
 use Rattle.mb_io.specs.Shelf.{TakesPrefix}
 use Rattle.presentation.specs.Presented.{Presented}
 use Rattle.report_lines.specs.declared.lines.Line.{Line}
@@ -45,7 +46,8 @@ pub goes_stops : (a b c : Option (List ℕ)) (text piece rest : List ℕ) → Go
 goes_stops a b c text piece rest g h = record {
   front = g.front ++ h.front;
   rest = h.rest ++ rest;
-  is = g.is ∙ ap (λ t. g.front ++ (t ++ rest)) h.is ∙ ap (λ t. g.front ++ t) (append_assoc h.front h.rest rest) ∙ sym (append_assoc g.front h.front (h.rest ++ rest));
+  is = g.is ∙ ap (λ t. g.front ++ (t ++ rest)) h.is ∙ ap (λ t. g.front ++ t) (append_assoc h.front h.rest rest)
+      ∙ sym (append_assoc g.front h.front (h.rest ++ rest));
   took = took_more a b c g.front h.front g.took h.took;
 }
 
@@ -57,7 +59,8 @@ goes_halts a b text rest g = record { front = g.front; rest = rest; is = g.is; t
 
 pub lines_append : (p : Presented) (ls ms : List Line) → lines_text p (ls ++ ms) ≡ lines_text p ls ++ lines_text p ms
 lines_append p [] ms = refl
-lines_append p (l ∷ ls) ms = ap (λ t. (line_text p l ++ 10 ∷ []) ++ t) (lines_append p ls ms) ∙ sym (append_assoc (line_text p l ++ 10 ∷ []) (lines_text p ls) (lines_text p ms))
+lines_append p (l ∷ ls) ms = ap (λ t. (line_text p l ++ 10 ∷ []) ++ t) (lines_append p ls ms)
+    ∙ sym (append_assoc (line_text p l ++ 10 ∷ []) (lines_text p ls) (lines_text p ms))
 
 -- a front of the bytes
 pub put_front : (a b : Option (List ℕ)) (text bytes : List ℕ) (n : ℕ) → bytes ≡ text → TakesPrefix a (take n bytes) b → Stops a text b
@@ -68,7 +71,12 @@ put_front a b text bytes n is h = record { front = take n bytes; rest = drop n b
 -- what follows a text that was written
 pub then_puts : (a b c : Option (List ℕ)) (x y : List ℕ) (r : Result (Unit {0}) WriteFault) → TakesPrefix a x b → Puts b y r c → Puts a (x ++ y) r c
 then_puts a b c x y (Ok u) h k = took_more a b c x y h k
-then_puts a b c x y (Err e) h k = record { front = x ++ k.front; rest = k.rest; is = ap (λ t. x ++ t) k.is ∙ sym (append_assoc x k.front k.rest); took = took_more a b c x k.front h k.took }
+then_puts a b c x y (Err e) h k = record {
+  front = x ++ k.front;
+  rest = k.rest;
+  is = ap (λ t. x ++ t) k.is ∙ sym (append_assoc x k.front k.rest);
+  took = took_more a b c x k.front h k.took;
+}
 
 -- a front of a text is one of the text with another behind it
 pub stops_before : (a b : Option (List ℕ)) (x y : List ℕ) → Stops a x b → Stops a (x ++ y) b

@@ -27,4 +27,5 @@ HasClosing p es seal q = (r : Reply) × IsClosingReply p es seal q r
 
 -- so has each question that was left open
 abbrev pub HasClosings : Presented → List BasisEntry → Option Seal → SessionState → Type 0
-HasClosings p es seal s = (i : ℕ) (q : Question) (k : Kept) → slice_get s.questions i ≡ Some q → slice_get s.kept i ≡ Some k → is_left_open k.tag ≡ true → HasClosing p es seal q
+HasClosings p es seal s = (i : ℕ) (q : Question) (k : Kept) → slice_get s.questions i ≡ Some q
+    → slice_get s.kept i ≡ Some k → is_left_open k.tag ≡ true → HasClosing p es seal q

@@ -58,7 +58,8 @@ closing_lines s n q (Some r) = lines.Close s n q r.verdict ∷ proof_lines 1 r.p
 -- of the questions from number n on, those that were answered at the front
 abbrev pub live_from : ℕ → ℕ → ℕ → List Answered → List Line
 live_from front s n [] = []
-live_from front s n (a ∷ others) = (if a.live.front == front then live_lines s n a else []) ++ live_from front s (n + 1) others
+live_from front s n (a ∷ others) = (if a.live.front == front then live_lines s n a else [])
+    ++ live_from front s (n + 1) others
 
 -- by session and question, what was answered at the front
 abbrev pub live_at : ℕ → List SessionAnswers → List Line
@@ -100,4 +101,5 @@ told_from sessions k (item ∷ items) = item ∷ (live_at (k + 1) sessions ++ to
 
 -- the lines of a report behind the two at its head
 abbrev pub lines_of : History → List Line
-lines_of h = told_from h.sessions 0 (item_lines h.entries h.seal) ++ (lines.End h.end ∷ (closing_of h.sessions ++ lines.Done ∷ []))
+lines_of h = told_from h.sessions 0 (item_lines h.entries h.seal)
+    ++ (lines.End h.end ∷ (closing_of h.sessions ++ lines.Done ∷ []))

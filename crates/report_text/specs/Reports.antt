@@ -1,6 +1,7 @@
 -- What a report is written from, and the text that is written.
 use Rattle.std.specs.List.{AllByRecursion}
-use Rattle.std.specs.Prelude.{◌≡◌, ◌↔◌, ℕ, ◌+◌, ◌<◌, ◌≤◌, ◌^◌, List, length, map, take, slice_get, Option, Some, IsSome, option_map}
+use Rattle.std.specs.Prelude.{◌≡◌, ◌↔◌, ℕ, ◌+◌, ◌<◌, ◌≤◌, ◌^◌, List, length, map, take, slice_get, Option, Some, IsSome}
+use Rattle.std.specs.Prelude.{option_map}
 use Rattle.std.specs.Arc.{arc_value}
 use Rattle.presentation.specs.Presented.{Presented}
 use Rattle.module_vec.specs.declared.places.Term.{Term}

@@ -31,10 +31,13 @@ pub fn put_closings<K: Sink, L: Front>(
     out: &mut K,
 ) -> Result<(), WriteFault>
     requires log { IsLog log.now.p.now (L.entries log.now.list.now) }
-    requires replied { AllByRecursion (IsReplied log.now.p.now (L.entries log.now.list.now) (L.seal log.now.list.now)) sessions.now }
-    ensures text { (ts : List SessionAnswers) → AreAnswered log.now.p.now (L.entries log.now.list.now) (L.seal log.now.list.now) sessions.now ts →
+    requires replied { AllByRecursion (IsReplied log.now.p.now (L.entries log.now.list.now) (L.seal log.now.list.now))
+        sessions.now }
+    ensures text { (ts : List SessionAnswers) → AreAnswered log.now.p.now (L.entries log.now.list.now)
+        (L.seal log.now.list.now) sessions.now ts →
         Puts (K.taken out.old) (lines_text log.now.p.now (closing_of ts)) result (K.taken out.new) }
-    ensures told { OnOk result (AllByRecursion (HasClosings log.now.p.now (L.entries log.now.list.now) (L.seal log.now.list.now)) sessions.now) }
+    ensures told { OnOk result (AllByRecursion (HasClosings log.now.p.now (L.entries log.now.list.now)
+        (L.seal log.now.list.now)) sessions.now) }
     ensures counts { Counts (K.faults out.old) result (K.faults out.new) }
 {
     for session in sessions {
@@ -52,9 +55,12 @@ fn put_session<K: Sink, L: Front>(
 ) -> Result<(), WriteFault>
     requires log { IsLog log.now.p.now (L.entries log.now.list.now) }
     requires replied { IsReplied log.now.p.now (L.entries log.now.list.now) (L.seal log.now.list.now) session.now }
-    ensures text { (t : SessionAnswers) → IsSessionAnswered log.now.p.now (L.entries log.now.list.now) (L.seal log.now.list.now) session.now t →
-        Puts (K.taken out.old) (lines_text log.now.p.now (closing_from session.now.number 1 t.answers)) result (K.taken out.new) }
-    ensures told { OnOk result (HasClosings log.now.p.now (L.entries log.now.list.now) (L.seal log.now.list.now) session.now) }
+    ensures text { (t : SessionAnswers) → IsSessionAnswered log.now.p.now (L.entries log.now.list.now)
+        (L.seal log.now.list.now) session.now t →
+        Puts (K.taken out.old) (lines_text log.now.p.now (closing_from session.now.number 1 t.answers)) result
+        (K.taken out.new) }
+    ensures told { OnOk result (HasClosings log.now.p.now (L.entries log.now.list.now) (L.seal log.now.list.now)
+        session.now) }
     ensures counts { Counts (K.faults out.old) result (K.faults out.new) }
 {
     for place in 0..session.count() {
@@ -75,9 +81,14 @@ fn put_if_open<K: Sink, L: Front>(
     requires first { 1 ≤ number }
     requires within { number ≤ length session.now.questions }
     requires replied { IsReplied log.now.p.now (L.entries log.now.list.now) (L.seal log.now.list.now) session.now }
-    ensures text { (q : Question) (k : Kept) (a : Answered) → slice_get session.now.questions (number - 1) ≡ Some q → slice_get session.now.kept (number - 1) ≡ Some k → IsAnswered log.now.p.now (L.entries log.now.list.now) (L.seal log.now.list.now) q k a →
-        Puts (K.taken out.old) (lines_text log.now.p.now (closing_lines session.now.number number a.question a.closing)) result (K.taken out.new) }
-    ensures told { OnOk result ((q : Question) (k : Kept) → slice_get session.now.questions (number - 1) ≡ Some q → slice_get session.now.kept (number - 1) ≡ Some k → is_left_open k.tag ≡ true → HasClosing log.now.p.now (L.entries log.now.list.now) (L.seal log.now.list.now) q) }
+    ensures text { (q : Question) (k : Kept) (a : Answered) → slice_get session.now.questions (number - 1) ≡ Some q
+        → slice_get session.now.kept (number - 1) ≡ Some k
+        → IsAnswered log.now.p.now (L.entries log.now.list.now) (L.seal log.now.list.now) q k a →
+        Puts (K.taken out.old) (lines_text log.now.p.now (closing_lines session.now.number number a.question a.closing))
+        result (K.taken out.new) }
+    ensures told { OnOk result ((q : Question) (k : Kept) → slice_get session.now.questions (number - 1) ≡ Some q
+        → slice_get session.now.kept (number - 1) ≡ Some k → is_left_open k.tag ≡ true
+        → HasClosing log.now.p.now (L.entries log.now.list.now) (L.seal log.now.list.now) q) }
     ensures counts { Counts (K.faults out.old) result (K.faults out.new) }
 {
     if !is_open(session, number) {
@@ -110,9 +121,12 @@ fn put_answer<K: Sink, L: Front>(
     requires first { 1 ≤ number }
     requires within { number ≤ length session.now.questions }
     requires asked { AllByRecursion (CanBeAsked log.now.p.now) session.now.questions }
-    ensures text { (q : Question) (r : Reply) → slice_get session.now.questions (number - 1) ≡ Some q → IsClosingReply log.now.p.now (L.entries log.now.list.now) (L.seal log.now.list.now) q r →
-        Puts (K.taken out.old) (lines_text log.now.p.now (closing_lines session.now.number number q (Some r))) result (K.taken out.new) }
-    ensures told { OnOk result ((q : Question) → slice_get session.now.questions (number - 1) ≡ Some q → HasClosing log.now.p.now (L.entries log.now.list.now) (L.seal log.now.list.now) q) }
+    ensures text { (q : Question) (r : Reply) → slice_get session.now.questions (number - 1) ≡ Some q
+        → IsClosingReply log.now.p.now (L.entries log.now.list.now) (L.seal log.now.list.now) q r →
+        Puts (K.taken out.old) (lines_text log.now.p.now (closing_lines session.now.number number q (Some r))) result
+        (K.taken out.new) }
+    ensures told { OnOk result ((q : Question) → slice_get session.now.questions (number - 1) ≡ Some q
+        → HasClosing log.now.p.now (L.entries log.now.list.now) (L.seal log.now.list.now) q) }
     ensures counts { Counts (K.faults out.old) result (K.faults out.new) }
 {
     // The proof needs what holds of the entries, and the call says so.

@@ -29,9 +29,12 @@ pub fn put_items<K: Sink, L: Front>(
 ) -> Result<(), WriteFault>
     requires log { IsLog log.now.p.now (L.entries log.now.list.now) }
     requires few { length (L.entries log.now.list.now) + 1 < 2 ^ 32 }
-    requires replies { AllByRecursion (IsReplied log.now.p.now (L.entries log.now.list.now) (L.seal log.now.list.now)) sessions.now }
-    ensures text { (ts : List SessionAnswers) → AreAnswered log.now.p.now (L.entries log.now.list.now) (L.seal log.now.list.now) sessions.now ts →
-        Puts (K.taken out.old) (lines_text log.now.p.now (told_from ts 0 (item_lines (L.entries log.now.list.now) (L.seal log.now.list.now)))) result (K.taken out.new) }
+    requires replies { AllByRecursion (IsReplied log.now.p.now (L.entries log.now.list.now) (L.seal log.now.list.now))
+        sessions.now }
+    ensures text { (ts : List SessionAnswers) → AreAnswered log.now.p.now (L.entries log.now.list.now)
+        (L.seal log.now.list.now) sessions.now ts →
+        Puts (K.taken out.old) (lines_text log.now.p.now (told_from ts 0
+        (item_lines (L.entries log.now.list.now) (L.seal log.now.list.now)))) result (K.taken out.new) }
     ensures counts { Counts (K.faults out.old) result (K.faults out.new) }
 {
     for number in 0..log.list.count() {
@@ -49,9 +52,12 @@ fn put_seal<K: Sink, L: Front>(
     out: &mut K,
 ) -> Result<(), WriteFault>
     requires log { IsLog log.now.p.now (L.entries log.now.list.now) }
-    requires replies { AllByRecursion (IsReplied log.now.p.now (L.entries log.now.list.now) (L.seal log.now.list.now)) sessions.now }
-    ensures text { (ts : List SessionAnswers) → AreAnswered log.now.p.now (L.entries log.now.list.now) (L.seal log.now.list.now) sessions.now ts →
-        Puts (K.taken out.old) (lines_text log.now.p.now (told_from ts (length (L.entries log.now.list.now)) (seal_lines (L.seal log.now.list.now)))) result (K.taken out.new) }
+    requires replies { AllByRecursion (IsReplied log.now.p.now (L.entries log.now.list.now) (L.seal log.now.list.now))
+        sessions.now }
+    ensures text { (ts : List SessionAnswers) → AreAnswered log.now.p.now (L.entries log.now.list.now)
+        (L.seal log.now.list.now) sessions.now ts →
+        Puts (K.taken out.old) (lines_text log.now.p.now (told_from ts (length (L.entries log.now.list.now))
+        (seal_lines (L.seal log.now.list.now)))) result (K.taken out.new) }
     ensures counts { Counts (K.faults out.old) result (K.faults out.new) }
 {
     let Some(_) = log.list.sealed() else {
@@ -71,7 +77,8 @@ fn put_entry<K: Sink>(
     out: &mut K,
 ) -> Result<(), WriteFault>
     requires { EntryIsOver (length p.now.names) entry.now }
-    ensures text { Puts (K.taken out.old) (line_text p.now (lines.Entry number (made_by entry.now.recipe) entry.now.vector) ++ 10 ∷ []) result (K.taken out.new) }
+    ensures text { Puts (K.taken out.old) (line_text p.now (lines.Entry number (made_by entry.now.recipe)
+        entry.now.vector) ++ 10 ∷ []) result (K.taken out.new) }
     ensures counts { Counts (K.faults out.old) result (K.faults out.new) }
 {
     let mut line = Vec::new(alloc);

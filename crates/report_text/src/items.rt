@@ -28,7 +28,8 @@ impl<'a> Model for Items<'a> {
 
     ghost view = { λ x. record { entries = map arc_value x.entries.now; seal = option_map (λ s. s.now) x.seal } };
 
-    ghost invariant = { λ x. AllByRecursion IsBasisEntry (map arc_value x.entries.now) × (length (map arc_value x.entries.now) + 1 < 2 ^ 32) };
+    ghost invariant = { λ x. AllByRecursion IsBasisEntry (map arc_value x.entries.now)
+        × (length (map arc_value x.entries.now) + 1 < 2 ^ 32) };
 }
 
 impl<'a> Items<'a> {
@@ -36,7 +37,10 @@ impl<'a> Items<'a> {
     pub fn of(entries: &'a [Arc<Entry>], seal: Option<&'a Sealed>) -> Items<'a>
         requires known { AllByRecursion IsBasisEntry (map arc_value entries.now) }
         requires few { length (map arc_value entries.now) + 1 < 2 ^ 32 }
-        ensures { result ≡ record { entries = map arc_value entries.entry.now; seal = option_map (λ s. s.now) seal.entry } }
+        ensures { result ≡ record {
+          entries = map arc_value entries.entry.now;
+          seal = option_map (λ s. s.now) seal.entry;
+        } }
     {
         Items { entries, seal }
     }

@@ -1,7 +1,8 @@
 //! The answers that were made while the log grew.
 
 ghost use Rattle.std.specs.List.{AllByRecursion};
-ghost use Rattle.std.specs.Prelude.{◌≡◌, ◌+◌, ◌-◌, ◌<◌, ◌≤◌, ◌↔◌, ℕ, List, length, take, slice_get, Some, IfOk, IsTrue, MatchOption};
+ghost use Rattle.std.specs.Prelude.{◌≡◌, ◌+◌, ◌-◌, ◌<◌, ◌≤◌, ◌↔◌, ℕ, List, length, take, slice_get, Some, IfOk, IsTrue};
+ghost use Rattle.std.specs.Prelude.{MatchOption};
 ghost use Rattle.report_lines.specs.Texts.{lines_text};
 ghost use Rattle.session_text.specs.declared.question.Question.{Question};
 ghost use Rattle.session_core.specs.declared.kept.Kept.{Kept};
@@ -37,8 +38,10 @@ pub fn put_live_at<K: Sink, L: Front>(
     out: &mut K,
 ) -> Result<(), WriteFault>
     requires log { IsLog log.now.p.now (L.entries log.now.list.now) }
-    requires replied { AllByRecursion (IsReplied log.now.p.now (L.entries log.now.list.now) (L.seal log.now.list.now)) sessions.now }
-    ensures text { (ts : List SessionAnswers) → AreAnswered log.now.p.now (L.entries log.now.list.now) (L.seal log.now.list.now) sessions.now ts →
+    requires replied { AllByRecursion (IsReplied log.now.p.now (L.entries log.now.list.now) (L.seal log.now.list.now))
+        sessions.now }
+    ensures text { (ts : List SessionAnswers) → AreAnswered log.now.p.now (L.entries log.now.list.now)
+        (L.seal log.now.list.now) sessions.now ts →
         Puts (K.taken out.old) (lines_text log.now.p.now (live_at front ts)) result (K.taken out.new) }
     ensures counts { Counts (K.faults out.old) result (K.faults out.new) }
 {
@@ -58,8 +61,10 @@ fn put_session_at<K: Sink, L: Front>(
 ) -> Result<(), WriteFault>
     requires log { IsLog log.now.p.now (L.entries log.now.list.now) }
     requires replied { IsReplied log.now.p.now (L.entries log.now.list.now) (L.seal log.now.list.now) session.now }
-    ensures text { (t : SessionAnswers) → IsSessionAnswered log.now.p.now (L.entries log.now.list.now) (L.seal log.now.list.now) session.now t →
-        Puts (K.taken out.old) (lines_text log.now.p.now (live_from front session.now.number 1 t.answers)) result (K.taken out.new) }
+    ensures text { (t : SessionAnswers) → IsSessionAnswered log.now.p.now (L.entries log.now.list.now)
+        (L.seal log.now.list.now) session.now t →
+        Puts (K.taken out.old) (lines_text log.now.p.now (live_from front session.now.number 1 t.answers)) result
+        (K.taken out.new) }
     ensures counts { Counts (K.faults out.old) result (K.faults out.new) }
 {
     let mut number = first_from(session, front);
@@ -70,8 +75,8 @@ fn put_session_at<K: Sink, L: Front>(
     Ok(())
 }
 
-/// The number of the first question that was answered at this front or at a later one, and one more than that of the last
-/// where there is none. Fronts rise, so it is found by halves.
+/// The number of the first question that was answered at this front or at a later one, and one more than that of the
+/// last where there is none. Fronts rise, so it is found by halves.
 fn first_from(session: &Session, front: u32) -> u32
     requires { length session.now.kept ≡ length session.now.questions }
     ensures first { 1 ≤ result }
@@ -109,8 +114,10 @@ fn is_before(session: &Session, number: u32, front: u32) -> bool
 /// The reply to the question with this number, if there is one and it was made at the front.
 fn reply_at(session: &Session, number: u32, front: u32) -> Option<Kept>
     requires { 1 ≤ number }
-    ensures is { MatchOption result ((k : Kept) → slice_get session.now.kept (number - 1) ≡ Some k → k.front ≡ front → ⊥)
-        (λ k. (slice_get session.now.kept (number - 1) ≡ Some k) × (k.front ≡ front) × (number ≤ length session.now.questions)) }
+    ensures is { MatchOption result ((k : Kept) → slice_get session.now.kept (number - 1) ≡ Some k
+        → k.front ≡ front → ⊥)
+        (λ k. (slice_get session.now.kept (number - 1) ≡ Some k) × (k.front ≡ front)
+        × (number ≤ length session.now.questions)) }
 {
     if number > session.count() {
         return None;
@@ -137,8 +144,10 @@ fn put_answer<K: Sink, L: Front>(
     requires within { number ≤ length session.now.questions }
     requires kept { slice_get session.now.kept (number - 1) ≡ Some kept }
     requires replied { IsReplied log.now.p.now (L.entries log.now.list.now) (L.seal log.now.list.now) session.now }
-    ensures text { (q : Question) (a : Answered) → slice_get session.now.questions (number - 1) ≡ Some q → IsAnswered log.now.p.now (L.entries log.now.list.now) (L.seal log.now.list.now) q kept a →
-        Puts (K.taken out.old) (lines_text log.now.p.now (live_lines session.now.number number a)) result (K.taken out.new) }
+    ensures text { (q : Question) (a : Answered) → slice_get session.now.questions (number - 1) ≡ Some q
+        → IsAnswered log.now.p.now (L.entries log.now.list.now) (L.seal log.now.list.now) q kept a →
+        Puts (K.taken out.old) (lines_text log.now.p.now (live_lines session.now.number number a)) result
+        (K.taken out.new) }
     ensures counts { Counts (K.faults out.old) result (K.faults out.new) }
 {
     // The proof needs what holds of the entries, and the call says so.
@@ -163,8 +172,10 @@ fn verdict_of<L: Front>(
 ) -> Result<Verdict, AllocError>
     requires log { IsLog log.now.p.now (L.entries log.now.list.now) }
     requires asked { CanBeAsked log.now.p.now question.now }
-    requires reply { IsReply log.now.p.now (take kept.front (L.entries log.now.list.now)) (seal_below (L.entries log.now.list.now) (L.seal log.now.list.now) kept.front) question.now kept }
-    ensures { IfOk result (IsVerdict log.now.p.now (vectors_below (L.entries log.now.list.now) kept.front) (seal_below (L.entries log.now.list.now) (L.seal log.now.list.now) kept.front) question.now) }
+    requires reply { IsReply log.now.p.now (take kept.front (L.entries log.now.list.now))
+        (seal_below (L.entries log.now.list.now) (L.seal log.now.list.now) kept.front) question.now kept }
+    ensures { IfOk result (IsVerdict log.now.p.now (vectors_below (L.entries log.now.list.now) kept.front)
+        (seal_below (L.entries log.now.list.now) (L.seal log.now.list.now) kept.front) question.now) }
 {
     match kept.tag {
         Tag::Normal => {

@@ -6,8 +6,8 @@ use presentation::Presentation;
 use session_core::Session;
 use std::sync::Arc;
 
-/// The log of a presentation with its end, and the sessions with their replies. The seal is there exactly where the end is
-/// `Sealed`.
+/// The log of a presentation with its end, and the sessions with their replies. The seal is there exactly where the end
+/// is `Sealed`.
 #[derive(Drop)]
 pub struct Report {
     pub pres: Arc<Presentation>,

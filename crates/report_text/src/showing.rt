@@ -31,7 +31,8 @@ use session_text::Question;
 use std::alloc::{AllocError, Global};
 use step_lists::Steps;
 
-/// Writes the proofs of a verdict by the entries below the front: one for each subject of a yes, and none for any other.
+/// Writes the proofs of a verdict by the entries below the front: one for each subject of a yes, and none for any
+/// other.
 pub fn put_proofs<K: Sink, L: Front>(
     alloc: Global,
     log: &Log<'_, '_, L>,
@@ -42,8 +43,10 @@ pub fn put_proofs<K: Sink, L: Front>(
 ) -> Result<(), WriteFault>
     requires log { IsLog log.now.p.now (L.entries log.now.list.now) }
     requires asked { CanBeAsked log.now.p.now q.now }
-    requires shown { AllByRecursion (IsShown (vectors_below (L.entries log.now.list.now) front)) (to_show q.now verdict.now) }
-    ensures text { (proofs : List (List Step)) → AreProofsOf (vectors_below (L.entries log.now.list.now) front) (to_show q.now verdict.now) proofs →
+    requires shown { AllByRecursion (IsShown (vectors_below (L.entries log.now.list.now) front))
+        (to_show q.now verdict.now) }
+    ensures text { (proofs : List (List Step))
+        → AreProofsOf (vectors_below (L.entries log.now.list.now) front) (to_show q.now verdict.now) proofs →
         Puts (K.taken out.old) (lines_text log.now.p.now (proof_lines 1 proofs)) result (K.taken out.new) }
     ensures counts { Counts (K.faults out.old) result (K.faults out.new) }
 {
@@ -64,7 +67,8 @@ fn put_all<K: Sink, L: Front>(
     requires log { IsLog log.now.p.now (L.entries log.now.list.now) }
     requires asked { CanBeAsked log.now.p.now q.now }
     requires shown { AllByRecursion (IsShown (vectors_below (L.entries log.now.list.now) front)) (subjects q.now) }
-    ensures text { (proofs : List (List Step)) → AreProofsOf (vectors_below (L.entries log.now.list.now) front) (subjects q.now) proofs →
+    ensures text { (proofs : List (List Step))
+        → AreProofsOf (vectors_below (L.entries log.now.list.now) front) (subjects q.now) proofs →
         Puts (K.taken out.old) (lines_text log.now.p.now (proof_lines 1 proofs)) result (K.taken out.new) }
     ensures counts { Counts (K.faults out.old) result (K.faults out.new) }
 {
@@ -88,8 +92,10 @@ fn put_one<K: Sink, L: Front>(
     requires first { 1 ≤ number }
     requires within { number ≤ length (subjects q.now) }
     requires shown { IsShown (vectors_below (L.entries log.now.list.now) front) (subject_at q.now number) }
-    ensures text { (steps : List Step) → AreStepsOf (vectors_below (L.entries log.now.list.now) front) (subject_at q.now number) steps →
-        Puts (K.taken out.old) (line_text log.now.p.now (lines.Proof number steps) ++ 10 ∷ []) result (K.taken out.new) }
+    ensures text { (steps : List Step) → AreStepsOf (vectors_below (L.entries log.now.list.now) front)
+        (subject_at q.now number) steps →
+        Puts (K.taken out.old) (line_text log.now.p.now (lines.Proof number steps) ++ 10 ∷ []) result
+        (K.taken out.new) }
     ensures counts { Counts (K.faults out.old) result (K.faults out.new) }
 {
     let steps = steps_of(alloc, log, front, q, number)?;

@@ -28,8 +28,8 @@ use session_core::Session;
 use std::alloc::{AllocError, Global};
 use std::sync::Arc;
 
-/// Writes the text of the report, line by line. Where the sink tells its bytes, `Ok` has appended that text, and a refusal a
-/// front of it.
+/// Writes the text of the report, line by line. Where the sink tells its bytes, `Ok` has appended that text, and a
+/// refusal a front of it.
 ///
 /// `Failed` comes only where the sink has counted a failure.
 pub fn write_report<K: Sink>(alloc: Global, r: &Report, out: &mut K) -> Result<(), WriteFault>
@@ -80,7 +80,8 @@ fn index_of(alloc: Global, entries: &[Arc<Entry>]) -> Result<Index, AllocError>
 
 /// Writes the two lines at the head.
 fn put_head<K: Sink>(alloc: Global, p: &Presentation, out: &mut K) -> Result<(), WriteFault>
-    ensures text { Puts (K.taken out.old) ((title ++ 10 ∷ []) ++ (pres_line p.now ++ 10 ∷ [])) result (K.taken out.new) }
+    ensures text { Puts (K.taken out.old) ((title ++ 10 ∷ []) ++ (pres_line p.now ++ 10 ∷ [])) result
+        (K.taken out.new) }
     ensures counts { Counts (K.faults out.old) result (K.faults out.new) }
 {
     let first = Vec::from_slice(alloc, b"metab report 1")?;

@@ -54,13 +54,15 @@ terms_back [] = refl
 terms_back (t ∷ f) = ap (λ (r : FormalSum Place). t ∷ r) (terms_back f)
 
 -- a word that entries of the presentation show is trivial
-shown_trivial : (p : Presented) (es : List BasisEntry) (w : List Letter) → IsPresented p → AllByRecursion IsBasisEntry es → AreOf p es → IsOver (length p.names) w
+shown_trivial : (p : Presented) (es : List BasisEntry) (w : List Letter) → IsPresented p → AllByRecursion IsBasisEntry es → AreOf p es
+    → IsOver (length p.names) w
     → IsShown (vectors_of es) w → moves.Trivial p w
 shown_trivial p es w known all of over shown =
     let sum : IsSum (vectors_of es) w = shown_sum (vectors_of es) w shown in
     let has : (f : FormalSum Place) → f ≡ fox w → (x : Place) → coefficient same_place f x ≡ steps_at (vectors_of es) sum.steps x =
     λ f e. subst (λ (h : FormalSum Place). (x : Place) → coefficient same_place h x ≡ steps_at (vectors_of es) sum.steps x) (sym e) sum.is in
-    let member : IsMember p (sum_of (terms_of (fox w))) = value_member p es (vectors_of es) sum.steps (terms_of (fox w)) refl all of sum.are (has (sum_of (terms_of (fox w))) (terms_back (fox w))) in
+    let member : IsMember p (sum_of (terms_of (fox w))) = value_member p es (vectors_of es) sum.steps (terms_of (fox w)) refl all of sum.are
+    (has (sum_of (terms_of (fox w))) (terms_back (fox w))) in
     member_is_trivial p w known over (subst (IsMember p) (terms_back (fox w)) member)
 
 all_trivial : (p : Presented) (es : List BasisEntry) (ws : List (List Letter)) → IsPresented p → AllByRecursion IsBasisEntry es → AreOf p es
@@ -78,11 +80,13 @@ written_over : (n : ℕ) (ws : List (List Letter)) → AllByRecursion (IsWritten
 written_over n [] h = tt
 written_over n (w ∷ ws) h = (h.0.0, written_over n ws h.1)
 
-images_all : (P : List Letter → Type 0) (f : List Letter → List Letter) (rs : List (List Letter)) → AllByRecursion P (map f rs) → AllByRecursion (λ r. P (f r)) rs
+images_all : (P : List Letter → Type 0) (f : List Letter → List Letter) (rs : List (List Letter)) → AllByRecursion P (map f rs)
+    → AllByRecursion (λ r. P (f r)) rs
 images_all P f [] h = tt
 images_all P f (r ∷ rs) h = (h.0, images_all P f rs h.1)
 
-all_images : (P : List Letter → Type 0) (f : List Letter → List Letter) (rs : List (List Letter)) → AllByRecursion (λ r. P (f r)) rs → AllByRecursion P (map f rs)
+all_images : (P : List Letter → Type 0) (f : List Letter → List Letter) (rs : List (List Letter)) → AllByRecursion (λ r. P (f r)) rs
+    → AllByRecursion P (map f rs)
 all_images P f [] h = tt
 all_images P f (r ∷ rs) h = (h.0, all_images P f rs h.1)
 
@@ -94,7 +98,8 @@ trivial_map_extends p source images asked trivial =
     let are : AreImages source images p = record { one_each = formed.0; over = written_over (length p.names) images asked.0.1 } in
     kept_relators_suffice source p images formed.1 are
     (λ r listed. All-contains (λ (s : List Letter). moves.Trivial p (word_image images s)) source.relators r
-    (All-from_recursion (λ (s : List Letter). moves.Trivial p (word_image images s)) source.relators (images_all (moves.Trivial p) (word_image images) source.relators trivial)) listed)
+    (All-from_recursion (λ (s : List Letter). moves.Trivial p (word_image images s)) source.relators
+    (images_all (moves.Trivial p) (word_image images) source.relators trivial)) listed)
 
 -- a question about a map whose subjects are all trivial: the map extends
 extends_where_trivial : (p : Presented) (q : Question) → CanBeAsked p q → AsksWhetherExtends q → AllAreTrivial p q → MapExtends p q
@@ -116,23 +121,28 @@ trivial_where_extends p (questions.Hom source images) known extends =
 
 -- ---- what verdicts say whatever the list is
 
-pub trivial_verdict : (p : Presented) (es : List BasisEntry) (b : List (List Term)) (seal : Option Seal) (q : Question) (v : Verdict) → IsPresented p → AllByRecursion IsBasisEntry es → AreOf p es → CanBeAsked p q
+pub trivial_verdict : (p : Presented) (es : List BasisEntry) (b : List (List Term)) (seal : Option Seal) (q : Question) (v : Verdict) → IsPresented p
+    → AllByRecursion IsBasisEntry es → AreOf p es → CanBeAsked p q
     → b ≡ vectors_of es → IsVerdict p b seal q v → v ≡ verdicts.Trivial → AllAreTrivial p q
 trivial_verdict p es b seal q v known all of asked are is e =
-    let here : IsVerdict p (vectors_of es) seal q verdicts.Trivial = subst (λ (c : List (List Term)). IsVerdict p c seal q verdicts.Trivial) are (subst (IsVerdict p b seal q) e is) in
+    let here : IsVerdict p (vectors_of es) seal q verdicts.Trivial =
+    subst (λ (c : List (List Term)). IsVerdict p c seal q verdicts.Trivial) are (subst (IsVerdict p b seal q) e is) in
     shown_are_trivial p es q known all of asked here.1
 
-pub extends_verdict : (p : Presented) (es : List BasisEntry) (b : List (List Term)) (seal : Option Seal) (q : Question) (v : Verdict) → IsPresented p → AllByRecursion IsBasisEntry es → AreOf p es → CanBeAsked p q
+pub extends_verdict : (p : Presented) (es : List BasisEntry) (b : List (List Term)) (seal : Option Seal) (q : Question) (v : Verdict) → IsPresented p
+    → AllByRecursion IsBasisEntry es → AreOf p es → CanBeAsked p q
     → b ≡ vectors_of es → IsVerdict p b seal q v → v ≡ verdicts.Extends → MapExtends p q
 extends_verdict p es b seal q v known all of asked are is e =
-    let here : IsVerdict p (vectors_of es) seal q verdicts.Extends = subst (λ (c : List (List Term)). IsVerdict p c seal q verdicts.Extends) are (subst (IsVerdict p b seal q) e is) in
+    let here : IsVerdict p (vectors_of es) seal q verdicts.Extends =
+    subst (λ (c : List (List Term)). IsVerdict p c seal q verdicts.Extends) are (subst (IsVerdict p b seal q) e is) in
     extends_where_trivial p q asked here.0 (shown_are_trivial p es q known all of asked here.1)
 
 -- ---- strong bases
 module _ (p : Presented) (b : List (List Term)) (known : IsPresented p) (entries : AreEntries b) (basis : IsStrongBasis p b) where
   decides : (w : List Letter) (rest : List Term) (steps : List Step) → IsRest b (fox_at w) rest steps → (rest ≡ []) ↔ InModule basis.gens (fox_at w)
   decides w rest steps chain =
-      empty_for_members basis.gens b entries basis.strong (fox_at w) rest steps chain.vector.sparse (runs_are_chains b steps (fox_at w) (coefficient_at rest) chain.runs) chain.end
+      empty_for_members basis.gens b entries basis.strong (fox_at w) rest steps chain.vector.sparse
+      (runs_are_chains b steps (fox_at w) (coefficient_at rest) chain.runs) chain.end
 
   strong_shown : (w : List Letter) → IsOver (length p.names) w → IsShown b w → moves.Trivial p w
   strong_shown w over shown = member_is_trivial p w known over (listed_member p basis.gens (fox w) basis.generators ((decides w [] shown.0 shown.1).0 refl))
@@ -165,7 +175,8 @@ module _ (p : Presented) (b : List (List Term)) (known : IsPresented p) (entries
         gens = basis.gens;
         generators = basis.generators;
         vector = chain.vector;
-        reduced = reduced basis.gens b entries basis.strong (fox_at w) (coefficient_at rest) ends.0 (runs_are_chains b ends.0 (fox_at w) (coefficient_at rest) chain.runs) chain.end;
+        reduced = reduced basis.gens b entries basis.strong (fox_at w) (coefficient_at rest) ends.0
+            (runs_are_chains b ends.0 (fox_at w) (coefficient_at rest) chain.runs) chain.end;
       }
 
   by_strong : (q : Question) (seal : Option Seal) (v : Verdict) → CanBeAsked p q → HasSource q → IsSealedFor p seal → IsVerdict p b seal q v → IsExact p q v

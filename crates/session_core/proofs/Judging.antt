@@ -12,11 +12,13 @@ use Rattle.session_core.specs.Questions.{AsksWhetherTrivial}
 use Rattle.session_core.specs.Verdicts.{LeavesSome, IsSealedFor}
 
 -- a rest that isn't empty is some rest
-pub some_rest : (b : List (List Term)) (q : Question) (j : ℕ) (rest : List Term) → IsFirstUnshown b q j (LeavesRest b rest) → IsFirstUnshown b q j (LeavesSome b)
+pub some_rest : (b : List (List Term)) (q : Question) (j : ℕ) (rest : List Term) → IsFirstUnshown b q j (LeavesRest b rest)
+    → IsFirstUnshown b q j (LeavesSome b)
 some_rest b q j rest first = record { number = first.number; within = first.within; goes = (rest, first.goes); before = first.before }
 
 -- of a question with one subject that is the first one
-pub only_one : (b : List (List Term)) (q : Question) (j : ℕ) (Goes : List Letter → Type 0) → length (subjects q) ≡ 1 → IsFirstUnshown b q j Goes → IsFirstUnshown b q 1 Goes
+pub only_one : (b : List (List Term)) (q : Question) (j : ℕ) (Goes : List Letter → Type 0) → length (subjects q) ≡ 1 → IsFirstUnshown b q j Goes
+    → IsFirstUnshown b q 1 Goes
 only_one b q j Goes one first =
     let low = first.number in
     let high = first.within in

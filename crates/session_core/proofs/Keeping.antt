@@ -1,5 +1,6 @@
 -- Replies that are kept.
-use Rattle.std.proofs.Common.{◌≡◌, ℕ, zero, suc, ◌+◌, ◌-◌, ◌<◌, ◌≤◌, List, [], ◌∷◌, ◌++◌, length, length-append, Option, Some, slice_get, sym, ap, subst, ◌∙◌, arith, refl}
+use Rattle.std.proofs.Common.{◌≡◌, ℕ, zero, suc, ◌+◌, ◌-◌, ◌<◌, ◌≤◌, List, [], ◌∷◌, ◌++◌, length, length-append, Option, Some, slice_get, sym, ap, subst, ◌∙◌}
+use Rattle.std.proofs.Common.{arith, refl}
 use Rattle.std.specs.List.{AllByRecursion}
 use Rattle.presentation.specs.Presented.{Presented}
 use Rattle.module_vec.specs.declared.places.Term.{Term}
@@ -32,7 +33,8 @@ rising_more base [] k rising le = (le, tt)
 rising_more base (a ∷ ks) k rising le = (rising.0, rising_more a.front ks k rising.1 le)
 
 -- one more reply
-pub kept_more : (s : SessionState) (k : Kept) (ks : List Kept) → IsSession s → length s.kept < length s.questions → last_front s ≤ k.front → ks ≡ s.kept ++ k ∷ []
+pub kept_more : (s : SessionState) (k : Kept) (ks : List Kept) → IsSession s → length s.kept < length s.questions → last_front s ≤ k.front
+    → ks ≡ s.kept ++ k ∷ []
     → IsSession (record { number = s.number; questions = s.questions; base = s.base; kept = ks })
 kept_more s k ks is room le new =
     let long = length-append s.kept (k ∷ []) in
@@ -66,7 +68,8 @@ tag_extends (verdicts.Fails j) e = absurd (cc)
 tag_extends (verdicts.Unknown j) e = absurd (cc)
 tag_extends (verdicts.Stop j stop) e = absurd (cc)
 
-pub reply_to : (p : Presented) (es : List BasisEntry) (b : List (List Term)) (seal : Option Seal) (q r : Question) (v : Verdict) (k : Kept) (front : ℕ) → b ≡ vectors_of es → r ≡ q
+pub reply_to : (p : Presented) (es : List BasisEntry) (b : List (List Term)) (seal : Option Seal) (q r : Question) (v : Verdict) (k : Kept) (front : ℕ)
+    → b ≡ vectors_of es → r ≡ q
     → IsVerdict p b seal r v → k ≡ record { front = front; tag = tag_of v } → front ≡ item_count es seal → IsReply p es seal q k
 reply_to p es b seal q r v k front are same is kept items =
     record {

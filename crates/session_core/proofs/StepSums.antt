@@ -17,21 +17,25 @@ use Rattle.hom_check.specs.Shown.{fox_at, IsShown}
 use Rattle.hom_check.proofs.Chaining.{written_at}
 use Rattle.session_core.specs.Proofs.{AreStepsOf}
 
-pub steps_of : (b : List (List Term)) (w u : List Letter) (v rest : List Term) (steps : List Step) → u ≡ w → IsWritten (fox u) v → IsRest b (coefficient_at v) rest steps → AreStepsOf b w steps
+pub steps_of : (b : List (List Term)) (w u : List Letter) (v rest : List Term) (steps : List Step) → u ≡ w → IsWritten (fox u) v
+    → IsRest b (coefficient_at v) rest steps → AreStepsOf b w steps
 steps_of b w u v rest steps same is chain =
     subst (λ (z : List Letter). AreStepsOf b z steps) same (rest, subst (λ (f : Coefficients). IsRest b f rest steps) (written_at u v is) chain)
 
-pub fails_of : (b : List (List Term)) (w u : List Letter) (v : List Term) (fault : ReduceFault) → u ≡ w → IsWritten (fox u) v → Fails b (coefficient_at v) fault → Fails b (fox_at w) fault
+pub fails_of : (b : List (List Term)) (w u : List Letter) (v : List Term) (fault : ReduceFault) → u ≡ w → IsWritten (fox u) v → Fails b (coefficient_at v) fault
+    → Fails b (fox_at w) fault
 fails_of b w u v fault same is fails =
     subst (λ (z : List Letter). Fails b (fox_at z) fault) same (subst (λ (f : Coefficients). Fails b f fault) (written_at u v is) fails)
 
 -- where the chain ends at zero its steps add up to the Fox vector
-pub steps_add_up : (b : List (List Term)) (w : List Letter) (steps : List Step) → AreStepsOf b w steps → IsShown b w → (x : Place) → fox_at w x ≡ steps_at b steps x
+pub steps_add_up : (b : List (List Term)) (w : List Letter) (steps : List Step) → AreStepsOf b w steps → IsShown b w → (x : Place)
+    → fox_at w x ≡ steps_at b steps x
 steps_add_up b w steps of shown x =
     let chain : IsRest b (fox_at w) of.0 steps = of.1 in
     let zero_chain : IsRest b (fox_at w) [] shown.0 = shown.1 in
     let ends = same_end b steps shown.0 (fox_at w) (coefficient_at of.0) (coefficient_at [])
-    (runs_are_chains b steps (fox_at w) (coefficient_at of.0) chain.runs) chain.end (runs_are_chains b shown.0 (fox_at w) (coefficient_at []) zero_chain.runs) zero_chain.end in
+    (runs_are_chains b steps (fox_at w) (coefficient_at of.0) chain.runs) chain.end (runs_are_chains b shown.0 (fox_at w) (coefficient_at []) zero_chain.runs)
+    zero_chain.end in
     let sum = chain.sum x in
     let none : coefficient_at of.0 x ≡ pos 0 = ends.1 x in
     omega (arith, ints, sum, none)

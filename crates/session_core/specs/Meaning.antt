@@ -15,7 +15,8 @@ use Rattle.session_text.specs.Questions.{subjects}
 use Rattle.hom_check.specs.Subjects.{subject_at}
 use Rattle.hom_check.specs.Shown.{fox_at}
 use Rattle.outcomes.specs.declared.verdicts.Verdict.{Verdict}
-use Rattle.outcomes.specs.declared.verdicts.Verdict.TheVariants.{Trivial, NotTrivial, Normal, Extends, Fails, Unknown, Stop}
+use Rattle.outcomes.specs.declared.verdicts.Verdict.TheVariants.{Trivial, NotTrivial, Normal, Extends, Fails, Unknown}
+use Rattle.outcomes.specs.declared.verdicts.Verdict.TheVariants.{Stop}
 use Rattle.session_core.specs.Questions.{AsksWhetherTrivial, AsksForNormal, AsksWhetherExtends}
 
 -- moves carry each subject to the empty word

@@ -4,8 +4,8 @@ use Rattle.session_text.specs.declared.TheConstants.{QUESTIONS}
 use Rattle.session_text.specs.declared.question.Question.{Question}
 use Rattle.session_core.specs.declared.kept.Kept.{Kept}
 
--- a session's number, its questions in order, its base, and the replies kept so far: that to question number j stands at
--- place j - 1
+-- a session's number, its questions in order, its base, and the replies kept so far: that to question number j stands
+-- at place j - 1
 pub record SessionState : Type 0 where
   pub number : ℕ
   pub questions : List Question

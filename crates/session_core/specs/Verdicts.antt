@@ -9,7 +9,8 @@ use Rattle.session_text.specs.Questions.{subjects}
 use Rattle.hom_check.specs.Shown.{IsShown, LeavesRest, StopsAt, IsFirstUnshown}
 use Rattle.basis_entry.specs.Seals.{Seal}
 use Rattle.outcomes.specs.declared.verdicts.Verdict.{Verdict}
-use Rattle.outcomes.specs.declared.verdicts.Verdict.TheVariants.{Trivial, NotTrivial, Normal, Extends, Fails, Unknown, Stop}
+use Rattle.outcomes.specs.declared.verdicts.Verdict.TheVariants.{Trivial, NotTrivial, Normal, Extends, Fails, Unknown}
+use Rattle.outcomes.specs.declared.verdicts.Verdict.TheVariants.{Stop}
 use Rattle.session_core.specs.Questions.{AsksWhetherTrivial, AsksForNormal, AsksWhetherExtends}
 
 -- there is a seal, and it is of this presentation

@@ -47,7 +47,8 @@ pub fn verdict<F: Front>(
 
 /// The verdict on what is shown of the subjects.
 fn on_shown(sealed: bool, q: &Question, shown: Shown) -> Verdict
-    ensures { (p : Presented) (b : List (List Term)) (seal : Option Seal) → (IsTrue sealed ↔ IsSealedFor p seal) → Shows b q.now shown → IsVerdict p b seal q.now result }
+    ensures { (p : Presented) (b : List (List Term)) (seal : Option Seal) → (IsTrue sealed ↔ IsSealedFor p seal)
+        → Shows b q.now shown → IsVerdict p b seal q.now result }
 {
     match shown {
         Shown::All => on_all(q),
@@ -68,7 +69,8 @@ fn is_sealed_for<F: Front>(list: &F, p: &Presentation) -> bool
 
 /// The verdict where all subjects are shown.
 fn on_all(q: &Question) -> Verdict
-    ensures { (p : Presented) (b : List (List Term)) (seal : Option Seal) → Shows b q.now shows.All → IsVerdict p b seal q.now result }
+    ensures { (p : Presented) (b : List (List Term)) (seal : Option Seal) → Shows b q.now shows.All
+        → IsVerdict p b seal q.now result }
 {
     match q {
         Question::Trivial(_) | Question::Equal(_, _) | Question::Normal(_) => Verdict::Trivial,
@@ -78,7 +80,8 @@ fn on_all(q: &Question) -> Verdict
 
 /// The verdict where this subject is the first that isn't shown, and leaves this rest.
 fn on_rest(sealed: bool, q: &Question, subject: u32, rest: ModVec) -> Verdict
-    ensures { (p : Presented) (b : List (List Term)) (seal : Option Seal) → (IsTrue sealed ↔ IsSealedFor p seal) → Shows b q.now (shows.Rest subject rest) → IsVerdict p b seal q.now result }
+    ensures { (p : Presented) (b : List (List Term)) (seal : Option Seal) → (IsTrue sealed ↔ IsSealedFor p seal)
+        → Shows b q.now (shows.Rest subject rest) → IsVerdict p b seal q.now result }
 {
     if !sealed {
         return Verdict::Unknown { subject };

@@ -1,8 +1,8 @@
 //! Sessions: questions about words over a presentation, asked of a list of entries, with the replies that are kept.
 //!
 //! A verdict is made from the entries that a list has and from whether it is sealed. What it says of words rests on the
-//! theorem of Magnus (1939) and on the exactness of strong bases (Lichtblau 2012): `Trivial` and `Extends` hold whatever the
-//! list is, and after the seal each verdict but `Stop` is exact.
+//! theorem of Magnus (1939) and on the exactness of strong bases (Lichtblau 2012): `Trivial` and `Extends` hold
+//! whatever the list is, and after the seal each verdict but `Stop` is exact.
 #![tactic(auto)]
 
 pub mod judge;

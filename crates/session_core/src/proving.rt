@@ -18,8 +18,9 @@ use session_text::Question;
 use std::alloc::Global;
 use step_lists::Steps;
 
-/// The steps of the chain of one subject's Fox vector by the entries below `front`. Where the chain ends at zero, they add
-/// up to that Fox vector, and so are a proof that the subject is trivial. The fault is the limit at which the chain stops.
+/// The steps of the chain of one subject's Fox vector by the entries below `front`. Where the chain ends at zero, they
+/// add up to that Fox vector, and so are a proof that the subject is trivial. The fault is the limit at which the chain
+/// stops.
 pub fn proof<L: VecList>(
     alloc: Global,
     p: &Presentation,

@@ -16,9 +16,9 @@ use session_text::Question;
 use std::alloc::{AllocError, Global};
 use std::sync::Arc;
 
-/// The verdict on the question by a seal. Unless it is `Stop` it is exact: `Trivial` and `Extends` are answered exactly where
-/// they hold, `Fails` names the first relator whose image isn't trivial, `Normal` gives the reduced form of the word's Fox
-/// vector, and `Unknown` is never answered (Magnus 1939, Lichtblau 2012).
+/// The verdict on the question by a seal. Unless it is `Stop` it is exact: `Trivial` and `Extends` are answered exactly
+/// where they hold, `Fails` names the first relator whose image isn't trivial, `Normal` gives the reduced form of the
+/// word's Fox vector, and `Unknown` is never answered (Magnus 1939, Lichtblau 2012).
 pub fn ask_sealed(alloc: Global, s: &Sealed, q: &Question) -> Result<Verdict, AllocError>
     requires question { CanBeAsked s.now.source q.now }
     ensures is { IfOk result (IsVerdict s.now.source (vectors_of s.now.entries) (Some s.now) q.now) }

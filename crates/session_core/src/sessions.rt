@@ -1,7 +1,8 @@
 //! `Session`: questions, and the replies that are kept.
 
 ghost use Rattle.std.specs.List.{AllByRecursion};
-ghost use Rattle.std.specs.Prelude.{◌≡◌, ◌+◌, ◌-◌, ◌<◌, ◌≤◌, [], ◌∷◌, ◌++◌, List, length, slice_get, Option, Some, IfOk, OnErr};
+ghost use Rattle.std.specs.Prelude.{◌≡◌, ◌+◌, ◌-◌, ◌<◌, ◌≤◌, [], ◌∷◌, ◌++◌, List, length, slice_get, Option, Some};
+ghost use Rattle.std.specs.Prelude.{IfOk, OnErr};
 ghost use Rattle.session_text.specs.declared.TheConstants.{QUESTIONS};
 ghost use Rattle.session_text.specs.declared.question.Question.{Question};
 ghost use Rattle.basis_entry.specs.Entries.{AreOf};
@@ -37,14 +38,24 @@ impl Model for Session {
 
     ghost Value = { SessionState };
 
-    ghost view = { λ s. record { number = s.number; questions = s.questions.items; base = s.base; kept = s.replies.items } };
+    ghost view = { λ s. record {
+      number = s.number;
+      questions = s.questions.items;
+      base = s.base;
+      kept = s.replies.items;
+    } };
 
-    ghost invariant = { λ s. IsSession (record { number = s.number; questions = s.questions.items; base = s.base; kept = s.replies.items }) × (length s.questions.items ≤ vec_capacity s.replies) };
+    ghost invariant = { λ s. IsSession (record {
+      number = s.number;
+      questions = s.questions.items;
+      base = s.base;
+      kept = s.replies.items;
+    }) × (length s.questions.items ≤ vec_capacity s.replies) };
 }
 
 impl Session {
-    /// The session with this number and these questions, before its first reply. The base is the least front of a reply. The
-    /// room for all replies is taken at once.
+    /// The session with this number and these questions, before its first reply. The base is the least front of a
+    /// reply. The room for all replies is taken at once.
     pub fn open(
         alloc: Global,
         number: u32,
@@ -52,7 +63,12 @@ impl Session {
         base: u32,
     ) -> Result<Session, AllocError>
         requires { length questions.items ≤ QUESTIONS }
-        ensures { IfOk result (λ s. s ≡ record { number = number; questions = questions.items; base = base; kept = [] }) }
+        ensures { IfOk result (λ s. s ≡ record {
+          number = number;
+          questions = questions.items;
+          base = base;
+          kept = [];
+        }) }
     {
         let replies = Vec::with_capacity(alloc, questions.len())?;
         Ok(Session {
@@ -75,7 +91,8 @@ impl Session {
         }
     }
 
-    /// Answers the next question by all items of the list, and keeps the reply. Where memory runs out nothing is changed.
+    /// Answers the next question by all items of the list, and keeps the reply. Where memory runs out nothing is
+    /// changed.
     pub fn ask<F: Front>(
         &mut self,
         alloc: Global,
@@ -86,11 +103,14 @@ impl Session {
         requires front { last_front self.old ≤ item_count (F.entries list.now) (F.seal list.now) }
         requires questions { AllByRecursion (CanBeAsked p.now) self.old.questions }
         requires entries { AreOf p.now (F.entries list.now) }
-        ensures reply { IfOk result (λ k. (q : Question) → slice_get self.old.questions (length self.old.kept) ≡ Some q → IsReply p.now (F.entries list.now) (F.seal list.now) q k) }
+        ensures reply { IfOk result (λ k. (q : Question) → slice_get self.old.questions (length self.old.kept) ≡ Some q
+            → IsReply p.now (F.entries list.now) (F.seal list.now) q k) }
         ensures kept { IfOk result (λ k. self.new ≡ record self.old { kept = self.old.kept ++ k ∷ [] }) }
         ensures err { OnErr result (self.new ≡ self.old) }
-        ensures trivial { IfOk result (λ k. (q : Question) → slice_get self.old.questions (length self.old.kept) ≡ Some q → k.tag ≡ tags.Trivial → AllAreTrivial p.now q) }
-        ensures extends { IfOk result (λ k. (q : Question) → slice_get self.old.questions (length self.old.kept) ≡ Some q → k.tag ≡ tags.Extends → MapExtends p.now q) }
+        ensures trivial { IfOk result (λ k. (q : Question) → slice_get self.old.questions (length self.old.kept)
+            ≡ Some q → k.tag ≡ tags.Trivial → AllAreTrivial p.now q) }
+        ensures extends { IfOk result (λ k. (q : Question) → slice_get self.old.questions (length self.old.kept)
+            ≡ Some q → k.tag ≡ tags.Extends → MapExtends p.now q) }
     {
         let verdict = verdict(alloc, p, list, self.asked())?;
         let front = list.front();

@@ -15,7 +15,8 @@ is_long images r = nat_lt COMPOSED (length (word_image images r))
 fits : (images : List (List Letter)) (r : List Letter) → is_long images r ≡ false → length (word_image images r) ≤ COMPOSED
 fits images r e = grind (arith, nat_tests)
 
-all_fit : (images rs : List (List Letter)) → length rs ≤ position_or_len (is_long images) rs → AllByRecursion (λ (r : List Letter). length (word_image images r) ≤ COMPOSED) rs
+all_fit : (images rs : List (List Letter)) → length rs ≤ position_or_len (is_long images) rs
+    → AllByRecursion (λ (r : List Letter). length (word_image images r) ≤ COMPOSED) rs
 all_fit images [] le = tt
 all_fit images (r ∷ rs) le = by (is_long images r) refl le (λ less. all_fit images rs less)
   where

@@ -12,7 +12,8 @@ use Rattle.session_text.specs.Reading.{image_behind, next_image, later_images, i
 abbrev pub Going : Find → ℕ → Result (List (List Letter) × List ℕ) Fault → List (List Letter) → List ℕ → Type 0
 Going find count whole before bs = whole ≡ later_images (count - length before) find before bs
 
-pub begins : (find : Find) (count : ℕ) (bs rest : List ℕ) (none images : List (List Letter)) → none ≡ [] → length images ≡ length none + 1 → image_behind find none bs ≡ Ok (images, rest)
+pub begins : (find : Find) (count : ℕ) (bs rest : List ℕ) (none images : List (List Letter)) → none ≡ [] → length images ≡ length none + 1
+    → image_behind find none bs ≡ Ok (images, rest)
     → Going find count (images_at count find bs) images rest
 unfolding images_at
 begins find count bs rest none images e one r =
@@ -33,9 +34,11 @@ done find count whole before bs le so =
     let e : count - length before ≡ zero = omega arith in
     so ∙ rw e refl
 
-pub fails_later : {X : Type 0} (view : X → List (List Letter)) (after : List (List Letter)) (find : Find) (count : ℕ) (whole : Result (List (List Letter) × List ℕ) Fault) (before : List (List Letter))
+pub fails_later : {X : Type 0} (view : X → List (List Letter)) (after : List (List Letter)) (find : Find) (count : ℕ)
+    (whole : Result (List (List Letter) × List ℕ) Fault) (before : List (List Letter))
     (bs text : List ℕ) (line now new : ℕ) (e : ReadFault) → length before < count
-    → GoesOn (λ (_ : Unit {0}). after) text line now (next_image find before bs) (Err e) → Going find count whole before bs → GoesOn view text line new whole (Err e)
+    → GoesOn (λ (_ : Unit {0}). after) text line now (next_image find before bs) (Err e) → Going find count whole before bs
+    → GoesOn view text line new whole (Err e)
 fails_later view after find count whole before bs text line now new faults.NoMemory lt g so = tt
 fails_later view after find count whole before bs text line now new (faults.Text f) lt (x, r, p) so =
     let e : count - length before ≡ suc (count - length before - 1) = omega arith in

@@ -1,5 +1,6 @@
 -- A written question stands in the grammar, and is read back.
-use Rattle.std.proofs.Common.{◌≡◌, ℕ, ◌<◌, ◌≤◌, true, false, nat_eq, codes, List, [], ◌∷◌, ◌++◌, length, map, Result, Ok, Err, refl, sym, ◌∙◌, ap, subst, arith, append_assoc, append-nil}
+use Rattle.std.proofs.Common.{◌≡◌, ℕ, ◌<◌, ◌≤◌, true, false, nat_eq, codes, List, [], ◌∷◌, ◌++◌, length, map, Result, Ok, Err, refl, sym, ◌∙◌, ap, subst, arith}
+use Rattle.std.proofs.Common.{append_assoc, append-nil}
 use Rattle.std.specs.List.{AllByRecursion}
 use Rattle.std.specs.Cmp.Lexicographic.{pointwise}
 use Rattle.std.proofs.lemmas.Slice.Eq.{bytes_eq-Decides}
@@ -106,7 +107,8 @@ first_plain p (w ∷ ws) h are some = behind_space p w (led_by (codes ", ") (map
 -- a source, ` -> `, and the images
 map_stands : (p source : Presented) (images : List (List Letter)) → IsPresented p → IsPresented source → source.modulus ≡ 0
     → AllByRecursion (IsWritten (length p.names)) images → length images ≡ length source.names
-    → QuestionAt (finding p.names) (codes "hom" ++ 32 ∷ (written_presentation source ++ 32 ∷ 45 ∷ 62 ∷ 32 ∷ joined (codes ", ") (map (written_word p.names) images)))
+    → QuestionAt (finding p.names) (codes "hom" ++ 32 ∷ (written_presentation source ++ 32 ∷ 45 ∷ 62 ∷ 32
+    ∷ joined (codes ", ") (map (written_word p.names) images)))
     (Hom source images) (after_blanks [])
 map_stands p source images h known none are so =
     let next : List ℕ = 32 ∷ joined (codes ", ") (map (written_word p.names) images) in
@@ -114,11 +116,21 @@ map_stands p source images h known none are so =
     let here : List ℕ = 32 ∷ (written_presentation source ++ arrow) in
     let mark : MarkAt arrow (codes "->") next = skipped 32 (45 ∷ 62 ∷ next) bytes.0 ∙ kept 45 (62 ∷ next) bytes.2 in
     let some : 0 < length images = omega (arith, so, known.some_name) in
-    let list : WordsAt (finding p.names) next images (after_blanks []) = words_stand p images next h are some (first_plain p images h are some) in
-    (here, arrow, next, keyword_stands (codes "hom") (written_presentation source ++ arrow) keywords.3, source_stands source arrow known none, none, mark, list, so)
+    let list : WordsAt (finding p.names) next images (after_blanks []) = words_stand p images next h are some (first_plain p images h are some) in (
+      here,
+      arrow,
+      next,
+      keyword_stands (codes "hom") (written_presentation source ++ arrow) keywords.3,
+      source_stands source arrow known none,
+      none,
+      mark,
+      list,
+      so,
+    )
 
 -- a written question stands as a whole line
-pub question_stands : (p : Presented) (q : Question) → IsPresented p → IsWritable p q → QuestionAt (finding p.names) (written_question p.names q) q (after_blanks [])
+pub question_stands : (p : Presented) (q : Question) → IsPresented p → IsWritable p q
+    → QuestionAt (finding p.names) (written_question p.names q) q (after_blanks [])
 question_stands p (Trivial w) h is =
     (32 ∷ written_word p.names w, keyword_stands (codes "trivial") (written_word p.names w) keywords.0, last_stands p w h (is.0).1)
 question_stands p (Equal u v) h is =
@@ -147,7 +159,8 @@ pub question_back : (p : Presented) (q : Question) → IsPresented p → IsWrita
     → (end : List ℕ) × (question_at (finding p.names) 0 0 (written_question p.names q) ≡ Ok (q, end))
 question_back p q h is =
     let ends : after_blanks (after_blanks []) ≡ [] = blanks_once [] ∙ no_blanks in
-    question_again (finding p.names) 0 0 (written_question p.names q) q (after_blanks []) (question_stands p q h is) ends (omega arith) (omega (arith, letters_fit p q is))
+    question_again (finding p.names) 0 0 (written_question p.names q) q (after_blanks []) (question_stands p q h is) ends (omega arith)
+    (omega (arith, letters_fit p q is))
 
 -- what is read of a text behind no questions
 abbrev read_first : Presented → List Question → List ℕ → Result (Question × List ℕ) Fault
@@ -187,7 +200,8 @@ pub same_text : (a b : List ℕ) → a ≡ b → pointwise nat_eq a b ≡ true
 same_text a b e = (bytes_eq-Decides a b).1 e
 
 -- one text is written of one question
-pub one_spelling : (p : Presented) (q r : Question) → IsPresented p → IsWritable p q → IsWritable p r → written_question p.names q ≡ written_question p.names r → q ≡ r
+pub one_spelling : (p : Presented) (q r : Question) → IsPresented p → IsWritable p q → IsWritable p r
+    → written_question p.names q ≡ written_question p.names r → q ≡ r
 one_spelling p q r h is are same =
     let b = question_back p q h is in
     let d = question_back p r h are in

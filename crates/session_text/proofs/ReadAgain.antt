@@ -1,5 +1,6 @@
 -- The questions that the grammar has are read.
-use Rattle.std.proofs.Common.{◌≡◌, ◌==◌, ◌+◌, ◌-◌, ◌<◌, ◌≤◌, ℕ, suc, true, false, nat_le, nat_lt, codes, List, [], ◌∷◌, ◌++◌, length, None, Ok, refl, sym, ◌∙◌, ap, arith, append_assoc}
+use Rattle.std.proofs.Common.{◌≡◌, ◌==◌, ◌+◌, ◌-◌, ◌<◌, ◌≤◌, ℕ, suc, true, false, nat_le, nat_lt, codes, List, [], ◌∷◌, ◌++◌, length, None, Ok, refl, sym, ◌∙◌}
+use Rattle.std.proofs.Common.{ap, arith, append_assoc}
 use Rattle.std.specs.Str.{bytes_eq}
 use Rattle.std.specs.List.{AllByRecursion, position_or_len}
 use Rattle.std.proofs.lemmas.Bool.Decides.{nat_tests}
@@ -26,7 +27,8 @@ use Rattle.session_text.specs.declared.reading.Form.TheVariants as forms
 use Rattle.session_text.specs.declared.question.Question.{Question}
 use Rattle.session_text.specs.declared.question.Question.TheVariants.{Trivial, Equal, Normal, Hom}
 use Rattle.session_text.specs.Questions.{HasImages, question_letters, first_long}
-use Rattle.session_text.specs.Reading.{form_at, mark_at, trivial_at, equal_at, normal_at, image_behind, next_image, later_images, images_at, hom_at, asked_at, room_at, letters_at, question_at}
+use Rattle.session_text.specs.Reading.{form_at, mark_at, trivial_at, equal_at, normal_at, image_behind, next_image, later_images, images_at, hom_at, asked_at}
+use Rattle.session_text.specs.Reading.{room_at, letters_at, question_at}
 use Rattle.session_text.specs.Grammar.{MarkAt, QuestionAt}
 use Rattle.session_text.proofs.ImageFits.{is_long}
 
@@ -96,7 +98,8 @@ end_ends bs e = rw e refl
 
 -- words with a comma before each are read behind others
 later_again : (find : Find) (before : List (List Letter)) (v : List Letter) (vs : List (List Letter)) (mid next rest : List ℕ) → MarkAt mid (codes ",") next
-    → WordsAt find next (v ∷ vs) rest → after_blanks rest ≡ [] → later_images (length (v ∷ vs)) find before (after_blanks mid) ≡ Ok (before ++ v ∷ vs, after_blanks rest)
+    → WordsAt find next (v ∷ vs) rest → after_blanks rest ≡ [] → later_images (length (v ∷ vs)) find before (after_blanks mid)
+    ≡ Ok (before ++ v ∷ vs, after_blanks rest)
 unfolding next_image image_behind
 later_again find before v [] mid next rest comma are e =
     rw (comma_again (after_blanks mid) next (blanks_once mid ∙ comma), word_again find next v rest are (end_ends rest e)) refl
@@ -129,7 +132,8 @@ record AsksAgain (find : Find) (bs : List ℕ) (q : Question) : Type 0 where
 clear : (bs : List ℕ) → after_blanks bs ≡ [] → after_blanks (after_blanks bs) ≡ []
 clear bs e = blanks_once bs ∙ e
 
-hom_again : (find : Find) (mid arrow next rest : List ℕ) (source : Presented) (images : List (List Letter)) → PresentationAt mid source.names source.relators arrow
+hom_again : (find : Find) (mid arrow next rest : List ℕ) (source : Presented) (images : List (List Letter))
+    → PresentationAt mid source.names source.relators arrow
     → source.modulus ≡ 0 → MarkAt arrow (codes "->") next → WordsAt find next images rest → length images ≡ length source.names → after_blanks rest ≡ []
     → hom_at find mid ≡ Ok (Hom source images, after_blanks rest)
 unfolding hom_at
@@ -153,7 +157,11 @@ asks_again find bs (Equal u v) rest h e = record {
   mid = h.0;
   named = equal_form bs h.0 h.3;
   end = after_blanks rest;
-  asked = rw (word_again find h.0 u h.1 h.4 (sign_ends h.1 h.2 h.5), sign_again (after_blanks h.1) h.2 (blanks_once h.1 ∙ h.5), word_again find h.2 v rest h.6 (end_ends rest e)) refl;
+  asked = rw (
+    word_again find h.0 u h.1 h.4 (sign_ends h.1 h.2 h.5),
+    sign_again (after_blanks h.1) h.2 (blanks_once h.1 ∙ h.5),
+    word_again find h.2 v rest h.6 (end_ends rest e),
+  ) refl;
   ends = clear rest e;
 }
 asks_again find bs (Normal w) rest h e = record {
@@ -204,7 +212,8 @@ no_end find bs (Hom source images) rest h = some_byte (after_blanks bs) _ _ (h.3
 not_long : (images : List (List Letter)) (r : List Letter) → length (word_image images r) ≤ COMPOSED → is_long images r ≡ false
 not_long images r le = grind (arith, nat_tests)
 
-to_end : (images rs : List (List Letter)) → AllByRecursion (λ (r : List Letter). length (word_image images r) ≤ COMPOSED) rs → position_or_len (is_long images) rs ≡ length rs
+to_end : (images rs : List (List Letter)) → AllByRecursion (λ (r : List Letter). length (word_image images r) ≤ COMPOSED) rs
+    → position_or_len (is_long images) rs ≡ length rs
 to_end images [] are = refl
 to_end images (r ∷ rs) are =
     let n : 1 + length rs ≡ suc (length rs) = omega arith in

@@ -1,5 +1,7 @@
 -- What is read of a text is a schedule of the grammar, and schedules of the grammar are read.
-use Rattle.std.proofs.Common.{◌≡◌, ℕ, zero, suc, ◌+◌, ◌-◌, ◌/◌, ◌%◌, ◌<◌, ◌≤◌, ◌==◌, ◌&&◌, nat_le, nat_lt, Bool, true, false, decimal, List, [], ◌∷◌, ◌++◌, length, Option, Some, None, option_map, Result, Ok, Err, IfOk, Vec, refl, sym, ◌∙◌, ap, subst, arith, append_assoc, append-nil, if◌then◌else◌}
+use Rattle.std.proofs.Common.{◌≡◌, ℕ, zero, suc, ◌+◌, ◌-◌, ◌/◌, ◌%◌, ◌<◌, ◌≤◌, ◌==◌, ◌&&◌, nat_le, nat_lt, Bool, true, false, decimal, List, [], ◌∷◌, ◌++◌}
+use Rattle.std.proofs.Common.{length, Option, Some, None, option_map, Result, Ok, Err, IfOk, Vec, refl, sym, ◌∙◌, ap, subst, arith, append_assoc, append-nil}
+use Rattle.std.proofs.Common.{if◌then◌else◌}
 use Rattle.std.specs.declared.alloc.Global.{Global}
 use Rattle.std.proofs.lemmas.Bool.Decides.{nat_tests}
 use Rattle.std.proofs.lemmas.Fmt.{decimal_digit, decimal_step}
@@ -87,14 +89,16 @@ IsNumbered (Session n) = IsSmall n
 event_is : (d e : Event) → ◌≡◌ {A = Option Event} (Some d) (Some e) → d ≡ e
 event_is d e k = cc
 
-worker_spelled : (bs : List ℕ) (e : Event) (o : Option ℕ) → small_number bs ≡ o → option_map (λ n. Worker n) o ≡ Some e → ((119 ∷ bs) ≡ event_name e) × IsNumbered e
+worker_spelled : (bs : List ℕ) (e : Event) (o : Option ℕ) → small_number bs ≡ o → option_map (λ n. Worker n) o ≡ Some e
+    → ((119 ∷ bs) ≡ event_name e) × IsNumbered e
 worker_spelled bs e None r k = cc
 worker_spelled bs e (Some n) r k =
     let s = number_spelled bs n r in
     let all : ((119 ∷ bs) ≡ event_name (Worker n)) × IsNumbered (Worker n) = (ap (λ (t : List ℕ). 119 ∷ t) s.0, s.1) in
     subst (λ (d : Event). ((119 ∷ bs) ≡ event_name d) × IsNumbered d) (event_is (Worker n) e k) all
 
-session_spelled : (bs : List ℕ) (e : Event) (o : Option ℕ) → small_number bs ≡ o → option_map (λ n. Session n) o ≡ Some e → ((115 ∷ bs) ≡ event_name e) × IsNumbered e
+session_spelled : (bs : List ℕ) (e : Event) (o : Option ℕ) → small_number bs ≡ o → option_map (λ n. Session n) o ≡ Some e
+    → ((115 ∷ bs) ≡ event_name e) × IsNumbered e
 session_spelled bs e None r k = cc
 session_spelled bs e (Some n) r k =
     let s = number_spelled bs n r in
@@ -132,7 +136,8 @@ record StandsFirst (sessions : ℕ) (bs : List ℕ) (x : Event × List ℕ) : Ty
 is_within : (sessions n : ℕ) → nat_lt sessions n ≡ false → n ≤ sessions
 is_within sessions n e = grind (arith, nat_tests)
 
-first_spelled : (sessions : ℕ) (bs : List ℕ) (x : Event × List ℕ) (o : Option Event) → event_of (name_at bs) ≡ o → event_by sessions bs o ≡ Ok x → StandsFirst sessions bs x
+first_spelled : (sessions : ℕ) (bs : List ℕ) (x : Event × List ℕ) (o : Option Event) → event_of (name_at bs) ≡ o → event_by sessions bs o ≡ Ok x
+    → StandsFirst sessions bs x
 first_spelled sessions bs x None r k = cc
 first_spelled sessions bs x (Some (Worker n)) r k =
     let s = name_spelled (name_at bs) (Worker n) r in
@@ -221,7 +226,8 @@ events_again (suc n) sessions before bs (e ∷ es) h plain lt =
     let rest : h.0 ≡ after_name bs = (h.1).1 ∙ ap after_name plain in
     let some : 0 < length (name_at bs) = rw name (some_name e) in
     let less = shorter bs some in
-    let later : IsSchedule sessions (after_blanks (after_name bs)) es = rw (← rest) (same_schedule sessions h.0 (after_blanks h.0) es (sym (blanks_once h.0)) h.3) in
+    let later : IsSchedule sessions (after_blanks (after_name bs)) es =
+    rw (← rest) (same_schedule sessions h.0 (after_blanks h.0) es (sym (blanks_once h.0)) h.3) in
     let room : length (after_blanks (after_name bs)) < n = omega (arith, less.1, lt, skips_le (after_name bs)) in
     rw (less.0, first_again sessions bs e name h.2)
     (events_again n sessions (before ++ e ∷ []) (after_blanks (after_name bs)) es later (blanks_once (after_name bs)) room

@@ -1,5 +1,6 @@
 -- The parts of a line that are read are those of the grammar.
-use Rattle.std.proofs.Common.{◌≡◌, ◌+◌, ◌-◌, ◌<◌, ◌≤◌, ◌⊎◌, inl, inr, ℕ, zero, suc, Bool, true, false, nat_le, nat_lt, codes, List, [], ◌∷◌, ◌++◌, length, take, drop, Result, Ok, Err, refl, sym, ◌∙◌, ap, subst, arith, if◌then◌else◌}
+use Rattle.std.proofs.Common.{◌≡◌, ◌+◌, ◌-◌, ◌<◌, ◌≤◌, ◌⊎◌, inl, inr, ℕ, zero, suc, Bool, true, false, nat_le, nat_lt, codes, List, [], ◌∷◌, ◌++◌, length, take}
+use Rattle.std.proofs.Common.{drop, Result, Ok, Err, refl, sym, ◌∙◌, ap, subst, arith, if◌then◌else◌}
 use Rattle.std.proofs.lemmas.Bool.Decides.{nat_tests}
 use Rattle.std.proofs.lemmas.List.{take-append-drop}
 use Rattle.std.proofs.lemmas.Slice.Eq.{bytes_eq-Decides}
@@ -23,7 +24,8 @@ use Rattle.session_text.specs.declared.reading.Form.TheVariants as forms
 use Rattle.session_text.specs.declared.question.Question.{Question}
 use Rattle.session_text.specs.declared.question.Question.TheVariants.{Trivial, Equal, Normal, Hom}
 use Rattle.session_text.specs.Questions.{question_letters}
-use Rattle.session_text.specs.Reading.{form_at, mark_at, trivial_at, equal_at, normal_at, image_behind, next_image, later_images, images_at, hom_at, asked_at, room_at, letters_at, question_at}
+use Rattle.session_text.specs.Reading.{form_at, mark_at, trivial_at, equal_at, normal_at, image_behind, next_image, later_images, images_at, hom_at, asked_at}
+use Rattle.session_text.specs.Reading.{room_at, letters_at, question_at}
 use Rattle.session_text.specs.Grammar.{MarkAt, QuestionAt}
 
 -- one of two ways was taken
@@ -59,7 +61,8 @@ name_of forms.Hom = codes "hom"
 abbrev Named : List ℕ → Form × List ℕ → Type 0
 Named bs x = KeywordAt bs (name_of x.0) x.1
 
-named : (bs : List ℕ) (f : Form) (x : Form × List ℕ) → is_word (name_of f) bs ≡ true → ◌≡◌ {A = Result (Form × List ℕ) Fault} (Ok (f, after_word bs)) (Ok x) → Named bs x
+named : (bs : List ℕ) (f : Form) (x : Form × List ℕ) → is_word (name_of f) bs ≡ true
+    → ◌≡◌ {A = Result (Form × List ℕ) Fault} (Ok (f, after_word bs)) (Ok x) → Named bs x
 named bs f x t e = subst (Named bs) (ok_is {A = Form × List ℕ} (f, after_word bs) x e) (keyword (name_of f) bs t)
 
 -- this form, and what follows its keyword
@@ -91,7 +94,8 @@ form_spelled bs x e = trivials (choice (is_word (codes "trivial") bs) _ _ x e)
     trivials (inr e) = equals (choice (is_word (codes "equal") bs) _ _ x e)
 
 -- words and one more behind them
-one_more : (find : Find) (start mid next : List ℕ) (ws : List (List Letter)) (w : List Letter) (rest : List ℕ) → WordsAt find start ws mid → MarkAt mid (codes ",") next
+one_more : (find : Find) (start mid next : List ℕ) (ws : List (List Letter)) (w : List Letter) (rest : List ℕ) → WordsAt find start ws mid
+    → MarkAt mid (codes ",") next
     → WordAt find next w rest → WordsAt find start (ws ++ w ∷ []) rest
 one_more find start mid next [] w rest are comma is = absurd are
 one_more find start mid next (v ∷ []) w rest are comma is = (mid, next, are, comma, is)
@@ -110,10 +114,13 @@ unfolding next_image image_behind
 next_spelled find start bs before n x h e =
     let c = bind_ok (mark_at (codes ",") bs) _ x e in
     let w = bind_ok (word_at find (c.0).1) _ x c.2 in
-    subst (Behind find start (n + 1)) (ok_is {A = List (List Letter) × List ℕ} (before ++ (w.0).0 ∷ [], (w.0).1) x w.2)
-    (one_more find start bs (c.0).1 before (w.0).0 (w.0).1 h.0 (mark_spelled (codes ",") bs c.0 c.1) (word_spelled find (c.0).1 (w.0).0 (w.0).1 w.1), longer before (w.0).0 n h.1)
+    subst (Behind find start (n + 1)) (ok_is {A = List (List Letter) × List ℕ} (before ++ (w.0).0 ∷ [], (w.0).1) x w.2) (
+      one_more find start bs (c.0).1 before (w.0).0 (w.0).1 h.0 (mark_spelled (codes ",") bs c.0 c.1) (word_spelled find (c.0).1 (w.0).0 (w.0).1 w.1),
+      longer before (w.0).0 n h.1,
+    )
 
-later_spelled : (n : ℕ) (find : Find) (start bs : List ℕ) (before : List (List Letter)) (m : ℕ) (x : List (List Letter) × List ℕ) → Behind find start m (before, bs)
+later_spelled : (n : ℕ) (find : Find) (start bs : List ℕ) (before : List (List Letter)) (m : ℕ) (x : List (List Letter) × List ℕ)
+    → Behind find start m (before, bs)
     → later_images n find before bs ≡ Ok x → Behind find start (m + n) x
 later_spelled zero find start bs before m x h e =
     let all : Behind find start (m + zero) (before, bs) = (h.0, omega (arith, h.1)) in
@@ -128,7 +135,8 @@ unfolding images_at image_behind
 images_spelled n find bs x some e =
     let f = bind_ok (image_behind find [] bs) _ x e in
     let w = bind_ok (word_at find bs) _ f.0 f.1 in
-    let one : Behind find bs 1 f.0 = subst (Behind find bs 1) (ok_is {A = List (List Letter) × List ℕ} ((w.0).0 ∷ [], (w.0).1) f.0 w.2) (word_spelled find bs (w.0).0 (w.0).1 w.1, refl) in
+    let one : Behind find bs 1 f.0 = subst (Behind find bs 1) (ok_is {A = List (List Letter) × List ℕ} ((w.0).0 ∷ [], (w.0).1) f.0 w.2)
+    (word_spelled find bs (w.0).0 (w.0).1 w.1, refl) in
     let all = later_spelled (n - 1) find bs (f.0).1 (f.0).0 1 x one f.2 in
     (all.0, omega (arith, all.1))
 
@@ -157,8 +165,15 @@ equal_spelled find bs mid x k e =
     let u = bind_ok (word_at find mid) _ x e in
     let s = bind_ok (mark_at (codes "=") (u.0).1) _ x u.2 in
     let v = bind_ok (word_at find (s.0).1) _ x s.2 in
-    subst (Stands find bs) (ok_is {A = Question × List ℕ} (Equal (u.0).0 (v.0).0, (v.0).1) x v.2)
-    (mid, (u.0).1, (s.0).1, k, word_spelled find mid (u.0).0 (u.0).1 u.1, mark_spelled (codes "=") (u.0).1 s.0 s.1, word_spelled find (s.0).1 (v.0).0 (v.0).1 v.1)
+    subst (Stands find bs) (ok_is {A = Question × List ℕ} (Equal (u.0).0 (v.0).0, (v.0).1) x v.2) (
+      mid,
+      (u.0).1,
+      (s.0).1,
+      k,
+      word_spelled find mid (u.0).0 (u.0).1 u.1,
+      mark_spelled (codes "=") (u.0).1 s.0 s.1,
+      word_spelled find (s.0).1 (v.0).0 (v.0).1 v.1,
+    )
 
 hom_spelled : (find : Find) (bs mid : List ℕ) (x : Question × List ℕ) → KeywordAt bs (codes "hom") mid → hom_at find mid ≡ Ok x → Stands find bs x
 unfolding hom_at
@@ -172,7 +187,8 @@ hom_spelled find bs mid x k e =
     subst (Stands find bs) (ok_is {A = Question × List ℕ} (Hom (s.0).0 (i.0).0, (i.0).1) x i.2)
     (mid, (s.0).1, (a.0).1, k, p.0, p.1, mark_spelled (codes "->") (s.0).1 a.0 a.1, all.0, all.1)
 
-asked_spelled : (find : Find) (f : Form) (bs mid : List ℕ) (x : Question × List ℕ) → KeywordAt bs (name_of f) mid → asked_at find f mid ≡ Ok x → Stands find bs x
+asked_spelled : (find : Find) (f : Form) (bs mid : List ℕ) (x : Question × List ℕ) → KeywordAt bs (name_of f) mid → asked_at find f mid ≡ Ok x
+    → Stands find bs x
 asked_spelled find forms.Trivial bs mid x k e = trivial_spelled find bs mid x k e
 asked_spelled find forms.Equal bs mid x k e = equal_spelled find bs mid x k e
 asked_spelled find forms.Normal bs mid x k e = normal_spelled find bs mid x k e
@@ -186,11 +202,17 @@ not_past m n e = grind (arith, nat_tests)
 
 room_is : (count : ℕ) (bs : List ℕ) (t : Unit {0}) → room_at count bs ≡ Ok t → count < QUESTIONS
 unfolding room_at
-room_is count bs t e = fewer QUESTIONS count (guard_ok (nat_le QUESTIONS count) (record { kind = TooManyQuestions; left = length (after_blanks bs) }) (Ok tt) t e).0
+room_is count bs t e = fewer QUESTIONS count (guard_ok (nat_le QUESTIONS count) (record {
+  kind = TooManyQuestions;
+  left = length (after_blanks bs);
+}) (Ok tt) t e).0
 
 few_is : (letters : ℕ) (bs : List ℕ) (t : Unit {0}) → letters_at letters bs ≡ Ok t → letters ≤ LETTERS
 unfolding letters_at
-few_is letters bs t e = not_past LETTERS letters (guard_ok (nat_lt LETTERS letters) (record { kind = TooManyLetters; left = length (after_blanks bs) }) (Ok tt) t e).0
+few_is letters bs t e = not_past LETTERS letters (guard_ok (nat_lt LETTERS letters) (record {
+  kind = TooManyLetters;
+  left = length (after_blanks bs);
+}) (Ok tt) t e).0
 
 ending_spelled : (bs : List ℕ) (x : Unit {0} × List ℕ) → ending_at bs ≡ Ok x → after_blanks bs ≡ []
 unfolding ending_at
@@ -204,7 +226,8 @@ pub record IsRead (find : Find) (count letters : ℕ) (line : List ℕ) (q : Que
   pub room : count < QUESTIONS
   pub few : letters + question_letters q ≤ LETTERS
 
-pub question_spelled : (find : Find) (count letters : ℕ) (line : List ℕ) (x : Question × List ℕ) → question_at find count letters line ≡ Ok x → IsRead find count letters line x.0
+pub question_spelled : (find : Find) (count letters : ℕ) (line : List ℕ) (x : Question × List ℕ) → question_at find count letters line ≡ Ok x
+    → IsRead find count letters line x.0
 unfolding question_at
 question_spelled find count letters line x e =
     let f = bind_ok (form_at line) _ x e in

@@ -1,5 +1,6 @@
 -- What is read of a text is a session of the grammar, with its questions.
-use Rattle.std.proofs.Common.{◌≡◌, ℕ, ◌+◌, ◌<◌, ◌≤◌, Bool, true, false, List, [], ◌∷◌, ◌++◌, length, Option, Some, None, Result, Ok, Err, IfOk, Vec, refl, sym, ap, ◌∙◌, subst, arith, append_assoc, append-nil, length-append, if◌then◌else◌}
+use Rattle.std.proofs.Common.{◌≡◌, ℕ, ◌+◌, ◌<◌, ◌≤◌, Bool, true, false, List, [], ◌∷◌, ◌++◌, length, Option, Some, None, Result, Ok, Err, IfOk, Vec, refl, sym}
+use Rattle.std.proofs.Common.{ap, ◌∙◌, subst, arith, append_assoc, append-nil, length-append, if◌then◌else◌}
 use Rattle.std.specs.declared.alloc.Global.{Global}
 use Rattle.word_text.specs.declared.fault.Fault.{Fault}
 use Rattle.word_text.specs.Place.{capped}
@@ -20,7 +21,8 @@ use Rattle.session_text.specs.declared.fault.SessionFault.TheVariants.{Text, Ima
 use Rattle.session_text.specs.declared.fault.SessionFault.TheVariants as faults
 use Rattle.session_text.specs.declared.question.Question.{Question}
 use Rattle.session_text.specs.Questions.{question_letters, session_letters, first_long}
-use Rattle.session_text.specs.Reading.{fitting_by, fitting_line, line_question, line_questions, and_then, going_on, session_from, session_text, question_at, ReadsSession}
+use Rattle.session_text.specs.Reading.{fitting_by, fitting_line, line_question, line_questions, and_then, going_on, session_from, session_text, question_at}
+use Rattle.session_text.specs.Reading.{ReadsSession}
 use Rattle.session_text.specs.Grammar.{IsAsked, HaveQuestions, IsSession}
 use Rattle.session_text.proofs.LetterSums.{letters_behind}
 use Rattle.session_text.proofs.ImageFits.{none_long}
@@ -45,7 +47,8 @@ record Follows (find : Find) (before : List Question) (line : List ℕ) (q : Que
   room : length before + 1 ≤ QUESTIONS
   few : session_letters before + question_letters q ≤ LETTERS
 
-follows : (find : Find) (number : ℕ) (before : List Question) (line : List ℕ) (q : Question) → line_question find number before line ≡ Ok q → Follows find before line q
+follows : (find : Find) (number : ℕ) (before : List Question) (line : List ℕ) (q : Question) → line_question find number before line ≡ Ok q
+    → Follows find before line q
 follows find number before line q e =
     let l = line_ok number line (question_at find (length before) (session_letters before) line) q e in
     let r = question_spelled find (length before) (session_letters before) line l.0 l.1 in
@@ -61,7 +64,8 @@ and_ok : (before all : List Question) (r : Result Question SessionFault) → and
 and_ok before all (Ok q) e = (q, refl, same (before ++ q ∷ []) all e)
 and_ok before all (Err f) e = cc
 
-going_ok : (r : Result (List Question) SessionFault) (later : List Question → Result (List Question) SessionFault) (all : List Question) → going_on r later ≡ Ok all
+going_ok : (r : Result (List Question) SessionFault) (later : List Question → Result (List Question) SessionFault) (all : List Question)
+    → going_on r later ≡ Ok all
     → (qs : List Question) × (r ≡ Ok qs) × (later qs ≡ Ok all)
 going_ok (Ok qs) later all e = (qs, refl, e)
 going_ok (Err f) later all e = cc
@@ -78,7 +82,8 @@ record Behind (find : Find) (before : List Question) (ls : List (List ℕ)) (all
 abbrev Within : List Question → Type 0
 Within qs = (length qs ≤ QUESTIONS) × (session_letters qs ≤ LETTERS)
 
-blank_first : (find : Find) (before all : List Question) (line : List ℕ) (ls : List (List ℕ)) → is_end line ≡ true → Behind find before ls all → Behind find before (line ∷ ls) all
+blank_first : (find : Find) (before all : List Question) (line : List ℕ) (ls : List (List ℕ)) → is_end line ≡ true → Behind find before ls all
+    → Behind find before (line ∷ ls) all
 blank_first find before all line ls e b = record {
   new = b.new;
   are = HaveQuestions.blank line ls b.new (end_spelled line e) b.are;
@@ -87,7 +92,8 @@ blank_first find before all line ls e b = record {
   few_letters = b.few_letters;
 }
 
-question_first : (find : Find) (before all : List Question) (line : List ℕ) (ls : List (List ℕ)) (q : Question) → IsAsked find line q → Behind find (before ++ q ∷ []) ls all
+question_first : (find : Find) (before all : List Question) (line : List ℕ) (ls : List (List ℕ)) (q : Question) → IsAsked find line q
+    → Behind find (before ++ q ∷ []) ls all
     → Behind find before (line ∷ ls) all
 question_first find before all line ls q is b = record {
   new = q ∷ b.new;
@@ -97,7 +103,8 @@ question_first find before all line ls q is b = record {
   few_letters = b.few_letters;
 }
 
-within_more : (before : List Question) (q : Question) → length before + 1 ≤ QUESTIONS → session_letters before + question_letters q ≤ LETTERS → Within (before ++ q ∷ [])
+within_more : (before : List Question) (q : Question) → length before + 1 ≤ QUESTIONS → session_letters before + question_letters q ≤ LETTERS
+    → Within (before ++ q ∷ [])
 within_more before q room few = (omega (arith, room, length-append before (q ∷ [])), omega (arith, few, letters_behind before q))
 
 -- one more line, of the two kinds
@@ -113,10 +120,17 @@ line_first find number before mid all line ls false t e within later =
     question_first find before all line ls a.0 f.is
     (subst (λ (qs : List Question). Within qs → Behind find qs ls all) (sym a.2) later (within_more before a.0 f.room f.few))
 
-session_spelled : (find : Find) (number : ℕ) (before : List Question) (ls : List (List ℕ)) (all : List Question) → session_from find number before ls ≡ Ok all → Within before
+session_spelled : (find : Find) (number : ℕ) (before : List Question) (ls : List (List ℕ)) (all : List Question) → session_from find number before ls ≡ Ok all
+    → Within before
     → Behind find before ls all
 session_spelled find number before [] all e within =
-    let b : Behind find before [] before = record { new = []; are = HaveQuestions.none; whole = sym (append-nil before); few = within.0; few_letters = within.1 } in
+    let b : Behind find before [] before = record {
+      new = [];
+      are = HaveQuestions.none;
+      whole = sym (append-nil before);
+      few = within.0;
+      few_letters = within.1;
+    } in
     subst (Behind find before []) (same before all e) b
 session_spelled find number before (l ∷ ls) all e within =
     let g = going_ok (line_questions find number before l) (λ qs. session_from find (capped (number + 1)) qs ls) all e in
@@ -136,7 +150,8 @@ letters_append [] rs = omega arith
 letters_append (q ∷ qs) rs = omega (arith, letters_append qs rs)
 
 -- a line that is a question is read behind others
-asked_again : (find : Find) (number : ℕ) (before : List Question) (line : List ℕ) (q : Question) (later : List Question) → IsAsked find line q → Within (before ++ q ∷ later)
+asked_again : (find : Find) (number : ℕ) (before : List Question) (line : List ℕ) (q : Question) (later : List Question) → IsAsked find line q
+    → Within (before ++ q ∷ later)
     → line_questions find number before line ≡ Ok (before ++ q ∷ [])
 asked_again find number before line q later is within =
     let room : length before < QUESTIONS = omega (arith, within.0, length-append before (q ∷ later)) in

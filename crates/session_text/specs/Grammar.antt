@@ -36,13 +36,16 @@ IsAsked find line q = (end : List ℕ) × QuestionAt find line q end × (after_b
 -- the lines have these questions in order: a line is a question, or blanks alone
 pub data HaveQuestions (find : Find) : List (List ℕ) → List Question → Type 0 where
   none : HaveQuestions find [] []
-  blank : (line : List ℕ) (later : List (List ℕ)) (qs : List Question) → after_blanks line ≡ [] → HaveQuestions find later qs → HaveQuestions find (line ∷ later) qs
-  question : (line : List ℕ) (q : Question) (later : List (List ℕ)) (qs : List Question) → IsAsked find line q → HaveQuestions find later qs
+  blank : (line : List ℕ) (later : List (List ℕ)) (qs : List Question) → after_blanks line ≡ []
+      → HaveQuestions find later qs → HaveQuestions find (line ∷ later) qs
+  question : (line : List ℕ) (q : Question) (later : List (List ℕ)) (qs : List Question) → IsAsked find line q
+      → HaveQuestions find later qs
       → HaveQuestions find (line ∷ later) (q ∷ qs)
 
--- The text is a session with these questions, within the limits: lines with LF between each two. So a text that ends with
--- LF has an empty last line.
+-- The text is a session with these questions, within the limits: lines with LF between each two. So a text that ends
+-- with LF has an empty last line.
 abbrev pub IsSession : Presented → List ℕ → List Question → Type 0
 IsSession p text qs =
-    (lines : List (List ℕ)) × (text ≡ joined (10 ∷ []) lines) × AllByRecursion IsLine lines × HaveQuestions (finding p.names) lines qs
+    (lines : List (List ℕ)) × (text ≡ joined (10 ∷ []) lines) × AllByRecursion IsLine lines
+    × HaveQuestions (finding p.names) lines qs
     × (length qs ≤ QUESTIONS) × (session_letters qs ≤ LETTERS)

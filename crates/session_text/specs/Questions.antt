@@ -1,5 +1,6 @@
 -- What holds of a question.
-use Rattle.std.specs.Prelude.{◌≡◌, ℕ, ◌≤◌, ◌+◌, List, [], ◌∷◌, ◌++◌, length, map, position, nat_lt, option_map, Option, None}
+use Rattle.std.specs.Prelude.{◌≡◌, ℕ, ◌≤◌, ◌+◌, List, [], ◌∷◌, ◌++◌, length, map, position, nat_lt, option_map, Option}
+use Rattle.std.specs.Prelude.{None}
 use Rattle.std.specs.List.{AllByRecursion}
 use Rattle.free_words.specs.declared.letter.Letter.{Letter}
 use Rattle.free_words.specs.declared.TheConstants.{COMPOSED}
@@ -41,8 +42,8 @@ HasSource (Hom source images) = IsPresented source
 abbrev pub IsWritable : Presented → Question → Type 0
 IsWritable p q = IsWrittenQuestion p q × HasSource q
 
--- the words that are trivial exactly where the answer is yes: the word itself, u v^-1 of an equation u = v, and the image of
--- each relator of a source in order
+-- the words that are trivial exactly where the answer is yes: the word itself, u v^-1 of an equation u = v, and the
+-- image of each relator of a source in order
 abbrev pub subjects : Question → List (List Letter)
 subjects (Trivial w) = w ∷ []
 subjects (Equal u v) = (u ++ inverse v) ∷ []
@@ -71,7 +72,8 @@ abbrev pub HasImages : Question → Type 0
 HasImages (Trivial w) = Unit {0}
 HasImages (Equal u v) = Unit {0}
 HasImages (Normal w) = Unit {0}
-HasImages (Hom source images) = AllByRecursion (λ (r : List Letter). length (word_image images r) ≤ COMPOSED) source.relators
+HasImages (Hom source images) = AllByRecursion (λ (r : List Letter). length (word_image images r)
+    ≤ COMPOSED) source.relators
 
 -- where the first relator stands whose image is past the limit on composed words
 abbrev pub first_long : Question → Option ℕ

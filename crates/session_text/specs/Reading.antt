@@ -1,5 +1,6 @@
 -- Reading a session: the value of each part of a line and what follows it, or the first fault; and then all its lines.
-use Rattle.std.specs.Prelude.{◌≡◌, ℕ, zero, suc, ◌+◌, ◌-◌, nat_le, nat_lt, codes, List, [], ◌∷◌, ◌++◌, length, Option, Some, None, Result, Ok, Err, Vec, if◌then◌else◌}
+use Rattle.std.specs.Prelude.{◌≡◌, ℕ, zero, suc, ◌+◌, ◌-◌, nat_le, nat_lt, codes, List, [], ◌∷◌, ◌++◌, length, Option}
+use Rattle.std.specs.Prelude.{Some, None, Result, Ok, Err, Vec, if◌then◌else◌}
 use Rattle.std.specs.declared.alloc.Global.{Global}
 use Rattle.free_words.specs.declared.letter.Letter.{Letter}
 use Rattle.word_text.specs.declared.fault.Fault.{Fault}
@@ -84,11 +85,17 @@ asked_at find forms.Hom bs = hom_at find bs
 
 -- behind so many questions there may be another, whose keyword stands first here
 unfoldable pub room_at : ℕ → List ℕ → Result (Unit {0}) Fault
-room_at count bs = if nat_le QUESTIONS count then Err (record { kind = TooManyQuestions; left = length (after_blanks bs) }) else Ok tt
+room_at count bs = if nat_le QUESTIONS count then Err (record {
+  kind = TooManyQuestions;
+  left = length (after_blanks bs);
+}) else Ok tt
 
 -- so many letters are not too many for a session with the question whose keyword stands first here
 unfoldable pub letters_at : ℕ → List ℕ → Result (Unit {0}) Fault
-letters_at letters bs = if nat_lt LETTERS letters then Err (record { kind = TooManyLetters; left = length (after_blanks bs) }) else Ok tt
+letters_at letters bs = if nat_lt LETTERS letters then Err (record {
+  kind = TooManyLetters;
+  left = length (after_blanks bs);
+}) else Ok tt
 
 -- the question that a line spells, behind so many questions with so many letters
 unfoldable pub question_at : Find → ℕ → ℕ → List ℕ → Result (Question × List ℕ) Fault
@@ -115,7 +122,8 @@ fitting_line number line (Err e) = Err (Text (on_line line number e))
 
 -- the question of a line behind those before it
 abbrev pub line_question : Find → ℕ → List Question → List ℕ → Result Question SessionFault
-line_question find number before line = fitting_line number line (question_at find (length before) (session_letters before) line)
+line_question find number before line = fitting_line number line
+    (question_at find (length before) (session_letters before) line)
 
 -- questions and one more, or its fault
 abbrev pub and_then : List Question → Result Question SessionFault → Result (List Question) SessionFault
@@ -124,17 +132,20 @@ and_then before (Err f) = Err f
 
 -- questions and that of a further line, if it has more than blanks
 abbrev pub line_questions : Find → ℕ → List Question → List ℕ → Result (List Question) SessionFault
-line_questions find number before line = if is_end line then Ok before else and_then before (line_question find number before line)
+line_questions find number before line = if is_end line then Ok before else and_then before
+    (line_question find number before line)
 
 -- what comes of some questions, unless there is a fault
-abbrev pub going_on : Result (List Question) SessionFault → (List Question → Result (List Question) SessionFault) → Result (List Question) SessionFault
+abbrev pub going_on : Result (List Question) SessionFault → (List Question → Result (List Question) SessionFault)
+    → Result (List Question) SessionFault
 going_on (Ok qs) later = later qs
 going_on (Err f) later = Err f
 
 -- the questions before these lines, of which the first has this number, and those of these lines
 abbrev pub session_from : Find → ℕ → List Question → List (List ℕ) → Result (List Question) SessionFault
 session_from find number before [] = Ok before
-session_from find number before (l ∷ ls) = going_on (line_questions find number before l) (λ qs. session_from find (capped (number + 1)) qs ls)
+session_from find number before (l ∷ ls) = going_on (line_questions find number before l)
+    (λ qs. session_from find (capped (number + 1)) qs ls)
 
 -- the session that is the whole text, or its first fault
 unfoldable pub session_text : Presented → List ℕ → Result (List Question) SessionFault

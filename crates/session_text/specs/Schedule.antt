@@ -1,5 +1,6 @@
 -- Reading a schedule: its events, or its first fault.
-use Rattle.std.specs.Prelude.{◌≡◌, ℕ, zero, suc, ◌-◌, ◌≤◌, ◌==◌, ◌&&◌, nat_le, nat_lt, List, [], ◌∷◌, ◌++◌, length, option_map, Option, Some, None, Result, Ok, Err, Vec, if◌then◌else◌}
+use Rattle.std.specs.Prelude.{◌≡◌, ℕ, zero, suc, ◌-◌, ◌≤◌, ◌==◌, ◌&&◌, nat_le, nat_lt, List, [], ◌∷◌, ◌++◌, length}
+use Rattle.std.specs.Prelude.{option_map, Option, Some, None, Result, Ok, Err, Vec, if◌then◌else◌}
 use Rattle.std.specs.declared.alloc.Global.{Global}
 use Rattle.word_text.specs.declared.fault.Fault.{Fault}
 use Rattle.word_text.specs.declared.fault.TextKind.TheVariants.{NoSession}
@@ -44,7 +45,8 @@ event_at sessions bs = event_by sessions bs (event_of (name_at bs))
 abbrev pub events_from : ℕ → ℕ → List Event → List ℕ → Result (List Event) Fault
 events_from zero sessions before bs = Err (due bs)
 events_from (suc n) sessions before bs =
-    if length bs == 0 then Ok before else event_at sessions bs >>= λ e. events_from n sessions (before ++ e.0 ∷ []) (after_blanks e.1)
+    if length bs == 0 then Ok before else event_at sessions bs >>=
+    λ e. events_from n sessions (before ++ e.0 ∷ []) (after_blanks e.1)
 
 -- the events that are the whole text
 unfoldable pub schedule_text : ℕ → List ℕ → Result (List Event) Fault

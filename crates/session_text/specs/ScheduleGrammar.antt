@@ -11,8 +11,9 @@ abbrev pub event_name : Event → List ℕ
 event_name (Worker n) = codes "w" ++ decimal n
 event_name (Session n) = codes "s" ++ decimal n
 
--- The text is a schedule with these events, where there are so many sessions: the name of each event in order, each as a
--- whole name with blanks before it, and blanks alone behind the last.
+-- The text is a schedule with these events, where there are so many sessions: the name of each event in order, each as
+-- a whole name with blanks before it, and blanks alone behind the last.
 abbrev pub IsSchedule : ℕ → List ℕ → List Event → Type 0
 IsSchedule sessions text [] = after_blanks text ≡ []
-IsSchedule sessions text (e ∷ es) = (rest : List ℕ) × KeywordAt text (event_name e) rest × IsEvent sessions e × IsSchedule sessions rest es
+IsSchedule sessions text (e ∷ es) = (rest : List ℕ) × KeywordAt text (event_name e) rest × IsEvent sessions e
+    × IsSchedule sessions rest es

@@ -26,7 +26,8 @@ impl Model for Asked {
 
     ghost view = { λ a. a.questions.items };
 
-    ghost invariant = { λ a. (a.letters ≡ session_letters a.questions.items) × (a.letters ≤ LETTERS) × (length a.questions.items ≤ QUESTIONS) };
+    ghost invariant = { λ a. (a.letters ≡ session_letters a.questions.items) × (a.letters ≤ LETTERS)
+        × (length a.questions.items ≤ QUESTIONS) };
 }
 
 impl Asked {

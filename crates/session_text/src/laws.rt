@@ -32,13 +32,15 @@ pub fn spelled_is_read()
 
 /// A text spells one list of questions at most.
 pub fn one_value()
-    ensures { (p : Presented) (text : List ℕ) (qs rs : List Question) → IsSession p text qs → IsSession p text rs → qs ≡ rs }
+    ensures { (p : Presented) (text : List ℕ) (qs rs : List Question) → IsSession p text qs
+        → IsSession p text rs → qs ≡ rs }
 {}
 
 /// A written question is one of the grammar that is the whole line, with the question as its value.
 #[tactic(auto, using(crate::proofs::QuestionBack::question_stands))]
 pub fn written_question_is_spelled()
-    ensures { (p : Presented) (q : Question) → IsPresented p → IsWritable p q → QuestionAt (finding p.names) (written_question p.names q) q (after_blanks []) }
+    ensures { (p : Presented) (q : Question) → IsPresented p → IsWritable p q
+        → QuestionAt (finding p.names) (written_question p.names q) q (after_blanks []) }
 {}
 
 /// A text is written of one question at most.
@@ -51,17 +53,20 @@ pub fn one_spelling()
 /// What is read of a text is a schedule of the grammar, with its events.
 #[tactic(auto, using(crate::proofs::ScheduleLaws::text_spelled))]
 pub fn read_schedule_is_spelled()
-    ensures { (sessions : ℕ) (text : List ℕ) (es : List Event) → schedule_text sessions text ≡ Ok es → IsSchedule sessions text es }
+    ensures { (sessions : ℕ) (text : List ℕ) (es : List Event) → schedule_text sessions text ≡ Ok es
+        → IsSchedule sessions text es }
 {}
 
 /// A schedule of the grammar is read, with its events.
 #[tactic(auto, using(crate::proofs::ScheduleLaws::text_again))]
 pub fn spelled_schedule_is_read()
-    ensures { (sessions : ℕ) (text : List ℕ) (es : List Event) → IsSchedule sessions text es → schedule_text sessions text ≡ Ok es }
+    ensures { (sessions : ℕ) (text : List ℕ) (es : List Event) → IsSchedule sessions text es
+        → schedule_text sessions text ≡ Ok es }
 {}
 
 /// A text spells one list of events at most.
 #[tactic(auto, using(crate::proofs::ScheduleLaws::one_value))]
 pub fn one_schedule()
-    ensures { (sessions : ℕ) (text : List ℕ) (es ds : List Event) → IsSchedule sessions text es → IsSchedule sessions text ds → es ≡ ds }
+    ensures { (sessions : ℕ) (text : List ℕ) (es ds : List Event) → IsSchedule sessions text es
+        → IsSchedule sessions text ds → es ≡ ds }
 {}

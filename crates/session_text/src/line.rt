@@ -7,7 +7,8 @@ ghost use Rattle.word_text.specs.Scan.{after_blanks};
 ghost use Rattle.presentation.specs.Line.{is_end};
 ghost use Rattle.session_text.specs.declared.TheConstants.{QUESTIONS, LETTERS};
 ghost use Rattle.session_text.specs.Questions.{IsWrittenQuestion, HasImages, question_letters, session_letters};
-ghost use Rattle.session_text.specs.Reading.{question_at, line_question, line_questions, ReadsAlone, ReadsQuestion, ReadsLine};
+ghost use Rattle.session_text.specs.Reading.{question_at, line_question, line_questions, ReadsAlone, ReadsQuestion};
+ghost use Rattle.session_text.specs.Reading.{ReadsLine};
 
 use crate::asked::Asked;
 use crate::fault::SessionFault;
@@ -29,7 +30,10 @@ fn is_blank(line: &[u8]) -> bool
 
 // A fault of this kind at the first token of the line.
 fn at_keyword(kind: TextKind, line: &[u8], number: u32) -> ReadFault
-    ensures { result ≡ ReadFault.Text (on_line line.now number (record { kind = kind; left = length (after_blanks line.now) })) }
+    ensures { result ≡ ReadFault.Text (on_line line.now number (record {
+      kind = kind;
+      left = length (after_blanks line.now);
+    })) }
 {
     let left = skip_blanks(line).len();
     ReadFault::Text(on_line(line, number, Fault { kind, left }))
@@ -44,7 +48,8 @@ pub fn spelled_question(
     line: &[u8],
     before: &Asked,
 ) -> Result<Question, ReadFault>
-    ensures exact { ReadsAlone line.now number (question_at (finding p.now.names) (length before.now) (session_letters before.now) line.now) result }
+    ensures exact { ReadsAlone line.now number (question_at (finding p.now.names) (length before.now)
+        (session_letters before.now) line.now) result }
     ensures written { IfOk result (λ q. IsWrittenQuestion p.now q) }
     ensures room { OnOk result (length before.now < QUESTIONS) }
     ensures few { IfOk result (λ q. session_letters before.now + question_letters q ≤ LETTERS) }
@@ -103,7 +108,8 @@ pub fn read_line(
     asked: &mut Asked,
 ) -> Result<(), SessionFault>
     ensures exact { ReadsLine asked.new (line_questions (finding p.now.names) number asked.old line.now) result }
-    ensures written { All (λ q. IsWrittenQuestion p.now q × HasImages q) asked.old → OnOk result (All (λ q. IsWrittenQuestion p.now q × HasImages q) asked.new) }
+    ensures written { All (λ q. IsWrittenQuestion p.now q × HasImages q) asked.old
+        → OnOk result (All (λ q. IsWrittenQuestion p.now q × HasImages q) asked.new) }
 {
     if is_blank(line) {
         return Ok(());

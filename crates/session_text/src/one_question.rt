@@ -13,8 +13,8 @@ use presentation::Presentation;
 use std::alloc::{AllocError, Global};
 use word_text::ReadFault;
 
-/// The question whose one spelling the text is, as `write_question` writes it: None exactly where it is the spelling of no
-/// question within the limits. Images of relators may be of any length.
+/// The question whose one spelling the text is, as `write_question` writes it: None exactly where it is the spelling of
+/// no question within the limits. Images of relators may be of any length.
 pub fn read_question(
     alloc: Global,
     p: &Presentation,

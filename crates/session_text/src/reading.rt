@@ -6,7 +6,8 @@ ghost use Rattle.word_text.specs.Machine.{finding};
 ghost use Rattle.presentation.specs.Presented.{IsWritten};
 ghost use Rattle.derivation.specs.Reading.{GoesOn, ending_at};
 ghost use Rattle.session_text.specs.Questions.{IsWrittenQuestion};
-ghost use Rattle.session_text.specs.Reading.{form_at, mark_at, trivial_at, equal_at, normal_at, image_behind, next_image, images_at, hom_at, asked_at};
+ghost use Rattle.session_text.specs.Reading.{form_at, mark_at, trivial_at, equal_at, normal_at, image_behind};
+ghost use Rattle.session_text.specs.Reading.{next_image, images_at, hom_at, asked_at};
 
 use crate::question::Question;
 use crate::words::Words;
@@ -28,7 +29,8 @@ pub enum Form {
 #[tactic(auto, unfolding(crate::specs::Reading::form_at))]
 pub fn keyword(reader: &mut WordReader) -> Result<Form, ReadFault>
     requires { reader.old.at ≤ length reader.old.text.now }
-    ensures exact { GoesOn (λ x. x) reader.old.text.now reader.old.line reader.new.at (form_at (drop reader.old.at reader.old.text.now)) result }
+    ensures exact { GoesOn (λ x. x) reader.old.text.now reader.old.line reader.new.at
+        (form_at (drop reader.old.at reader.old.text.now)) result }
     ensures inside { reader.new.at ≤ length reader.old.text.now }
     ensures text { reader.new.text ≡ reader.old.text }
     ensures line { reader.new.line ≡ reader.old.line }
@@ -50,7 +52,8 @@ pub fn keyword(reader: &mut WordReader) -> Result<Form, ReadFault>
 #[tactic(auto, unfolding(crate::specs::Reading::mark_at))]
 fn mark(reader: &mut WordReader, mark: &str) -> Result<(), ReadFault>
     requires { reader.old.at ≤ length reader.old.text.now }
-    ensures exact { GoesOn (λ _. tt) reader.old.text.now reader.old.line reader.new.at (mark_at mark.now (drop reader.old.at reader.old.text.now)) result }
+    ensures exact { GoesOn (λ _. tt) reader.old.text.now reader.old.line reader.new.at
+        (mark_at mark.now (drop reader.old.at reader.old.text.now)) result }
     ensures inside { reader.new.at ≤ length reader.old.text.now }
     ensures text { reader.new.text ≡ reader.old.text }
     ensures line { reader.new.line ≡ reader.old.line }
@@ -67,7 +70,8 @@ fn mark(reader: &mut WordReader, mark: &str) -> Result<(), ReadFault>
 #[tactic(auto, unfolding(crate::specs::Reading::trivial_at))]
 fn trivial(alloc: Global, reader: &mut WordReader, p: &Presentation) -> Result<Question, ReadFault>
     requires { reader.old.at ≤ length reader.old.text.now }
-    ensures exact { GoesOn (λ q. q) reader.old.text.now reader.old.line reader.new.at (trivial_at (finding p.now.names) (drop reader.old.at reader.old.text.now)) result }
+    ensures exact { GoesOn (λ q. q) reader.old.text.now reader.old.line reader.new.at
+        (trivial_at (finding p.now.names) (drop reader.old.at reader.old.text.now)) result }
     ensures written { IfOk result (λ q. IsWrittenQuestion p.now q) }
     ensures inside { reader.new.at ≤ length reader.old.text.now }
     ensures text { reader.new.text ≡ reader.old.text }
@@ -80,7 +84,8 @@ fn trivial(alloc: Global, reader: &mut WordReader, p: &Presentation) -> Result<Q
 #[tactic(auto, unfolding(crate::specs::Reading::equal_at))]
 fn equal(alloc: Global, reader: &mut WordReader, p: &Presentation) -> Result<Question, ReadFault>
     requires { reader.old.at ≤ length reader.old.text.now }
-    ensures exact { GoesOn (λ q. q) reader.old.text.now reader.old.line reader.new.at (equal_at (finding p.now.names) (drop reader.old.at reader.old.text.now)) result }
+    ensures exact { GoesOn (λ q. q) reader.old.text.now reader.old.line reader.new.at
+        (equal_at (finding p.now.names) (drop reader.old.at reader.old.text.now)) result }
     ensures written { IfOk result (λ q. IsWrittenQuestion p.now q) }
     ensures inside { reader.new.at ≤ length reader.old.text.now }
     ensures text { reader.new.text ≡ reader.old.text }
@@ -96,7 +101,8 @@ fn equal(alloc: Global, reader: &mut WordReader, p: &Presentation) -> Result<Que
 #[tactic(auto, unfolding(crate::specs::Reading::normal_at))]
 fn normal(alloc: Global, reader: &mut WordReader, p: &Presentation) -> Result<Question, ReadFault>
     requires { reader.old.at ≤ length reader.old.text.now }
-    ensures exact { GoesOn (λ q. q) reader.old.text.now reader.old.line reader.new.at (normal_at (finding p.now.names) (drop reader.old.at reader.old.text.now)) result }
+    ensures exact { GoesOn (λ q. q) reader.old.text.now reader.old.line reader.new.at
+        (normal_at (finding p.now.names) (drop reader.old.at reader.old.text.now)) result }
     ensures written { IfOk result (λ q. IsWrittenQuestion p.now q) }
     ensures inside { reader.new.at ≤ length reader.old.text.now }
     ensures text { reader.new.text ≡ reader.old.text }
@@ -114,8 +120,10 @@ fn push_image(
     images: &mut Vec<Word>,
 ) -> Result<(), ReadFault>
     requires { reader.old.at ≤ length reader.old.text.now }
-    ensures exact { GoesOn (λ _. images.new.items) reader.old.text.now reader.old.line reader.new.at (image_behind (finding p.now.names) images.old.items (drop reader.old.at reader.old.text.now)) result }
-    ensures written { OnOk result (AllByRecursion (IsWritten (length p.now.names)) images.old.items → AllByRecursion (IsWritten (length p.now.names)) images.new.items) }
+    ensures exact { GoesOn (λ _. images.new.items) reader.old.text.now reader.old.line reader.new.at
+        (image_behind (finding p.now.names) images.old.items (drop reader.old.at reader.old.text.now)) result }
+    ensures written { OnOk result (AllByRecursion (IsWritten (length p.now.names)) images.old.items
+        → AllByRecursion (IsWritten (length p.now.names)) images.new.items) }
     ensures one_more { OnOk result (length images.new.items ≡ length images.old.items + 1) }
     ensures inside { reader.new.at ≤ length reader.old.text.now }
     ensures text { reader.new.text ≡ reader.old.text }
@@ -137,8 +145,10 @@ fn push_next(
     images: &mut Vec<Word>,
 ) -> Result<(), ReadFault>
     requires { reader.old.at ≤ length reader.old.text.now }
-    ensures exact { GoesOn (λ _. images.new.items) reader.old.text.now reader.old.line reader.new.at (next_image (finding p.now.names) images.old.items (drop reader.old.at reader.old.text.now)) result }
-    ensures written { OnOk result (AllByRecursion (IsWritten (length p.now.names)) images.old.items → AllByRecursion (IsWritten (length p.now.names)) images.new.items) }
+    ensures exact { GoesOn (λ _. images.new.items) reader.old.text.now reader.old.line reader.new.at
+        (next_image (finding p.now.names) images.old.items (drop reader.old.at reader.old.text.now)) result }
+    ensures written { OnOk result (AllByRecursion (IsWritten (length p.now.names)) images.old.items
+        → AllByRecursion (IsWritten (length p.now.names)) images.new.items) }
     ensures one_more { OnOk result (length images.new.items ≡ length images.old.items + 1) }
     ensures inside { reader.new.at ≤ length reader.old.text.now }
     ensures text { reader.new.text ≡ reader.old.text }
@@ -157,7 +167,8 @@ fn images(
 ) -> Result<Vec<Word>, ReadFault>
     requires inside { reader.old.at ≤ length reader.old.text.now }
     requires some { 0 < count }
-    ensures exact { GoesOn (λ v. v.items) reader.old.text.now reader.old.line reader.new.at (images_at count (finding p.now.names) (drop reader.old.at reader.old.text.now)) result }
+    ensures exact { GoesOn (λ v. v.items) reader.old.text.now reader.old.line reader.new.at
+        (images_at count (finding p.now.names) (drop reader.old.at reader.old.text.now)) result }
     ensures written { IfOk result (λ v. AllByRecursion (IsWritten (length p.now.names)) v.items) }
     ensures so_many { IfOk result (λ v. length v.items ≡ count) }
     ensures inside { reader.new.at ≤ length reader.old.text.now }
@@ -176,7 +187,8 @@ fn images(
 #[tactic(auto, unfolding(crate::specs::Reading::hom_at))]
 fn hom(alloc: Global, reader: &mut WordReader, p: &Presentation) -> Result<Question, ReadFault>
     requires { reader.old.at ≤ length reader.old.text.now }
-    ensures exact { GoesOn (λ q. q) reader.old.text.now reader.old.line reader.new.at (hom_at (finding p.now.names) (drop reader.old.at reader.old.text.now)) result }
+    ensures exact { GoesOn (λ q. q) reader.old.text.now reader.old.line reader.new.at
+        (hom_at (finding p.now.names) (drop reader.old.at reader.old.text.now)) result }
     ensures written { IfOk result (λ q. IsWrittenQuestion p.now q) }
     ensures inside { reader.new.at ≤ length reader.old.text.now }
     ensures text { reader.new.text ≡ reader.old.text }
@@ -200,7 +212,8 @@ pub fn asked(
     form: Form,
 ) -> Result<Question, ReadFault>
     requires { reader.old.at ≤ length reader.old.text.now }
-    ensures exact { GoesOn (λ q. q) reader.old.text.now reader.old.line reader.new.at (asked_at (finding p.now.names) form (drop reader.old.at reader.old.text.now)) result }
+    ensures exact { GoesOn (λ q. q) reader.old.text.now reader.old.line reader.new.at
+        (asked_at (finding p.now.names) form (drop reader.old.at reader.old.text.now)) result }
     ensures written { IfOk result (λ q. IsWrittenQuestion p.now q) }
     ensures inside { reader.new.at ≤ length reader.old.text.now }
     ensures text { reader.new.text ≡ reader.old.text }
@@ -218,7 +231,8 @@ pub fn asked(
 #[tactic(auto, unfolding(derivation::specs::Reading::ending_at))]
 pub fn ending(reader: &WordReader) -> Result<(), ReadFault>
     requires { reader.now.at ≤ length reader.now.text.now }
-    ensures { GoesOn (λ _. tt) reader.now.text.now reader.now.line reader.now.at (ending_at (drop reader.now.at reader.now.text.now)) result }
+    ensures { GoesOn (λ _. tt) reader.now.text.now reader.now.line reader.now.at
+        (ending_at (drop reader.now.at reader.now.text.now)) result }
 {
     if reader.is_at_end() {
         Ok(())

@@ -80,8 +80,8 @@ fn read_exactly(alloc: Global, text: &[u8], sessions: u32) -> Result<Vec<Event>,
 }
 
 /// The events that the text spells: `w3` is a turn of worker 3, `s1` one of session 1, with blanks between them. Their
-/// numbers are from 1 to 16. A session past the number of sessions is NoSession at its first byte, and any other token a
-/// fault at its own.
+/// numbers are from 1 to 16. A session past the number of sessions is NoSession at its first byte, and any other token
+/// a fault at its own.
 pub fn read_schedule(alloc: Global, text: &[u8], sessions: u32) -> Result<Vec<Event>, ReadFault>
     // The text is a schedule of the grammar, with these events.
     ensures found { IfOk result (λ v. IsSchedule sessions text.now v.items) }

@@ -53,8 +53,8 @@ fn read_exactly(alloc: Global, p: &Presentation, text: &[u8]) -> Result<Vec<Ques
     }
 }
 
-/// The questions that the text spells, one a line. Lines of blanks alone have none. A fault has the number of its line, and
-/// its column there.
+/// The questions that the text spells, one a line. Lines of blanks alone have none. A fault has the number of its line,
+/// and its column there.
 pub fn read_session(
     alloc: Global,
     p: &Presentation,

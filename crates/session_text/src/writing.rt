@@ -22,7 +22,8 @@ pub fn write_question(alloc: Global, p: &Presentation, q: &Question) -> Result<V
     requires { IsQuestion p.now q.now }
     ensures text { IfOk result (λ v. v.items ≡ written_question p.now.names q.now) }
     // What is written of a question within the limits is a line of the grammar with that question, and of no other.
-    ensures spelled { IsWritable p.now q.now → IfOk result (λ v. QuestionAt (finding p.now.names) v.items q.now (after_blanks [])) }
+    ensures spelled { IsWritable p.now q.now
+        → IfOk result (λ v. QuestionAt (finding p.now.names) v.items q.now (after_blanks [])) }
 {
     p.known();
     let mut out = Vec::new(alloc);
@@ -78,7 +79,8 @@ fn append_words(
     words: &[Word],
 ) -> Result<(), AllocError>
     requires { AllByRecursion (IsOver (length p.now.names)) words.now }
-    ensures { OnOk result (out.new.items ≡ out.old.items ++ joined (codes ", ") (map (written_word p.now.names) words.now)) }
+    ensures { OnOk result (out.new.items ≡ out.old.items ++ joined (codes ", ")
+        (map (written_word p.now.names) words.now)) }
 {
     let Some((first, others)) = words.split_first() else {
         return Ok(());

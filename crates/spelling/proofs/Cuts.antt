@@ -1,5 +1,6 @@
 -- Cutting at the first separator.
-use Rattle.std.proofs.Common.{◌≡◌, ℕ, ◌+◌, ◌<◌, ◌≤◌, ◌==◌, Bool, true, false, List, [], ◌∷◌, ◌++◌, length, take, drop, get_or, Option, Some, None, option_map, refl, sym, ap, ◌∙◌, arith, append_assoc, add-one, drop-cons}
+use Rattle.std.proofs.Common.{◌≡◌, ℕ, ◌+◌, ◌<◌, ◌≤◌, ◌==◌, Bool, true, false, List, [], ◌∷◌, ◌++◌, length, take, drop, get_or, Option, Some, None, option_map}
+use Rattle.std.proofs.Common.{refl, sym, ap, ◌∙◌, arith, append_assoc, add-one, drop-cons}
 use Rattle.std.proofs.lemmas.List.{drop_all, append-nil, take_more}
 use Rattle.std.proofs.lemmas.Bool.Decides.{nat_tests}
 use Rattle.std.specs.List.{AllByRecursion}
@@ -50,7 +51,8 @@ is_byte b c e = grind (arith, nat_tests)
 pub cut_joins : (c : ℕ) (text front rest : List ℕ) → cut c text ≡ Some (front, rest) → text ≡ front ++ c ∷ rest
 cut_joins c [] front rest e = absurd (none-some (front, rest) e)
 cut_joins c (b ∷ bs) front rest e = by (b == c) refl (cut c bs) refl (λ f r k. cut_joins c bs f r k) where
-  by : (t : Bool) → (b == c) ≡ t → (o : Option (List ℕ × List ℕ)) → cut c bs ≡ o → ((f r : List ℕ) → cut c bs ≡ Some (f, r) → bs ≡ f ++ c ∷ r) → b ∷ bs ≡ front ++ c ∷ rest
+  by : (t : Bool) → (b == c) ≡ t → (o : Option (List ℕ × List ℕ)) → cut c bs ≡ o → ((f r : List ℕ) → cut c bs ≡ Some (f, r) → bs ≡ f ++ c ∷ r)
+      → b ∷ bs ≡ front ++ c ∷ rest
   by true h o k again =
       let d : b ≡ c = is_byte b c h in
       let f : Some ([], bs) ≡ Some (front, rest) = sym (rw h refl) ∙ e in

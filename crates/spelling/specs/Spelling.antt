@@ -1,5 +1,6 @@
 -- Spellings: functions from values to lists of bytes, and what a reader of one spelling answers.
-use Rattle.std.specs.Prelude.{◌≡◌, ℕ, ◌<◌, ◌^◌, ◌==◌, if◌then◌else◌, ℤ, pos, negsuc, suc, List, [], ◌∷◌, Option, Some, None, option_map, decimal}
+use Rattle.std.specs.Prelude.{◌≡◌, ℕ, ◌<◌, ◌^◌, ◌==◌, if◌then◌else◌, ℤ, pos, negsuc, suc, List, [], ◌∷◌, Option, Some}
+use Rattle.std.specs.Prelude.{None, option_map, decimal}
 
 -- the first byte c cuts the text in two
 abbrev pub cut : ℕ → List ℕ → Option (List ℕ × List ℕ)

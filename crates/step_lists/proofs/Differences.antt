@@ -1,5 +1,6 @@
 -- New coefficients in turn, and those of a difference.
-use Rattle.std.proofs.Common.{◌≡◌, ℕ, ◌+◌, ◌<◌, ◌≤◌, ℤ, pos, ◌+ℤ◌, ◌-ℤ◌, ◌*ℤ◌, Bool, true, false, cond, List, [], ◌∷◌, ◌++◌, map, length, take, get_or, refl, sym, ap, ◌∙◌, subst, arith, ◌⊎◌, inl, inr}
+use Rattle.std.proofs.Common.{◌≡◌, ℕ, ◌+◌, ◌<◌, ◌≤◌, ℤ, pos, ◌+ℤ◌, ◌-ℤ◌, ◌*ℤ◌, Bool, true, false, cond, List, [], ◌∷◌, ◌++◌, map, length, take, get_or, refl}
+use Rattle.std.proofs.Common.{sym, ap, ◌∙◌, subst, arith, ◌⊎◌, inl, inr}
 use Rattle.std.specs.Prelude.{None}
 use Rattle.std.specs.List.{AllByRecursion}
 use Rattle.std.proofs.lemmas.List.{take_more, map-append}
@@ -34,7 +35,8 @@ below_apart p q h = eq-apart test p q (λ e. order.irreflexive q (subst (λ r. I
 
 -- ---- from no coefficients to those of a vector
 
-all_zero : (f : Coefficients) (t : Term) (v : List Term) → Below t.at v → AllByRecursion (λ u. f u.at ≡ pos 0) v → AllByRecursion (λ u. with_one t f u.at ≡ pos 0) v
+all_zero : (f : Coefficients) (t : Term) (v : List Term) → Below t.at v → AllByRecursion (λ u. f u.at ≡ pos 0) v
+    → AllByRecursion (λ u. with_one t f u.at ≡ pos 0) v
 all_zero f t [] b h = tt
 all_zero f t (u ∷ v) b h = (rw (below_apart t.at u.at b.0) h.0, all_zero f t v b.1 h.1)
 
@@ -42,7 +44,8 @@ overwrites : (v : List Term) (f : Coefficients) → Falls v → AllByRecursion (
 overwrites [] f falls h x = omega (arith, ints)
 overwrites (t ∷ v) f falls h x = by (same_place t.at x) refl (overwrites v (with_one t f) falls.1 (all_zero f t v falls.0 h.1) x)
   where
-    by : (b : Bool) → same_place t.at x ≡ b → overwritten v (with_one t f) x ≡ cond (same_place t.at x) t.k (f x) +ℤ coefficient_at v x → overwritten v (with_one t f) x ≡ f x +ℤ (cond (same_place t.at x) t.k (pos 0) +ℤ coefficient_at v x)
+    by : (b : Bool) → same_place t.at x ≡ b → overwritten v (with_one t f) x ≡ cond (same_place t.at x) t.k (f x) +ℤ coefficient_at v x
+        → overwritten v (with_one t f) x ≡ f x +ℤ (cond (same_place t.at x) t.k (pos 0) +ℤ coefficient_at v x)
     by true e rest =
         let key : t.at ≡ x = test.sound t.at x e in
         let zero_here : f x ≡ pos 0 = ap f (sym key) ∙ h.0 in
@@ -61,15 +64,18 @@ all_changes [] h = tt
 all_changes (t ∷ v) h = (record { place = h.0.place; range = h.0.range }, all_changes v h.1)
 
 -- what was empty is now the vector
-pub becomes : (v old new : List Term) → old ≡ [] → IsSparse v → IsSparse new → ((x : Place) → coefficient_at new x ≡ overwritten v (coefficient_at old) x) → new ≡ v
-becomes v old new none h g e = same_vector new v g h (λ x. e x ∙ ap (λ w. overwritten v (coefficient_at w) x) none ∙ overwrites v (coefficient_at []) h.falling (all_at_first v) x ∙ plus_zero (coefficient_at v x))
+pub becomes : (v old new : List Term) → old ≡ [] → IsSparse v → IsSparse new
+    → ((x : Place) → coefficient_at new x ≡ overwritten v (coefficient_at old) x) → new ≡ v
+becomes v old new none h g e = same_vector new v g h (λ x. e x ∙ ap (λ w. overwritten v (coefficient_at w) x) none
+    ∙ overwrites v (coefficient_at []) h.falling (all_at_first v) x ∙ plus_zero (coefficient_at v x))
   where
     plus_zero : (z : ℤ) → pos 0 +ℤ z ≡ z
     plus_zero z = omega (arith, ints)
 
 -- ---- a difference
 
-pub multiple_below : (q : ℤ) (t : List ℕ) (p : Place) (g : List Term) → length t ≡ VARIABLES → length p.m ≡ VARIABLES → AllByRecursion IsTerm g → Below p g → AllBelow IsBelow (moved t p) (multiple q t g)
+pub multiple_below : (q : ℤ) (t : List ℕ) (p : Place) (g : List Term) → length t ≡ VARIABLES → length p.m ≡ VARIABLES → AllByRecursion IsTerm g → Below p g
+    → AllBelow IsBelow (moved t p) (multiple q t g)
 multiple_below q t p [] e f h b = tt
 multiple_below q t p (u ∷ g) e f h b = (moved_below t u.at p (h.0.place.variables ∙ sym e) (f ∙ sym e) b.0, multiple_below q t p g e f h.1 b.1)
 
@@ -84,58 +90,71 @@ module _ (f : Coefficients) (q : ℤ) (t : List ℕ) where
     pub difference : InRange (f (moved t u.at) -ℤ q *ℤ u.k)
 
   -- one term more
-  pub one_more : (g made made' : List Term) (i : ℕ) (u : Term) (p : Place) (k : ℤ) → i < length g → u ≡ get_or g i u → made ≡ map changed (take i g) → made' ≡ made ++ record { at = p; k = k } ∷ [] → p ≡ moved t u.at → k ≡ f p -ℤ q *ℤ u.k → made' ≡ map changed (take (i + 1) g)
+  pub one_more : (g made made' : List Term) (i : ℕ) (u : Term) (p : Place) (k : ℤ) → i < length g → u ≡ get_or g i u → made ≡ map changed (take i g)
+      → made' ≡ made ++ record { at = p; k = k } ∷ [] → p ≡ moved t u.at → k ≡ f p -ℤ q *ℤ u.k → made' ≡ map changed (take (i + 1) g)
   one_more g made made' i u p k h e is push place left =
       let own : record { at = p; k = k } ≡ changed u = λ j. record { at = place j; k = (left ∙ ap (λ x. f x -ℤ q *ℤ u.k) place) j } in
-      push ∙ (λ j. is j ++ own j ∷ []) ∙ sym (map-append changed (take i g) (u ∷ [])) ∙ ap (map changed) (sym (take_more g i u h ∙ ap (λ x. take i g ++ x ∷ []) (sym e)))
+      push ∙ (λ j. is j ++ own j ∷ []) ∙ sym (map-append changed (take i g) (u ∷ []))
+      ∙ ap (map changed) (sym (take_more g i u h ∙ ap (λ x. take i g ++ x ∷ []) (sym e)))
 
-  pub reach_more : (g : List Term) (i : ℕ) (u : Term) → i < length g → u ≡ get_or g i u → AllByRecursion IsInReach (take i g) → IsInReach u → AllByRecursion IsInReach (take (i + 1) g)
-  reach_more g i u h e all own = subst (AllByRecursion IsInReach) (sym (take_more g i u h ∙ ap (λ x. take i g ++ x ∷ []) (sym e))) (all_join IsInReach (take i g) (u ∷ []) all (own, tt))
+  pub reach_more : (g : List Term) (i : ℕ) (u : Term) → i < length g → u ≡ get_or g i u → AllByRecursion IsInReach (take i g) → IsInReach u
+      → AllByRecursion IsInReach (take (i + 1) g)
+  reach_more g i u h e all own = subst (AllByRecursion IsInReach) (sym (take_more g i u h ∙ ap (λ x. take i g ++ x ∷ []) (sym e)))
+      (all_join IsInReach (take i g) (u ∷ []) all (own, tt))
 
 module _ (f : Coefficients) (q : ℤ) (t : List ℕ) (long : length t ≡ VARIABLES) where
   -- at the place of the first term, and at others
   first_here : (u : Term) (g : List Term) → AllByRecursion IsTerm (u ∷ g) → Falls (u ∷ g) → multiple_at q t (u ∷ g) (moved t u.at) ≡ q *ℤ u.k
   first_here u g h falls =
       let own : cond (same_place (moved t u.at) (moved t u.at)) (q *ℤ u.k) (pos 0) ≡ q *ℤ u.k = rw (test.reflexive (moved t u.at)) refl in
-      let none : multiple_at q t g (moved t u.at) ≡ pos 0 = coefficient-above test order (moved t u.at) (multiple q t g) (multiple_below q t u.at g long h.0.place.variables h.1 falls.0) in
+      let none : multiple_at q t g (moved t u.at) ≡ pos 0 = coefficient-above test order (moved t u.at) (multiple q t g)
+      (multiple_below q t u.at g long h.0.place.variables h.1 falls.0) in
       omega (arith, ints, own, none)
 
   first_other : (u : Term) (g : List Term) (x : Place) → same_place (moved t u.at) x ≡ false → multiple_at q t (u ∷ g) x ≡ multiple_at q t g x
   first_other u g x e = let own : cond (same_place (moved t u.at) x) (q *ℤ u.k) (pos 0) ≡ pos 0 = rw e refl in omega (arith, ints, own)
 
-  agree : (h : Coefficients) (u : Term) (g : List Term) → IsTerm u → AllByRecursion IsTerm g → Below u.at g → AllByRecursion (λ w. h (moved t w.at) ≡ f (moved t w.at)) g → AllByRecursion (λ w. with_one (changed f q t u) h (moved t w.at) ≡ f (moved t w.at)) g
+  agree : (h : Coefficients) (u : Term) (g : List Term) → IsTerm u → AllByRecursion IsTerm g → Below u.at g
+      → AllByRecursion (λ w. h (moved t w.at) ≡ f (moved t w.at)) g → AllByRecursion (λ w. with_one (changed f q t u) h (moved t w.at) ≡ f (moved t w.at)) g
   agree h u [] own terms b e = tt
   agree h u (w ∷ g) own terms b e = (
     rw (below_apart (moved t u.at) (moved t w.at) (moved_below t w.at u.at (terms.0.place.variables ∙ sym long) (own.place.variables ∙ sym long) b.0)) e.0,
     agree h u g own terms.1 b.1 e.1,
   )
 
-  takes : (g : List Term) (h : Coefficients) → AllByRecursion IsTerm g → Falls g → AllByRecursion (λ w. h (moved t w.at) ≡ f (moved t w.at)) g → (x : Place) → overwritten (map (changed f q t) g) h x ≡ h x -ℤ multiple_at q t g x
+  takes : (g : List Term) (h : Coefficients) → AllByRecursion IsTerm g → Falls g → AllByRecursion (λ w. h (moved t w.at) ≡ f (moved t w.at)) g → (x : Place)
+      → overwritten (map (changed f q t) g) h x ≡ h x -ℤ multiple_at q t g x
   takes [] h terms falls e x = omega (arith, ints)
-  takes (u ∷ g) h terms falls e x = by (same_place (moved t u.at) x) refl (takes g (with_one (changed f q t u) h) terms.1 falls.1 (agree h u g terms.0 terms.1 falls.0 e.1) x)
+  takes (u ∷ g) h terms falls e x = by (same_place (moved t u.at) x) refl (takes g (with_one (changed f q t u) h) terms.1 falls.1
+      (agree h u g terms.0 terms.1 falls.0 e.1) x)
     where
-      by : (b : Bool) → same_place (moved t u.at) x ≡ b → overwritten (map (changed f q t) g) (with_one (changed f q t u) h) x ≡ cond (same_place (moved t u.at) x) (f (moved t u.at) -ℤ q *ℤ u.k) (h x) -ℤ multiple_at q t g x → overwritten (map (changed f q t) g) (with_one (changed f q t u) h) x ≡ h x -ℤ multiple_at q t (u ∷ g) x
+      by : (b : Bool) → same_place (moved t u.at) x ≡ b → overwritten (map (changed f q t) g) (with_one (changed f q t u) h) x
+          ≡ cond (same_place (moved t u.at) x) (f (moved t u.at) -ℤ q *ℤ u.k) (h x) -ℤ multiple_at q t g x
+          → overwritten (map (changed f q t) g) (with_one (changed f q t u) h) x ≡ h x -ℤ multiple_at q t (u ∷ g) x
       by true s rest =
           let key : moved t u.at ≡ x = test.sound (moved t u.at) x s in
           let here : multiple_at q t (u ∷ g) x ≡ q *ℤ u.k = ap (multiple_at q t (u ∷ g)) (sym key) ∙ first_here u g terms falls in
           let own : cond (same_place (moved t u.at) x) (q *ℤ u.k) (pos 0) ≡ q *ℤ u.k = rw s refl in
           let none : multiple_at q t g x ≡ pos 0 = omega (arith, ints, here, own) in
           let same : h x ≡ f (moved t u.at) = ap h (sym key) ∙ e.0 in
-          let read : overwritten (map (changed f q t) g) (with_one (changed f q t u) h) x ≡ (f (moved t u.at) -ℤ q *ℤ u.k) -ℤ multiple_at q t g x = rest ∙ rw s refl in
+          let read : overwritten (map (changed f q t) g) (with_one (changed f q t u) h) x ≡ (f (moved t u.at) -ℤ q *ℤ u.k) -ℤ multiple_at q t g x =
+          rest ∙ rw s refl in
           omega (arith, ints, read, none, same, here)
       by false s rest =
           let read : overwritten (map (changed f q t) g) (with_one (changed f q t u) h) x ≡ h x -ℤ multiple_at q t g x = rest ∙ rw s refl in
           read ∙ ap (λ z. h x -ℤ z) (sym (first_other u g x s))
 
   -- in range where each is
-  reach_at : (g : List Term) → AllByRecursion IsTerm g → Falls g → AllByRecursion (IsInReach f q t) g → (x : Place) → InRange (f x) → InRange (multiple_at q t g x) × InRange (f x -ℤ multiple_at q t g x)
+  reach_at : (g : List Term) → AllByRecursion IsTerm g → Falls g → AllByRecursion (IsInReach f q t) g → (x : Place) → InRange (f x)
+      → InRange (multiple_at q t g x) × InRange (f x -ℤ multiple_at q t g x)
   reach_at [] terms falls reach x own = (omega arith, subst InRange (sym (less_zero (f x))) own)
     where
       less_zero : (z : ℤ) → z -ℤ pos 0 ≡ z
       less_zero z = omega (arith, ints)
   reach_at (u ∷ g) terms falls reach x own = by (same_place (moved t u.at) x) refl (reach_at g terms.1 falls.1 reach.1 x own)
     where
-      by : (b : Bool) → same_place (moved t u.at) x ≡ b → InRange (multiple_at q t g x) × InRange (f x -ℤ multiple_at q t g x) → InRange (multiple_at q t (u ∷ g) x) × InRange (f x -ℤ multiple_at q t (u ∷ g) x)
+      by : (b : Bool) → same_place (moved t u.at) x ≡ b → InRange (multiple_at q t g x) × InRange (f x -ℤ multiple_at q t g x)
+          → InRange (multiple_at q t (u ∷ g) x) × InRange (f x -ℤ multiple_at q t (u ∷ g) x)
       by true s rest =
           let key : moved t u.at ≡ x = test.sound (moved t u.at) x s in
           let here : multiple_at q t (u ∷ g) x ≡ q *ℤ u.k = ap (multiple_at q t (u ∷ g)) (sym key) ∙ first_here u g terms falls in
@@ -145,7 +164,8 @@ module _ (f : Coefficients) (q : ℤ) (t : List ℕ) (long : length t ≡ VARIAB
           let other : multiple_at q t g x ≡ multiple_at q t (u ∷ g) x = sym (first_other u g x s) in
           subst (λ z. InRange z × InRange (f x -ℤ z)) other rest
 
-  narrow_at : (g : List Term) → AllByRecursion IsTerm g → Falls g → AllByRecursion (IsInReach f q t) g → (x : Place) → InRange (f x) → DifferenceIsWide f (multiple_at q t g) x → ⊥
+  narrow_at : (g : List Term) → AllByRecursion IsTerm g → Falls g → AllByRecursion (IsInReach f q t) g → (x : Place) → InRange (f x)
+      → DifferenceIsWide f (multiple_at q t g) x → ⊥
   narrow_at g terms falls reach x own wide = by wide (reach_at g terms falls reach x own)
     where
       not_both : (z : ℤ) → IsWide z → InRange z → ⊥
@@ -159,7 +179,8 @@ module _ (f : Coefficients) (q : ℤ) (t : List ℕ) (long : length t ≡ VARIAB
   all_agree [] = tt
   all_agree (u ∷ g) = (refl, all_agree g)
 
-  are_changes : (g : List Term) → degree t ≤ DEGREE → AllByRecursion IsTerm g → AllByRecursion (λ u. degree t + degree u.at.m ≤ DEGREE) g → AllByRecursion (IsInReach f q t) g → AllByRecursion IsChange (map (changed f q t) g)
+  are_changes : (g : List Term) → degree t ≤ DEGREE → AllByRecursion IsTerm g → AllByRecursion (λ u. degree t + degree u.at.m ≤ DEGREE) g
+      → AllByRecursion (IsInReach f q t) g → AllByRecursion IsChange (map (changed f q t) g)
   are_changes [] d terms room reach = tt
   are_changes (u ∷ g) d terms room reach =
       let same : length t ≡ length u.at.m = long ∙ sym terms.0.place.variables in
@@ -171,7 +192,9 @@ module _ (f : Coefficients) (q : ℤ) (t : List ℕ) (long : length t ≡ VARIAB
         are_changes g d terms.1 room.1 reach.1,
       )
 
-  pub all_are_changes : (g made : List Term) → IsSparse g → ((x : Place) → InRange (f x)) → degree t ≤ DEGREE → AllByRecursion (λ u. degree t + degree u.at.m ≤ DEGREE) g → AllByRecursion (IsInReach f q t) g → made ≡ map (changed f q t) g → AreChanges f (multiple_at q t g) made
+  pub all_are_changes : (g made : List Term) → IsSparse g → ((x : Place) → InRange (f x)) → degree t ≤ DEGREE
+      → AllByRecursion (λ u. degree t + degree u.at.m ≤ DEGREE) g → AllByRecursion (IsInReach f q t) g → made ≡ map (changed f q t) g
+      → AreChanges f (multiple_at q t g) made
   all_are_changes g made h own d room reach is = record {
     are = subst (AllByRecursion IsChange) (sym is) (are_changes g d h.terms room reach);
     is = λ x. ap (λ w. overwritten w f x) is ∙ takes g f h.terms h.falling (all_agree g) x;
@@ -180,20 +203,26 @@ module _ (f : Coefficients) (q : ℤ) (t : List ℕ) (long : length t ≡ VARIAB
 
   -- ---- the first place at which a number leaves the range
 
-  above_same : (a : List Term) (u : Term) (r : List Term) → AllByRecursion IsTerm (a ++ u ∷ r) → Falls (a ++ u ∷ r) → (x : Place) → IsBelow (moved t u.at) x → multiple_at q t (a ++ u ∷ r) x ≡ multiple_at q t a x
-  above_same [] u r terms falls x h = coefficient-above test order x (multiple q t (u ∷ r)) (h, AllBelow_transitive test order (moved t u.at) x h (multiple q t r) (multiple_below q t u.at r long terms.0.place.variables terms.1 falls.0))
+  above_same : (a : List Term) (u : Term) (r : List Term) → AllByRecursion IsTerm (a ++ u ∷ r) → Falls (a ++ u ∷ r) → (x : Place) → IsBelow (moved t u.at) x
+      → multiple_at q t (a ++ u ∷ r) x ≡ multiple_at q t a x
+  above_same [] u r terms falls x h = coefficient-above test order x (multiple q t (u ∷ r))
+      (h, AllBelow_transitive test order (moved t u.at) x h (multiple q t r) (multiple_below q t u.at r long terms.0.place.variables terms.1 falls.0))
   above_same (s ∷ a) u r terms falls x h = ap (λ z. cond (same_place (moved t s.at) x) (q *ℤ s.k) (pos 0) +ℤ z) (above_same a u r terms.1 falls.1 x h)
 
-  here_only : (a : List Term) (u : Term) (r : List Term) → AllByRecursion IsTerm (a ++ u ∷ r) → Falls (a ++ u ∷ r) → multiple_at q t (a ++ u ∷ r) (moved t u.at) ≡ q *ℤ u.k
+  here_only : (a : List Term) (u : Term) (r : List Term) → AllByRecursion IsTerm (a ++ u ∷ r) → Falls (a ++ u ∷ r)
+      → multiple_at q t (a ++ u ∷ r) (moved t u.at) ≡ q *ℤ u.k
   here_only [] u r terms falls = first_here u r terms falls
   here_only (s ∷ a) u r terms falls =
       let lower : IsBelow u.at s.at = (above_next (s ∷ a) u r falls).0 in
       let own : IsTerm u = (all_back IsTerm (s ∷ a) (u ∷ r) terms).0 in
-      first_other s (a ++ u ∷ r) (moved t u.at) (below_apart (moved t s.at) (moved t u.at) (moved_below t u.at s.at (own.place.variables ∙ sym long) (terms.0.place.variables ∙ sym long) lower))
+      first_other s (a ++ u ∷ r) (moved t u.at) (below_apart (moved t s.at) (moved t u.at) (moved_below t u.at s.at (own.place.variables
+      ∙ sym long) (terms.0.place.variables ∙ sym long) lower))
       ∙ here_only a u r terms.1 falls.1
 
-  pub is_wide : (g a : List Term) (u : Term) (r : List Term) (p : Place) → g ≡ a ++ u ∷ r → IsSparse g → ((x : Place) → InRange (f x)) → AllByRecursion (IsInReach f q t) a → p ≡ moved t u.at → Subtracts (f p) q u.k None → IsGreatest (DifferenceIsWide f (multiple_at q t g)) p
-  is_wide g a u r p split h own reach place wide = subst (IsGreatest (DifferenceIsWide f (multiple_at q t g))) (sym place) (subst (λ w. IsGreatest (DifferenceIsWide f (multiple_at q t w)) (moved t u.at)) (sym split) (record { here = here; above = above }))
+  pub is_wide : (g a : List Term) (u : Term) (r : List Term) (p : Place) → g ≡ a ++ u ∷ r → IsSparse g → ((x : Place) → InRange (f x))
+      → AllByRecursion (IsInReach f q t) a → p ≡ moved t u.at → Subtracts (f p) q u.k None → IsGreatest (DifferenceIsWide f (multiple_at q t g)) p
+  is_wide g a u r p split h own reach place wide = subst (IsGreatest (DifferenceIsWide f (multiple_at q t g))) (sym place)
+      (subst (λ w. IsGreatest (DifferenceIsWide f (multiple_at q t w)) (moved t u.at)) (sym split) (record { here = here; above = above }))
     where
       falls : Falls (a ++ u ∷ r)
       falls = subst Falls split h.falling
@@ -212,4 +241,5 @@ module _ (f : Coefficients) (q : ℤ) (t : List ℕ) (long : length t ≡ VARIAB
       here = by (subst (λ y. IsWide (q *ℤ u.k) ⊎ IsWide (f y -ℤ q *ℤ u.k)) place wide)
 
       above : (x : Place) → IsBelow (moved t u.at) x → DifferenceIsWide f (multiple_at q t (a ++ u ∷ r)) x → ⊥
-      above x lower w = narrow_at a (all_front IsTerm a (u ∷ r) terms) (falls_front a (u ∷ r) falls) reach x (own x) (subst (λ z. IsWide z ⊎ IsWide (f x -ℤ z)) (above_same a u r terms falls x lower) w)
+      above x lower w = narrow_at a (all_front IsTerm a (u ∷ r) terms) (falls_front a (u ∷ r) falls) reach x (own x)
+          (subst (λ z. IsWide z ⊎ IsWide (f x -ℤ z)) (above_same a u r terms falls x lower) w)

@@ -27,4 +27,7 @@ below_join p (s ∷ a) b h g = (h.0, below_join p a b h.1 g)
 -- falling terms above a place, and falling terms below it
 pub falls_join : (p : Place) (a b : List Term) → Falls a → Falls b → Above p a → Below p b → Falls (a ++ b)
 falls_join p [] b f g above below = g
-falls_join p (s ∷ a) b f g above below = (below_join s.at a b f.0 (AllBelow_transitive test order p s.at above.0 (sum_of b) below), falls_join p a b f.1 g above.1 below)
+falls_join p (s ∷ a) b f g above below = (
+  below_join s.at a b f.0 (AllBelow_transitive test order p s.at above.0 (sum_of b) below),
+  falls_join p a b f.1 g above.1 below,
+)

@@ -1,5 +1,6 @@
 -- Terms under changes: those that were given, with the coefficients of a map in their stead.
-use Rattle.std.proofs.Common.{◌≡◌, ◌≢◌, ℕ, zero, suc, ◌+◌, ◌≤◌, ℤ, pos, negsuc, ◌+ℤ◌, Bool, true, false, cond, List, [], ◌∷◌, ◌++◌, length, append-nil, refl, sym, ap, ◌∙◌, subst, arith, ◌⊎◌, inl, inr}
+use Rattle.std.proofs.Common.{◌≡◌, ◌≢◌, ℕ, zero, suc, ◌+◌, ◌≤◌, ℤ, pos, negsuc, ◌+ℤ◌, Bool, true, false, cond, List, [], ◌∷◌, ◌++◌, length, append-nil, refl}
+use Rattle.std.proofs.Common.{sym, ap, ◌∙◌, subst, arith, ◌⊎◌, inl, inr}
 use Rattle.std.specs.Prelude.{Some, slice_get}
 use Rattle.std.specs.Option.{unwrap_or}
 use Rattle.std.specs.List.{All, AllByRecursion}
@@ -112,17 +113,20 @@ put_at p k (t ∷ v) f x = by (place_cmp p t.at) refl (put_at p k v f.1 x)
     beside w b false s = omega (arith, ints)
 
     joined : (w : List Term) → Below p w → coefficient_at (kept p k ++ w) x ≡ cond (same_place p x) k (coefficient_at w x)
-    joined w b = let here : coefficient_at (kept p k) x ≡ cond (same_place p x) k (pos 0) = kept_at p k x in at_join (kept p k) w x ∙ ap (λ z. z +ℤ coefficient_at w x) here ∙ beside w b (same_place p x) refl
+    joined w b = let here : coefficient_at (kept p k) x ≡ cond (same_place p x) k (pos 0) = kept_at p k x
+        in at_join (kept p k) w x ∙ ap (λ z. z +ℤ coefficient_at w x) here ∙ beside w b (same_place p x) refl
 
     passed : IsBelow p t.at → (c : Bool) → same_place p x ≡ c → single +ℤ cond c k (coefficient_at v x) ≡ cond c k (single +ℤ coefficient_at v x)
-    passed h true s = let none : single ≡ pos 0 = rw (ap (same_place t.at) (sym (test.sound p x s)) ∙ eq-above test order t.at p h) refl in omega (arith, ints, none)
+    passed h true s = let none : single ≡ pos 0 = rw (ap (same_place t.at) (sym (test.sound p x s)) ∙ eq-above test order t.at p h) refl
+        in omega (arith, ints, none)
     passed h false s = refl
 
     replaced : p ≡ t.at → (c : Bool) → same_place p x ≡ c → cond c k (coefficient_at v x) ≡ cond c k (single +ℤ coefficient_at v x)
     replaced h true s = refl
     replaced h false s = let none : single ≡ pos 0 = rw (ap (λ y. same_place y x) (sym h) ∙ s) refl in omega (arith, ints, none)
 
-    by : (r : Ordering) → place_cmp p t.at ≡ r → coefficient_at (put p k v) x ≡ cond (same_place p x) k (coefficient_at v x) → coefficient_at (match_ordering r (t ∷ put p k v) (kept p k ++ v) (kept p k ++ t ∷ v)) x ≡ cond (same_place p x) k (single +ℤ coefficient_at v x)
+    by : (r : Ordering) → place_cmp p t.at ≡ r → coefficient_at (put p k v) x ≡ cond (same_place p x) k (coefficient_at v x)
+        → coefficient_at (match_ordering r (t ∷ put p k v) (kept p k ++ v) (kept p k ++ t ∷ v)) x ≡ cond (same_place p x) k (single +ℤ coefficient_at v x)
     by Less e rest = ap (λ z. single +ℤ z) rest ∙ passed e (same_place p x) refl
     by Equal e rest = joined v (subst (λ y. Below y v) (sym (place_exact p t.at e)) f.0) ∙ replaced (place_exact p t.at e) (same_place p x) refl
     by Greater e rest = joined (t ∷ v) (below_from_first p t v (above_from p t.at e) f)
@@ -142,7 +146,8 @@ count_put p k (t ∷ v) h = by (place_cmp p t.at) refl (count_put p k v (record 
     at_p : (z : ℤ) → cond (same_place t.at p) t.k (pos 0) ≡ z → coefficient_at (t ∷ v) p ≡ z +ℤ coefficient_at v p
     at_p z e = ap (λ y. y +ℤ coefficient_at v p) e
 
-    by : (r : Ordering) → place_cmp p t.at ≡ r → length (put p k v) + presence (coefficient_at v p) ≡ length v + presence k → length (match_ordering r (t ∷ put p k v) (kept p k ++ v) (kept p k ++ t ∷ v)) + presence (coefficient_at (t ∷ v) p) ≡ length (t ∷ v) + presence k
+    by : (r : Ordering) → place_cmp p t.at ≡ r → length (put p k v) + presence (coefficient_at v p) ≡ length v + presence k
+        → length (match_ordering r (t ∷ put p k v) (kept p k ++ v) (kept p k ++ t ∷ v)) + presence (coefficient_at (t ∷ v) p) ≡ length (t ∷ v) + presence k
     by Less e rest =
         let none : cond (same_place t.at p) t.k (pos 0) ≡ pos 0 = rw (eq-above test order t.at p e) refl in
         let same : coefficient_at (t ∷ v) p ≡ coefficient_at v p = omega (arith, ints, none) in
@@ -163,18 +168,22 @@ pub sparse_overlay : (es : List (Place × ℤ)) (v : List Term) → AllByRecursi
 sparse_overlay [] v h s = s
 sparse_overlay (e ∷ es) v h s = sparse_put e.0 e.1 (overlay es v) (sparse_overlay es v h.1 s) h.0.place h.0.range
 
-pub overlay_at : (es : List (Place × ℤ)) (v : List Term) → AllByRecursion IsCoefficient es → IsSparse v → (x : Place) → coefficient_at (overlay es v) x ≡ unwrap_or (lookup (λ k. is_eq (place_cmp x k)) es) (coefficient_at v x)
+pub overlay_at : (es : List (Place × ℤ)) (v : List Term) → AllByRecursion IsCoefficient es → IsSparse v → (x : Place)
+    → coefficient_at (overlay es v) x ≡ unwrap_or (lookup (λ k. is_eq (place_cmp x k)) es) (coefficient_at v x)
 overlay_at [] v h s x = refl
 overlay_at (e ∷ es) v h s x = put_at e.0 e.1 (overlay es v) (sparse_overlay es v h.1 s).falling x ∙ by (is_eq (place_cmp x e.0)) refl (overlay_at es v h.1 s x)
   where
-    by : (c : Bool) → is_eq (place_cmp x e.0) ≡ c → coefficient_at (overlay es v) x ≡ unwrap_or (lookup (λ k. is_eq (place_cmp x k)) es) (coefficient_at v x) → cond (same_place e.0 x) e.1 (coefficient_at (overlay es v) x) ≡ unwrap_or (cond (is_eq (place_cmp x e.0)) (Some e.1) (lookup (λ k. is_eq (place_cmp x k)) es)) (coefficient_at v x)
+    by : (c : Bool) → is_eq (place_cmp x e.0) ≡ c → coefficient_at (overlay es v) x ≡ unwrap_or (lookup (λ k. is_eq (place_cmp x k)) es) (coefficient_at v x)
+        → cond (same_place e.0 x) e.1 (coefficient_at (overlay es v) x)
+        ≡ unwrap_or (cond (is_eq (place_cmp x e.0)) (Some e.1) (lookup (λ k. is_eq (place_cmp x k)) es)) (coefficient_at v x)
     by true s rest = rw (same_turned e.0 x ∙ s, s) refl
     by false s rest = rw (same_turned e.0 x ∙ s, s) rest
 
 -- a term above the keys stays first
 pub overlay_above : (t : Term) (es : List (Place × ℤ)) (v : List Term) → AreBelow t.at es → overlay es (t ∷ v) ≡ t ∷ overlay es v
 overlay_above t [] v h = refl
-overlay_above t (e ∷ es) v h = ap (put e.0 e.1) (overlay_above t es v h.1) ∙ ap (λ r. match_ordering r (t ∷ put e.0 e.1 (overlay es v)) (kept e.0 e.1 ++ overlay es v) (kept e.0 e.1 ++ t ∷ overlay es v)) h.0
+overlay_above t (e ∷ es) v h = ap (put e.0 e.1) (overlay_above t es v h.1)
+    ∙ ap (λ r. match_ordering r (t ∷ put e.0 e.1 (overlay es v)) (kept e.0 e.1 ++ overlay es v) (kept e.0 e.1 ++ t ∷ overlay es v)) h.0
 
 overlay_last : (es : List (Place × ℤ)) (e : Place × ℤ) (v : List Term) → overlay (es ++ e ∷ []) v ≡ overlay es (put e.0 e.1 v)
 overlay_last [] e v = refl
@@ -186,7 +195,8 @@ put_first : (p : Place) (k : ℤ) (v left : List Term) → (IsFirstAbove v ((p, 
 put_first p k [] left h s = alone (kept p k) ∙ ap (λ w. kept p k ++ w) (sym s)
 put_first p k (t ∷ v) left h s = by (place_cmp p t.at) refl s
   where
-    by : (r : Ordering) → place_cmp p t.at ≡ r → ((t.at ≡ p) × (left ≡ v)) ⊎ ((t.at ≢ p) × (left ≡ t ∷ v)) → match_ordering r (t ∷ put p k v) (kept p k ++ v) (kept p k ++ t ∷ v) ≡ kept p k ++ left
+    by : (r : Ordering) → place_cmp p t.at ≡ r → ((t.at ≡ p) × (left ≡ v)) ⊎ ((t.at ≢ p) × (left ≡ t ∷ v))
+        → match_ordering r (t ∷ put p k v) (kept p k ++ v) (kept p k ++ t ∷ v) ≡ kept p k ++ left
     by Less e c = absurd (h (e, tt))
     by Equal e (inl c) = ap (λ w. kept p k ++ w) (sym c.1)
     by Equal e (inr c) = absurd (c.0 (sym (place_exact p t.at e)))
@@ -201,15 +211,18 @@ not_above_all es p k (t ∷ v) below h = all es below
     all [] b = h
     all (e ∷ es) b = (order.transitive e.0 p t.at b.0 h.0, all es b.1)
 
-pub passes_changed : (es : List (Place × ℤ)) (p : Place) (k : ℤ) (v left : List Term) → AreBelow p es → (IsFirstAbove v (es ++ (p, k) ∷ []) → ⊥) → Skips p v left → Passes (overlay (es ++ (p, k) ∷ []) v) (record { at = p; k = k }) (overlay es left)
+pub passes_changed : (es : List (Place × ℤ)) (p : Place) (k : ℤ) (v left : List Term) → AreBelow p es → (IsFirstAbove v (es ++ (p, k) ∷ []) → ⊥)
+    → Skips p v left → Passes (overlay (es ++ (p, k) ∷ []) v) (record { at = p; k = k }) (overlay es left)
 passes_changed es p k v left below h s = by k (overlay_last es (p, k) v ∙ ap (overlay es) (put_first p k v left (λ a. h (not_above_all es p k v below a)) s))
   where
-    by : (z : ℤ) → overlay (es ++ (p, k) ∷ []) v ≡ overlay es (kept p z ++ left) → Passes (overlay (es ++ (p, k) ∷ []) v) (record { at = p; k = z }) (overlay es left)
+    by : (z : ℤ) → overlay (es ++ (p, k) ∷ []) v ≡ overlay es (kept p z ++ left)
+        → Passes (overlay (es ++ (p, k) ∷ []) v) (record { at = p; k = z }) (overlay es left)
     by (pos zero) e = inl (refl, sym e)
     by (pos (suc n)) e = inr (λ z. absurd (omega (arith, ints, z)), e ∙ overlay_above (record { at = p; k = pos (suc n) }) es left below)
     by (negsuc n) e = inr (λ z. absurd (omega (arith, ints, z)), e ∙ overlay_above (record { at = p; k = negsuc n }) es left below)
 
-pub passes_given : (es : List (Place × ℤ)) (t : Term) (v given : List Term) → IsSparse given → given ≡ t ∷ v → AreBelow t.at es → Passes (overlay es given) t (overlay es v)
+pub passes_given : (es : List (Place × ℤ)) (t : Term) (v given : List Term) → IsSparse given → given ≡ t ∷ v → AreBelow t.at es
+    → Passes (overlay es given) t (overlay es v)
 passes_given es t v given h is below = inr ((subst IsSparse is h).terms.0.nonzero, ap (overlay es) is ∙ overlay_above t es v below)
 
 pub passes_count : (old new : List Term) (t : Term) → Passes old t new → length old ≡ length new + presence t.k
@@ -218,11 +231,13 @@ passes_count old new t (inr h) = omega (arith, ap length h.1, presence_one t.k h
 
 -- ---- a change
 
-all_inserted : (es : List (Place × ℤ)) (p : Place) (k : ℤ) → AllByRecursion IsCoefficient es → IsPlace p → InRange k → AllByRecursion IsCoefficient (insert_entry place_cmp es p k)
+all_inserted : (es : List (Place × ℤ)) (p : Place) (k : ℤ) → AllByRecursion IsCoefficient es → IsPlace p → InRange k
+    → AllByRecursion IsCoefficient (insert_entry place_cmp es p k)
 all_inserted [] p k h place range = (record { place = place; range = range }, tt)
 all_inserted (e ∷ es) p k h place range = by (place_cmp p e.0) (all_inserted es p k h.1 place range)
   where
-    by : (r : Ordering) → AllByRecursion IsCoefficient (insert_entry place_cmp es p k) → AllByRecursion IsCoefficient (match_ordering r ((p, k) ∷ e ∷ es) ((e.0, k) ∷ es) (e ∷ insert_entry place_cmp es p k))
+    by : (r : Ordering) → AllByRecursion IsCoefficient (insert_entry place_cmp es p k)
+        → AllByRecursion IsCoefficient (match_ordering r ((p, k) ∷ e ∷ es) ((e.0, k) ∷ es) (e ∷ insert_entry place_cmp es p k))
     by Less rest = (record { place = place; range = range }, h)
     by Equal rest = (record { place = h.0.place; range = range }, h.1)
     by Greater rest = (h.0, rest)
@@ -246,7 +261,8 @@ module _ (old new : List (Place × ℤ)) (v : List Term) (p : Place) (k : ℤ) w
     pub changed_at : (x : Place) → coefficient_at (overlay new v) x ≡ cond (same_place p x) k (coefficient_at (overlay old v) x)
     changed_at x = by (same_place p x) refl
       where
-        read : coefficient_at (overlay new v) x ≡ unwrap_or (cond (is_eq (place_cmp p x)) (Some k) (lookup (λ y. is_eq (place_cmp x y)) old)) (coefficient_at v x)
+        read : coefficient_at (overlay new v) x ≡ unwrap_or (cond (is_eq (place_cmp p x)) (Some k) (lookup (λ y. is_eq (place_cmp x y)) old))
+            (coefficient_at v x)
         read = overlay_at new v new_coefficients i.given x ∙ ap (λ o. unwrap_or o (coefficient_at v x)) (i.updates x)
 
         by : (c : Bool) → same_place p x ≡ c → coefficient_at (overlay new v) x ≡ cond (same_place p x) k (coefficient_at (overlay old v) x)
@@ -254,7 +270,8 @@ module _ (old new : List (Place × ℤ)) (v : List Term) (p : Place) (k : ℤ) w
         by false s = read ∙ rw s (sym (overlay_at old v i.coefficients i.given x))
 
     is_put : overlay new v ≡ put p k (overlay old v)
-    is_put = same_vector (overlay new v) (put p k (overlay old v)) (sparse_overlay new v new_coefficients i.given) (sparse_put p k (overlay old v) before i.place i.range) (λ x. changed_at x ∙ sym (put_at p k (overlay old v) before.falling x))
+    is_put = same_vector (overlay new v) (put p k (overlay old v)) (sparse_overlay new v new_coefficients i.given)
+        (sparse_put p k (overlay old v) before i.place i.range) (λ x. changed_at x ∙ sym (put_at p k (overlay old v) before.falling x))
 
     pub changed_count : length (overlay new v) + presence (coefficient_at (overlay old v) p) ≡ length (overlay old v) + presence k
     changed_count = ap (λ w. length w + presence (coefficient_at (overlay old v) p)) is_put ∙ count_put p k (overlay old v) before

@@ -92,7 +92,8 @@ parts v w a left rest others ours u p h g is split first parting =
     theirs = sparse_back a (u ∷ others) (subst IsSparse split g)
 
     by : (o : Option Term) → MatchOption o (left ≡ []) (λ t. left ≡ t ∷ rest) → IsParting o u p → IsGreatest (Differ left (u ∷ others)) p
-    by None e same = subst (λ x. IsGreatest (Differ x (u ∷ others)) p) (sym e) (subst (IsGreatest (Differ [] (u ∷ others))) (sym same) (only_right u others theirs))
+    by None e same = subst (λ x. IsGreatest (Differ x (u ∷ others)) p) (sym e) (subst (IsGreatest (Differ [] (u ∷ others))) (sym same)
+        (only_right u others theirs))
     by (Some t) e part = subst (λ x. IsGreatest (Differ x (u ∷ others)) p) (sym e) (both t rest u others (subst IsSparse e mine) theirs p part.0 part.1)
 
 -- behind the whole of w more terms stand
@@ -102,7 +103,9 @@ longer v w rest t h split =
     (differ_behind w (t ∷ rest) [] t.at (only_left t rest (sparse_back w (t ∷ rest) (subst IsSparse split h)))))
 
 -- the same of an answer
-pub some_parts : (v w a left rest others : List Term) (ours : Option Term) (u : Term) (found : Option Place) → IsSparse v → IsSparse w → a ++ left ≡ v → w ≡ a ++ u ∷ others
-    → MatchOption ours (left ≡ []) (λ t. left ≡ t ∷ rest) → is_some found ≡ true → MatchOption found (ours ≡ Some u) (IsParting ours u) → MatchOption found (v ≡ w) (IsGreatest (Differ v w))
+pub some_parts : (v w a left rest others : List Term) (ours : Option Term) (u : Term) (found : Option Place) → IsSparse v → IsSparse w → a ++ left ≡ v
+    → w ≡ a ++ u ∷ others
+    → MatchOption ours (left ≡ []) (λ t. left ≡ t ∷ rest) → is_some found ≡ true → MatchOption found (ours ≡ Some u) (IsParting ours u)
+    → MatchOption found (v ≡ w) (IsGreatest (Differ v w))
 some_parts v w a left rest others ours u None h g is split first some parting = absurd cc
 some_parts v w a left rest others ours u (Some p) h g is split first some parting = parts v w a left rest others ours u p h g is split first parting

@@ -1,5 +1,6 @@
 -- A step that is taken, and one that is added.
-use Rattle.std.proofs.Common.{◌≡◌, ℕ, ◌<◌, ◌≤◌, ℤ, pos, neg_ℤ, ◌+ℤ◌, ◌-ℤ◌, ◌*ℤ◌, Bool, true, false, cond, List, [], ◌∷◌, length, refl, sym, ap, ◌∙◌, subst, arith, inl, inr}
+use Rattle.std.proofs.Common.{◌≡◌, ℕ, ◌<◌, ◌≤◌, ℤ, pos, neg_ℤ, ◌+ℤ◌, ◌-ℤ◌, ◌*ℤ◌, Bool, true, false, cond, List, [], ◌∷◌, length, refl, sym, ap, ◌∙◌, subst}
+use Rattle.std.proofs.Common.{arith, inl, inr}
 use Rattle.std.specs.Prelude.{Result, Ok, Err}
 use borrow.Author.Differences.{ints}
 use Rattle.formal_sums.proofs.Integers.{neg_ℤ-*ℤ}
@@ -17,7 +18,9 @@ use Rattle.step_lists.specs.Sums.{combined, IsWideAt}
 use Rattle.step_lists.specs.Partial.{Makes}
 
 -- the changes that a step makes in terms, and the terms then
-module _ (f m : Coefficients) (old new changes : List Term) (is : (x : Place) → coefficient_at old x ≡ f x) (are : AreChanges (coefficient_at old) m changes) (made : (x : Place) → coefficient_at new x ≡ overwritten changes (coefficient_at old) x) (sparse : IsSparse new) where
+module _ (f m : Coefficients) (old new changes : List Term) (is : (x : Place)
+    → coefficient_at old x ≡ f x) (are : AreChanges (coefficient_at old) m changes) (made : (x : Place)
+    → coefficient_at new x ≡ overwritten changes (coefficient_at old) x) (sparse : IsSparse new) where
   same : coefficient_at old ≡ f
   same i x = is x i
 
@@ -39,7 +42,8 @@ pub turned : (q : ℤ) (t : List ℕ) (g : List Term) (x : Place) → multiple_a
 turned q t [] x = refl
 turned q t (u ∷ g) x = by (same_place (moved t u.at) x) (turned q t g x)
   where
-    by : (b : Bool) → multiple_at (neg_ℤ q) t g x ≡ neg_ℤ (multiple_at q t g x) → cond b (neg_ℤ q *ℤ u.k) (pos 0) +ℤ multiple_at (neg_ℤ q) t g x ≡ neg_ℤ (cond b (q *ℤ u.k) (pos 0) +ℤ multiple_at q t g x)
+    by : (b : Bool) → multiple_at (neg_ℤ q) t g x ≡ neg_ℤ (multiple_at q t g x) → cond b (neg_ℤ q *ℤ u.k) (pos 0) +ℤ multiple_at (neg_ℤ q) t g x
+        ≡ neg_ℤ (cond b (q *ℤ u.k) (pos 0) +ℤ multiple_at q t g x)
     by true e = omega (arith, ints, e, neg_ℤ-*ℤ q u.k)
     by false e = omega (arith, ints, e)
 
@@ -50,7 +54,8 @@ turned_wide : (z : ℤ) → IsWide z → IsWide (neg_ℤ z)
 turned_wide z w = omega (arith, ints, w)
 
 -- taking the negative is adding
-pub added : (f g h : Coefficients) (r : Result (List Term) SumFault) → ((x : Place) → h x ≡ neg_ℤ (g x)) → Makes (IsWideAt Take f h) (combined Take f h) r → Makes (IsWideAt Add f g) (combined Add f g) r
+pub added : (f g h : Coefficients) (r : Result (List Term) SumFault) → ((x : Place) → h x ≡ neg_ℤ (g x)) → Makes (IsWideAt Take f h) (combined Take f h) r
+    → Makes (IsWideAt Add f g) (combined Add f g) r
 added f g h r turns given = by r given
   where
     total : (x : Place) → combined Take f h x ≡ combined Add f g x
@@ -67,7 +72,19 @@ added f g h r turns given = by r given
     by : (r : Result (List Term) SumFault) → Makes (IsWideAt Take f h) (combined Take f h) r → Makes (IsWideAt Add f g) (combined Add f g) r
     by (Ok v) made = record { vector = made.vector; is = λ x. made.is x ∙ total x; narrow = λ x w. made.narrow x (back x w) }
     by (Err Wide) w = (w.0, there w.0 w.1)
-    by (Err Long) l = (λ x w. l.0 x (back x w), (l.1.0, record { v = l.1.1.v; sparse = l.1.1.sparse; is = λ x. l.1.1.is x ∙ total x; count = l.1.1.count }, l.1.2))
+    by (Err Long) l = (
+      λ x w. l.0 x (back x w),
+      (
+        l.1.0,
+        record {
+          v = l.1.1.v;
+          sparse = l.1.1.sparse;
+          is = λ x. l.1.1.is x ∙ total x;
+          count = l.1.1.count;
+        },
+        l.1.2,
+      ),
+    )
     by (Err NoMemory) m = tt
 
 pub turned_from_zero : (q : ℤ) (t : List ℕ) (g : List Term) (x : Place) → multiple_at (pos 0 -ℤ q) t g x ≡ neg_ℤ (multiple_at q t g x)

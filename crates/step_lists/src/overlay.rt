@@ -1,6 +1,7 @@
 //! `Overlay`: the terms of a vector, some of them changed.
 
-ghost use Rattle.std.specs.Prelude.{◌≡◌, ◌≤◌, ◌<◌, ◌+◌, ◌^◌, ◌↔◌, [], ◌∷◌, length, if◌then◌else◌, IsTrue, IfOk, IfSome, MatchOption};
+ghost use Rattle.std.specs.Prelude.{◌≡◌, ◌≤◌, ◌<◌, ◌+◌, ◌^◌, ◌↔◌, [], ◌∷◌, length, if◌then◌else◌, IsTrue, IfOk, IfSome};
+ghost use Rattle.std.specs.Prelude.{MatchOption};
 ghost use Rattle.std.specs.Option.{unwrap_or};
 ghost use Rattle.std.specs.List.{AllByRecursion};
 ghost use Rattle.module_vec.specs.declared.places.Place.{Place};
@@ -13,8 +14,9 @@ use std::alloc::{AllocError, Global};
 use std::collections::BTreeMap;
 use std::marker::Model;
 
-/// Terms that were given, and the coefficients at the places that steps changed, which stand in their stead. So a change
-/// takes time logarithmic in the number of terms, and what no step reaches is only read. Contracts see the terms in falling order, and how many places are left to look at.
+/// Terms that were given, and the coefficients at the places that steps changed, which stand in their stead. So a
+/// change takes time logarithmic in the number of terms, and what no step reaches is only read. Contracts see the terms
+/// in falling order, and how many places are left to look at.
 #[derive(Drop)]
 pub struct Overlay<'a> {
     given: &'a [Term],
@@ -35,7 +37,8 @@ impl<'a> Model for Overlay<'a> {
 
     ghost view = { λ d. (overlay d.changed.entries d.given.now, length d.given.now + length d.changed.entries) };
 
-    ghost invariant = { λ d. IsSparse d.given.now × AllByRecursion IsCoefficient d.changed.entries × (d.count ≡ length (overlay d.changed.entries d.given.now)) };
+    ghost invariant = { λ d. IsSparse d.given.now × AllByRecursion IsCoefficient d.changed.entries
+        × (d.count ≡ length (overlay d.changed.entries d.given.now)) };
 }
 
 impl<'a> Overlay<'a> {
@@ -101,7 +104,8 @@ impl<'a> Overlay<'a> {
     pub fn change(&mut self, changes: &[Term]) -> Result<(), AllocError>
         requires changes { AllByRecursion IsChange changes.now }
         requires room { length self.old.0 + length changes.now < 2 ^ 32 }
-        ensures is { IfOk result (λ _. (x : Place) → coefficient_at self.new.0 x ≡ overwritten changes.now (coefficient_at self.old.0) x) }
+        ensures is { IfOk result (λ _. (x : Place) → coefficient_at self.new.0 x
+            ≡ overwritten changes.now (coefficient_at self.old.0) x) }
         ensures count { IfOk result (λ _. length self.new.0 ≤ length self.old.0 + length changes.now) }
     {
         for change in changes {
@@ -115,7 +119,8 @@ impl<'a> Overlay<'a> {
         requires place { IsPlace at }
         requires range { InRange k }
         requires room { length self.old.0 < 2 ^ 32 }
-        ensures is { IfOk result (λ _. (x : Place) → coefficient_at self.new.0 x ≡ (if same_place at x then k else coefficient_at self.old.0 x)) }
+        ensures is { IfOk result (λ _. (x : Place) → coefficient_at self.new.0 x
+            ≡ (if same_place at x then k else coefficient_at self.old.0 x)) }
         ensures count { IfOk result (λ _. length self.new.0 ≤ length self.old.0 + 1) }
     {
         let before = former(self.changed.insert(at, k)?, self.given, &at);
@@ -126,7 +131,8 @@ impl<'a> Overlay<'a> {
 
 /// The first of the given terms and those behind it, where it stands above all changed places.
 fn first_above<'a>(given: &'a [Term], changed: &BTreeMap<Place, i128>) -> Option<(Term, &'a [Term])>
-    ensures { MatchOption result (IsFirstAbove given.now changed.now.entries → ⊥) (λ r. (given.now ≡ r.0 ∷ r.1.now) × AreBelow r.0.at changed.now.entries) }
+    ensures { MatchOption result (IsFirstAbove given.now changed.now.entries
+        → ⊥) (λ r. (given.now ≡ r.0 ∷ r.1.now) × AreBelow r.0.at changed.now.entries) }
 {
     let (first, others) = given.split_first()?;
     if !is_above(&first.at, changed) {

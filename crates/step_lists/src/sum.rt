@@ -14,8 +14,8 @@ use module_vec::{ModVec, Place, Step, TERMS, Term};
 use std::alloc::Global;
 use std::marker::Model;
 
-/// A vector on the way through steps. A step takes time in proportion to the terms of the vector that it multiplies, each
-/// with a logarithm. Contracts see the terms in falling order, as those of a vector.
+/// A vector on the way through steps. A step takes time in proportion to the terms of the vector that it multiplies,
+/// each with a logarithm. Contracts see the terms in falling order, as those of a vector.
 #[derive(Drop)]
 pub struct Sum<'a> {
     terms: Overlay<'a>,

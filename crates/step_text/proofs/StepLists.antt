@@ -1,5 +1,6 @@
 -- The texts of lists of steps, read step by step.
-use Rattle.std.proofs.Common.{◌≡◌, ◌≢◌, ◌⊎◌, inl, inr, ℕ, zero, suc, ℤ, pos, negsuc, map, ◌<◌, List, [], ◌∷◌, ◌++◌, length, Option, Some, None, Result, Ok, Err, decimal, refl, sym, ap, subst, ◌∙◌, arith, append_assoc}
+use Rattle.std.proofs.Common.{◌≡◌, ◌≢◌, ◌⊎◌, inl, inr, ℕ, zero, suc, ℤ, pos, negsuc, map, ◌<◌, List, [], ◌∷◌, ◌++◌, length, Option, Some, None, Result, Ok, Err}
+use Rattle.std.proofs.Common.{decimal, refl, sym, ap, subst, ◌∙◌, arith, append_assoc}
 use Rattle.spelling.specs.Spelling.{IsRead, first_part, coefficient}
 use Rattle.presentation.specs.Writing.{led_by}
 use Rattle.presentation.proofs.WritingBack.{AreNames}
@@ -23,11 +24,13 @@ pub begins : (names : List (List ℕ)) (text : List ℕ) → Going names text []
 begins names text = record { leaves = refl; each = tt }
 
 -- something is left
-pub still : (names : List (List ℕ)) (text : List ℕ) (steps : List Step) (left : Option (List ℕ)) (rest : List ℕ) → left ≡ Some rest → Going names text steps left → Going names text steps (Some rest)
+pub still : (names : List (List ℕ)) (text : List ℕ) (steps : List Step) (left : Option (List ℕ)) (rest : List ℕ) → left ≡ Some rest
+    → Going names text steps left → Going names text steps (Some rest)
 still names text steps left rest e h = let P : Option (List ℕ) → Type 0 = Going names text steps in subst P e h
 
 -- no list's text goes on with this part
-pub no_step : (names : List (List ℕ)) → AreNames names → (text rest front : List ℕ) (after : Option (List ℕ)) (steps : List Step) → Going names text steps (Some rest)
+pub no_step : (names : List (List ℕ)) → AreNames names → (text rest front : List ℕ) (after : Option (List ℕ)) (steps : List Step)
+    → Going names text steps (Some rest)
     → first_part 32 rest ≡ (front, after) → IsRead (step_text names) (IsStepOf (length names)) front None
     → (ss : List Step) → AreSomeStepsOf (length names) ss → text ≡ listed_text names ss → ⊥
 no_step names known text rest front after steps h e bad = λ ss k is.
@@ -42,7 +45,8 @@ going_on names text rest front after steps s h e good = record {
 }
 
 -- the whole text is read
-pub whole_read : (names : List (List ℕ)) (text : List ℕ) (steps : List Step) → Going names text steps None → AreSomeStepsOf (length names) steps × (text ≡ listed_text names steps)
+pub whole_read : (names : List (List ℕ)) (text : List ℕ) (steps : List Step) → Going names text steps None
+    → AreSomeStepsOf (length names) steps × (text ≡ listed_text names steps)
 whole_read names text steps h = (record { steps = h.each; some = h.leaves.0 }, h.leaves.1)
 
 -- a list with a step, and the one without
@@ -86,7 +90,8 @@ tail_of names s ss = (42 ∷ (monomial_text names s.t ++ 64 ∷ decimal s.by)) +
 
 no_zero : (names : List (List ℕ)) (s : Step) (ss : List Step) → 48 ∷ [] ≡ steps_text names (s ∷ ss) → ⊥
 no_zero names s ss e =
-    not_zero s.q (tail_of names s ss) (e ∙ append_assoc (coefficient s.q) (42 ∷ (monomial_text names s.t ++ 64 ∷ decimal s.by)) (led_by (32 ∷ []) (map (step_text names) ss)))
+    not_zero s.q (tail_of names s ss) (e ∙ append_assoc (coefficient s.q) (42 ∷ (monomial_text names s.t ++ 64 ∷ decimal s.by))
+    (led_by (32 ∷ []) (map (step_text names) ss)))
 
 -- a text is that of one list of steps
 pub steps_same : (names : List (List ℕ)) → AreNames names → (ss us : List Step) → AreStepsOf (length names) ss → AreStepsOf (length names) us

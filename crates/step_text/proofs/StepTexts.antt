@@ -1,5 +1,6 @@
 -- The texts of single steps.
-use Rattle.std.proofs.Common.{◌≡◌, ◌≢◌, inl, inr, ℕ, zero, suc, ◌<◌, ℤ, pos, negsuc, List, ◌∷◌, ◌++◌, length, ◌==◌, false, Some, None, Ok, Err, decimal, refl, sym, ap, ◌∙◌, arith}
+use Rattle.std.proofs.Common.{◌≡◌, ◌≢◌, inl, inr, ℕ, zero, suc, ◌<◌, ℤ, pos, negsuc, List, ◌∷◌, ◌++◌, length, ◌==◌, false, Some, None, Ok, Err, decimal, refl}
+use Rattle.std.proofs.Common.{sym, ap, ◌∙◌, arith}
 use Rattle.std.proofs.lemmas.Option.{none-some}
 use Rattle.spelling.specs.Spelling.{IsRead, IsSmall, cut, coefficient, IsCoefficient}
 use Rattle.spelling.proofs.Cuts.{cut_here, cut_joins}
@@ -52,16 +53,19 @@ sign = record { name = refl; digit = inr (omega arith); tick = λ e. omega (arit
 
 star_cut : (names : List (List ℕ)) (s : Step) → IsStepOf (length names) s → cut 42 (step_text names s) ≡ Some (coefficient s.q, behind names s)
 star_cut names s h =
-    cut_here 42 (coefficient s.q) (behind names s) (coefficient_lacks 42 s.q (inl (omega arith)) (λ e. omega (arith, e)) (λ e. omega (arith, e)) (factor (length names) s h))
+    cut_here 42 (coefficient s.q) (behind names s) (coefficient_lacks 42 s.q (inl (omega arith)) (λ e. omega (arith, e)) (λ e. omega (arith, e))
+    (factor (length names) s h))
 
-sign_cut : (names : List (List ℕ)) → AreNames names → (s : Step) → IsStepOf (length names) s → cut 64 (behind names s) ≡ Some (monomial_text names s.t, decimal s.by)
+sign_cut : (names : List (List ℕ)) → AreNames names → (s : Step) → IsStepOf (length names) s
+    → cut 64 (behind names s) ≡ Some (monomial_text names s.t, decimal s.by)
 sign_cut names known s h = cut_here 64 (monomial_text names s.t) (decimal s.by) (monomial_lacks 64 names s.t sign (λ e. omega (arith, e)) known h.mono)
 
 fronts : (names : List (List ℕ)) (text front rest : List ℕ) (s : Step) → cut 42 text ≡ Some (front, rest) → IsStepOf (length names) s → text ≡ step_text names s
     → (front ≡ coefficient s.q) × (rest ≡ behind names s)
 fronts names text front rest s k h e = some_pair (front, rest) (coefficient s.q, behind names s) (sym k ∙ ap (cut 42) e ∙ star_cut names s h)
 
-lasts : (names : List (List ℕ)) → AreNames names → (rest middle last : List ℕ) (s : Step) → cut 64 rest ≡ Some (middle, last) → IsStepOf (length names) s → rest ≡ behind names s
+lasts : (names : List (List ℕ)) → AreNames names → (rest middle last : List ℕ) (s : Step) → cut 64 rest ≡ Some (middle, last) → IsStepOf (length names) s
+    → rest ≡ behind names s
     → (middle ≡ monomial_text names s.t) × (last ≡ decimal s.by)
 lasts names known rest middle last s k h e = some_pair (middle, last) (monomial_text names s.t, decimal s.by) (sym k ∙ ap (cut 64) e ∙ sign_cut names known s h)
 
@@ -79,19 +83,23 @@ pub no_sign : (names : List (List ℕ)) → AreNames names → (text front rest 
 no_sign names known text front rest k none = λ s h e.
     none-some _ (sym none ∙ ap (cut 64) (fronts names text front rest s k h e).1 ∙ sign_cut names known s h)
 
-pub no_monomial : (names : List (List ℕ)) → AreNames names → (text front rest middle last : List ℕ) (f : SpellFault) → cut 42 text ≡ Some (front, rest) → cut 64 rest ≡ Some (middle, last)
+pub no_monomial : (names : List (List ℕ)) → AreNames names → (text front rest middle last : List ℕ) (f : SpellFault) → cut 42 text ≡ Some (front, rest)
+    → cut 64 rest ≡ Some (middle, last)
     → Reads (monomial_text names) (IsMonoOf (length names)) middle (Err f) → f ≡ Spelling → IsRead (step_text names) (IsStepOf (length names)) text None
 no_monomial names known text front rest middle last f k m bad is = λ s h e.
     let bad' = rw is at bad in
     bad' s.t h.mono (lasts names known rest middle last s m h (fronts names text front rest s k h e).1).0
 
-pub no_entry : (names : List (List ℕ)) → AreNames names → (text front rest middle last : List ℕ) → cut 42 text ≡ Some (front, rest) → cut 64 rest ≡ Some (middle, last)
+pub no_entry : (names : List (List ℕ)) → AreNames names → (text front rest middle last : List ℕ) → cut 42 text ≡ Some (front, rest)
+    → cut 64 rest ≡ Some (middle, last)
     → IsRead decimal IsSmall last None → IsRead (step_text names) (IsStepOf (length names)) text None
 no_entry names known text front rest middle last k m bad = λ s h e.
     bad s.by h.entry (lasts names known rest middle last s m h (fronts names text front rest s k h e).1).1
 
-pub step_read : (names : List (List ℕ)) (text front rest middle last : List ℕ) (q : ℤ) (t : List ℕ) (by : ℕ) → cut 42 text ≡ Some (front, rest) → cut 64 rest ≡ Some (middle, last)
-    → IsRead coefficient IsCoefficient front (Some q) → Reads (monomial_text names) (IsMonoOf (length names)) middle (Ok t) → IsRead decimal IsSmall last (Some by)
+pub step_read : (names : List (List ℕ)) (text front rest middle last : List ℕ) (q : ℤ) (t : List ℕ) (by : ℕ) → cut 42 text ≡ Some (front, rest)
+    → cut 64 rest ≡ Some (middle, last)
+    → IsRead coefficient IsCoefficient front (Some q) → Reads (monomial_text names) (IsMonoOf (length names)) middle (Ok t)
+    → IsRead decimal IsSmall last (Some by)
     → IsRead (step_text names) (IsStepOf (length names)) text (Some (record { q = q; t = t; by = by }))
 step_read names text front rest middle last q t by k m a b c =
     let r = in_range q a.0 in
@@ -99,10 +107,12 @@ step_read names text front rest middle last q t by k m a b c =
 
 -- ---- a text is that of one step
 
-step_same : (names : List (List ℕ)) → AreNames names → (s u : Step) → IsStepOf (length names) s → IsStepOf (length names) u → step_text names s ≡ step_text names u → s ≡ u
+step_same : (names : List (List ℕ)) → AreNames names → (s u : Step) → IsStepOf (length names) s → IsStepOf (length names) u
+    → step_text names s ≡ step_text names u → s ≡ u
 step_same names known s u h k e =
     let front = some_pair (coefficient s.q, behind names s) (coefficient u.q, behind names u) (sym (star_cut names s h) ∙ ap (cut 42) e ∙ star_cut names u k) in
-    let last = some_pair (monomial_text names s.t, decimal s.by) (monomial_text names u.t, decimal u.by) (sym (sign_cut names known s h) ∙ ap (cut 64) front.1 ∙ sign_cut names known u k) in
+    let last = some_pair (monomial_text names s.t, decimal s.by) (monomial_text names u.t, decimal u.by) (sym (sign_cut names known s h) ∙ ap (cut 64) front.1
+    ∙ sign_cut names known u k) in
     let q : s.q ≡ u.q = coefficient_same s.q u.q (factor (length names) s h) (factor (length names) u k) front.0 in
     let t : s.t ≡ u.t = monomial_same names known s.t u.t h.mono k.mono last.0 in
     let by : s.by ≡ u.by = decimal_same s.by u.by (omega (arith, h.entry)) (omega (arith, k.entry)) last.1 in
@@ -120,8 +130,11 @@ pub record IsOutside (c : ℕ) : Type 0 where
 pub step_lacks : (c : ℕ) (names : List (List ℕ)) → IsOutside c → AreNames names → (s : Step) → IsStepOf (length names) s → Lacks c (step_text names s)
 step_lacks c names o known s h =
     lacks_append c (coefficient s.q) (42 ∷ behind names s)
-    (coefficient_lacks c s.q o.other.digit o.plus o.minus (factor (length names) s h))
-    (o.star, lacks_append c (monomial_text names s.t) (64 ∷ decimal s.by) (monomial_lacks c names s.t o.other o.point known h.mono) (o.at, decimal_lacks c s.by o.other.digit (omega (arith, h.entry))))
+    (coefficient_lacks c s.q o.other.digit o.plus o.minus (factor (length names) s h)) (
+      o.star,
+      lacks_append c (monomial_text names s.t) (64 ∷ decimal s.by) (monomial_lacks c names s.t o.other o.point known h.mono)
+          (o.at, decimal_lacks c s.by o.other.digit (omega (arith, h.entry))),
+    )
 
 pub space : IsOutside 32
 unfolding is_name_byte is_letter is_digit

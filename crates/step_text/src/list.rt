@@ -19,7 +19,9 @@ use vector_text::SpellFault;
 pub fn write_steps(alloc: Global, p: &Presentation, steps: &[Step]) -> Result<Vec<u8>, AllocError>
     requires { StepsAreOver (length p.now.names) steps.now }
     ensures text { IfOk result (λ text. text.items ≡ steps_text p.now.names steps.now) }
-    ensures read_back { AreStepsOf (length p.now.names) steps.now → IfOk result (λ text. IsReadBack (steps_text p.now.names) (AreStepsOf (length p.now.names)) steps.now text.items) }
+    ensures read_back { AreStepsOf (length p.now.names) steps.now
+        → IfOk result (λ text. IsReadBack (steps_text p.now.names) (AreStepsOf (length p.now.names))
+        steps.now text.items) }
 {
     p.known();
     let mut out = Vec::new(alloc);
@@ -43,8 +45,8 @@ pub fn put_steps(out: &mut Vec<u8>, p: &Presentation, steps: &[Step]) -> Result<
     Ok(())
 }
 
-/// The steps over the presentation's generators that the text spells. `Spelling` exactly where the text is that of no such
-/// steps. The time is linear in the text.
+/// The steps over the presentation's generators that the text spells. `Spelling` exactly where the text is that of no
+/// such steps. The time is linear in the text.
 pub fn read_steps(alloc: Global, p: &Presentation, text: &[u8]) -> Result<Steps, SpellFault>
     ensures { Reads (steps_text p.now.names) (AreStepsOf (length p.now.names)) text.now result }
 {

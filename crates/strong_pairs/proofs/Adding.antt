@@ -32,7 +32,17 @@ use Rattle.strong_pairs.proofs.LeadTerms.{room_of}
 module _ (P Q : Place → Type 0) (f g : Coefficients) (to : (x : Place) → P x → Q x) (from : (x : Place) → Q x → P x) (same : (x : Place) → f x ≡ g x) where
   stops_alike : (stop : Stop) → StopsBy 0 P f stop → StopsBy 0 Q g stop
   stops_alike (Wide p n) (e, greatest) = (e, record { here = to p greatest.here; above = λ x h q. greatest.above x h (from x q) })
-  stops_alike (Long terms n) (e, none, has, more) = (e, (λ x q. none x (from x q)), record { v = has.v; sparse = has.sparse; is = λ x. has.is x ∙ same x; count = has.count }, more)
+  stops_alike (Long terms n) (e, none, has, more) = (
+    e,
+    (λ x q. none x (from x q)),
+    record {
+      v = has.v;
+      sparse = has.sparse;
+      is = λ x. has.is x ∙ same x;
+      count = has.count;
+    },
+    more,
+  )
   stops_alike Deep h = h
   stops_alike (Steep d) h = h
 
@@ -76,8 +86,10 @@ module _ (f g h : Coefficients) (turned : (x : Place) → h x ≡ neg_ℤ (g x))
 nothing_added : (z : ℤ) → pos 0 +ℤ z ≡ z
 nothing_added z = omega (arith, ints)
 
-pub first_added : (empty : List Term) → empty ≡ [] → (g : Coefficients) (r : Result (List Term) VecFault) → Makes (AdditionIsWide (coefficient_at empty) g) (λ x. coefficient_at empty x +ℤ g x) r → Makes (SumIsWide g) g r
-first_added empty is g r made = makes_alike (AdditionIsWide (coefficient_at empty) g) (SumIsWide g) (λ x. coefficient_at empty x +ℤ g x) g forth (λ x w. inl w) none r made
+pub first_added : (empty : List Term) → empty ≡ [] → (g : Coefficients) (r : Result (List Term) VecFault)
+    → Makes (AdditionIsWide (coefficient_at empty) g) (λ x. coefficient_at empty x +ℤ g x) r → Makes (SumIsWide g) g r
+first_added empty is g r made = makes_alike (AdditionIsWide (coefficient_at empty) g) (SumIsWide g) (λ x. coefficient_at empty x +ℤ g x) g forth
+    (λ x w. inl w) none r made
   where
     none : (x : Place) → coefficient_at empty x +ℤ g x ≡ g x
     none x = ap (λ v. coefficient_at v x +ℤ g x) is ∙ nothing_added (g x)
@@ -88,8 +100,10 @@ first_added empty is g r made = makes_alike (AdditionIsWide (coefficient_at empt
 
 -- ---- both steps
 
-pub found : (kind : PairKind) (b : List (List Term)) (i j : ℕ) (first second : Term) (multiple t s : List ℕ) (u v : ℤ) → first ≡ lead_at b i → second ≡ lead_at b j →
-    MadeWithin (degree (common_multiple first.at.m second.at.m)) (common_multiple first.at.m second.at.m) (Some multiple) → AreFactors kind first.k second.k u v → t ≡ quotient multiple first.at.m → s ≡ quotient multiple second.at.m →
+pub found : (kind : PairKind) (b : List (List Term)) (i j : ℕ) (first second : Term) (multiple t s : List ℕ) (u v : ℤ) → first ≡ lead_at b i
+    → second ≡ lead_at b j →
+    MadeWithin (degree (common_multiple first.at.m second.at.m)) (common_multiple first.at.m second.at.m) (Some multiple) → AreFactors kind first.k second.k u v
+    → t ≡ quotient multiple first.at.m → s ≡ quotient multiple second.at.m →
     FindsSteps kind b i j (Ok (record { q = u; t = t; by = i }, record { q = v; t = s; by = j }))
 found kind b i j first second multiple t s u v is_first is_second made factors is_t is_s =
     let place : common_multiple first.at.m second.at.m ≡ (pair_place b i j).m = λ n. common_multiple (is_first n).at.m (is_second n).at.m in (
@@ -103,7 +117,8 @@ found kind b i j first second multiple t s u v is_first is_second made factors i
       },
     )
 
-pub in_reach : (b : List (List Term)) (i : ℕ) (first : Term) (multiple t : List ℕ) (u : ℤ) → first ≡ lead_at b i → i < length b → InRange u → IsMonomial t → degree t + degree first.at.m ≡ degree multiple → degree multiple ≤ DEGREE → IsInReach b (record { q = u; t = t; by = i })
+pub in_reach : (b : List (List Term)) (i : ℕ) (first : Term) (multiple t : List ℕ) (u : ℤ) → first ≡ lead_at b i → i < length b → InRange u → IsMonomial t
+    → degree t + degree first.at.m ≡ degree multiple → degree multiple ≤ DEGREE → IsInReach b (record { q = u; t = t; by = i })
 in_reach b i first multiple t u is within range monomial sum most = record {
   number = within;
   range = range;
@@ -127,14 +142,17 @@ module _ (kind : PairKind) (b : List (List Term)) (i j : ℕ) (first second : St
 
   module _ (v : List Term) (made : Makes (SumIsWide (taken_at b first)) (taken_at b first) (Ok v)) where
     -- the second is added to the first as it was made
-    second_added : (r : Result (List Term) VecFault) → Makes (AdditionIsWide (coefficient_at v) (taken_at b second)) (λ x. coefficient_at v x +ℤ taken_at b second x) r → Makes (AdditionIsWide (taken_at b first) (taken_at b second)) (both_at b first second) r
+    second_added : (r : Result (List Term) VecFault) → Makes (AdditionIsWide (coefficient_at v) (taken_at b second))
+        (λ x. coefficient_at v x +ℤ taken_at b second x) r → Makes (AdditionIsWide (taken_at b first) (taken_at b second)) (both_at b first second) r
     second_added r h = subst (λ (f : Coefficients). Makes (AdditionIsWide f (taken_at b second)) (λ x. f x +ℤ taken_at b second x) r) (λ n x. made.is x n) h
 
-    pub second_stops : (fault : VecFault) → Makes (AdditionIsWide (coefficient_at v) (taken_at b second)) (λ x. coefficient_at v x +ℤ taken_at b second x) (Err fault) → MakesPair kind b i j (Err (pair_fault fault))
+    pub second_stops : (fault : VecFault) → Makes (AdditionIsWide (coefficient_at v) (taken_at b second)) (λ x. coefficient_at v x +ℤ taken_at b second x)
+        (Err fault) → MakesPair kind b i j (Err (pair_fault fault))
     second_stops (of_vector.Stop stop) h = by_stop stop (inr ((v, made), second_added (Err (of_vector.Stop stop)) h))
     second_stops of_vector.NoMemory h = tt
 
-    pub both_made : (w : List Term) → Makes (AdditionIsWide (coefficient_at v) (taken_at b second)) (λ x. coefficient_at v x +ℤ taken_at b second x) (Ok w) → IsPairVector kind b i j w
+    pub both_made : (w : List Term) → Makes (AdditionIsWide (coefficient_at v) (taken_at b second)) (λ x. coefficient_at v x +ℤ taken_at b second x) (Ok w)
+        → IsPairVector kind b i j w
     both_made w h = record { reach = steps.0; first = first; second = second; steps = steps.1; made = ((v, made), second_added (Ok w) h) }
 
 -- an error that was handed on

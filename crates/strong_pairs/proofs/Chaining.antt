@@ -1,5 +1,6 @@
 -- The chain of a pair's vector: where its steps stand, and that an empty end closes the task.
-use Rattle.std.proofs.Common.{◌≡◌, ◌≢◌, ℕ, ◌*◌, ◌/◌, ◌<◌, max, true, ℤ, pos, negsuc, neg_ℤ, ◌+ℤ◌, ◌-ℤ◌, ◌*ℤ◌, List, [], ◌∷◌, length, ◌⊎◌, inl, inr, refl, sym, ap, subst, ◌∙◌, arith}
+use Rattle.std.proofs.Common.{◌≡◌, ◌≢◌, ℕ, ◌*◌, ◌/◌, ◌<◌, max, true, ℤ, pos, negsuc, neg_ℤ, ◌+ℤ◌, ◌-ℤ◌, ◌*ℤ◌, List, [], ◌∷◌, length, ◌⊎◌, inl, inr, refl, sym}
+use Rattle.std.proofs.Common.{ap, subst, ◌∙◌, arith}
 use borrow.Author.Differences.{ints}
 use Rattle.std.specs.Int.{IsGcd, int_div_euclid, ◌∣◌}
 use Rattle.std.specs.List.{AllByRecursion}
@@ -45,7 +46,12 @@ pub record AreMeeting (b : List (List Term)) (i j : ℕ) (first second : Step) :
   pub second_number : second.by ≡ j
 
 pub meeting : (kind : PairKind) (b : List (List Term)) (i j : ℕ) (first second : Step) → ArePairSteps kind b i j first second → AreMeeting b i j first second
-meeting kind b i j first second are = record { first_monomial = are.first_monomial; second_monomial = are.second_monomial; first_number = are.first_number; second_number = are.second_number }
+meeting kind b i j first second are = record {
+  first_monomial = are.first_monomial;
+  second_monomial = are.second_monomial;
+  first_number = are.first_number;
+  second_number = are.second_number;
+}
 
 module _ (b : List (List Term)) (entries : AreEntries b) where
   -- a step's lead place is the place at which it is due, where that is one in all variables
@@ -54,20 +60,29 @@ module _ (b : List (List Term)) (entries : AreEntries b) where
       let own : lead_at b s.by ≡ n.lead = entry_lead b s.by n.lead n.others n.due.reducer.entry in
       let m-length : length n.lead.at.m ≡ VARIABLES = (lead_of_entry_positive b entries s.by n.lead n.others n.due.reducer.entry).0 in
       ap (λ (e : Term). moved s.t e.at) own
-      ∙ λ i. record { m = (ap (λ t. product t n.lead.at.m) n.monomial ∙ quotient-back n.lead.at.m n.place.m (m-length ∙ sym long) n.due.reducer.reduces.1) i; c = n.due.reducer.reduces.0 i }
+      ∙ λ i. record {
+        m = (ap (λ t. product t n.lead.at.m) n.monomial ∙ quotient-back n.lead.at.m n.place.m (m-length ∙ sym long) n.due.reducer.reduces.1) i;
+        c = n.due.reducer.reduces.0 i;
+      }
 
   pub due_nonzero : (f : Coefficients) (s : Step) (n : IsNext b f s) → f n.place ≢ pos 0
   due_nonzero f s n e =
       let positive : pos 0 <ℤ n.lead.k = (lead_of_entry_positive b entries s.by n.lead n.others n.due.reducer.entry).1 in
       n.due.moves (ap (λ z. int_div_euclid z n.lead.k) e ∙ zero_floor (pos 0) n.lead.k (omega (arith, ints)) positive)
 
-  renamed_stand : (t : List ℕ) → InAll (record { m = t; c = 0 }) → (v : List Term) → AllByRecursion IsTerm v → AllByRecursion (λ (u : ℤ × Place). InAll u.1) (rename (moved t) (sum_of v))
+  renamed_stand : (t : List ℕ) → InAll (record { m = t; c = 0 }) → (v : List Term) → AllByRecursion IsTerm v
+      → AllByRecursion (λ (u : ℤ × Place). InAll u.1) (rename (moved t) (sum_of v))
   renamed_stand t long [] h = tt
   renamed_stand t long (e ∷ v) h = (length-product t e.at.m VARIABLES long h.0.place.variables, renamed_stand t long v h.1)
 
   -- a multiple of an entry is nonzero only at its lead place and below
-  pub multiple_stands : (s : Step) → length s.t ≡ VARIABLES → s.by < length b → (x : Place) → taken_at b s x ≢ pos 0 → InAll x × ((x ≡ step_place b s) ⊎ IsBelow x (step_place b s))
-  multiple_stands s long h x nz = (in_all (pick InAll (rename (moved s.t) (sum_of (vector_at b s.by))) (renamed_stand s.t long (vector_at b s.by) (is_entry b entries s.by h).vector.sparse.terms) x), by (order.total x (step_place b s)))
+  pub multiple_stands : (s : Step) → length s.t ≡ VARIABLES → s.by < length b → (x : Place) → taken_at b s x ≢ pos 0
+      → InAll x × ((x ≡ step_place b s) ⊎ IsBelow x (step_place b s))
+  multiple_stands s long h x nz = (
+    in_all (pick InAll (rename (moved s.t) (sum_of (vector_at b s.by))) (renamed_stand s.t long (vector_at b s.by)
+        (is_entry b entries s.by h).vector.sparse.terms) x),
+    by (order.total x (step_place b s)),
+  )
     where
       gone : shifted s.t (vector_at b s.by) x ≡ pos 0 → ⊥
       gone e = nz (taken_is b s x ∙ ap (λ z. s.q *ℤ z) e ∙ omega (arith, ints))
@@ -88,7 +103,8 @@ module _ (b : List (List Term)) (entries : AreEntries b) where
         let there : InAll n.place × P n.place = stands n.place (due_nonzero f s n) in
         (step_length b entries f s n, entry_number b s.by (n.lead ∷ n.others) n.due.reducer.entry, subst P (sym (due_place f s n there.0)) there.1)
 
-    pub after_stands : (f : Coefficients) → StandsAt P f → (s : Step) → (length s.t ≡ VARIABLES) × (s.by < length b) × P (step_place b s) → StandsAt P (after b f s)
+    pub after_stands : (f : Coefficients) → StandsAt P f → (s : Step) → (length s.t ≡ VARIABLES) × (s.by < length b) × P (step_place b s)
+        → StandsAt P (after b f s)
     after_stands f stands s h x nz = by (zero_or_not (f x))
       where
         by_multiple : InAll x × ((x ≡ step_place b s) ⊎ IsBelow x (step_place b s)) → InAll x × P x
@@ -157,19 +173,28 @@ module _ (b : List (List Term)) (entries : AreEntries b) where
     pub first_place : step_place b first ≡ p
     first_place =
         ap (λ n. moved first.t (lead_at b n).at) are.first_number
-        ∙ λ n. record { m = (ap (λ t. product t (lead_at b i).at.m) are.first_monomial ∙ quotient-back (lead_at b i).at.m p.m (i-length ∙ sym p-length) both_divide.0) n; c = (lead_at b i).at.c }
+        ∙ λ n. record {
+          m = (ap (λ t. product t (lead_at b i).at.m) are.first_monomial
+              ∙ quotient-back (lead_at b i).at.m p.m (i-length ∙ sym p-length) both_divide.0) n;
+          c = (lead_at b i).at.c;
+        }
 
     pub second_place : step_place b second ≡ p
     second_place =
         ap (λ n. moved second.t (lead_at b n).at) are.second_number
-        ∙ λ n. record { m = (ap (λ t. product t (lead_at b j).at.m) are.second_monomial ∙ quotient-back (lead_at b j).at.m p.m (j-length ∙ sym p-length) both_divide.1) n; c = sym pair.component n }
+        ∙ λ n. record {
+          m = (ap (λ t. product t (lead_at b j).at.m) are.second_monomial
+              ∙ quotient-back (lead_at b j).at.m p.m (j-length ∙ sym p-length) both_divide.1) n;
+          c = sym pair.component n;
+        }
 
     -- at the pair's place stand both multiples of the lead coefficients
     at_place : (s : Step) → length s.t ≡ VARIABLES → s.by < length b → step_place b s ≡ p → taken_at b s p ≡ s.q *ℤ (lead_at b s.by).k
     at_place s long h e = taken_is b s p ∙ ap (λ z. s.q *ℤ z) (ap (shifted s.t (vector_at b s.by)) (sym e) ∙ shifted_lead b entries s.t s.by long h)
 
     pub both_there : both_at b first second p ≡ first.q *ℤ (lead_at b i).k +ℤ second.q *ℤ (lead_at b j).k
-    both_there = λ n. (at_place first first-length first_in first_place ∙ ap (λ m. first.q *ℤ (lead_at b m).k) are.first_number) n +ℤ (at_place second second-length second_in second_place ∙ ap (λ m. second.q *ℤ (lead_at b m).k) are.second_number) n
+    both_there = λ n. (at_place first first-length first_in first_place ∙ ap (λ m. first.q *ℤ (lead_at b m).k) are.first_number) n
+        +ℤ (at_place second second-length second_in second_place ∙ ap (λ m. second.q *ℤ (lead_at b m).k) are.second_number) n
 
     -- and nothing above
     pub both_stand : (x : Place) → both_at b first second x ≢ pos 0 → InAll x × ((x ≡ p) ⊎ IsBelow x p)
@@ -180,7 +205,8 @@ module _ (b : List (List Term)) (entries : AreEntries b) where
 
         by : (taken_at b first x ≡ pos 0) ⊎ (taken_at b first x ≢ pos 0) → InAll x × ((x ≡ p) ⊎ IsBelow x p)
         by (inr n) = at_p (step_place b first) first_place (multiple_stands first first-length first_in x n)
-        by (inl z) = at_p (step_place b second) second_place (multiple_stands second second-length second_in x (λ e. nz (both (taken_at b first x) (taken_at b second x) z e)))
+        by (inl z) = at_p (step_place b second) second_place (multiple_stands second second-length second_in x
+            (λ e. nz (both (taken_at b first x) (taken_at b second x) z e)))
           where
             both : (a c : ℤ) → a ≡ pos 0 → c ≡ pos 0 → a +ℤ c ≡ pos 0
             both a c e g = omega (arith, ints, e, g)
@@ -215,10 +241,21 @@ module _ (b : List (List Term)) (entries : AreEntries b) (i j : ℕ) (pair : IsP
     where
       by : InAll x × ((x ≡ pair_place b i j) ⊎ IsBelow x (pair_place b i j)) → InAll x × IsBelow x (pair_place b i j)
       by (long, inr l) = (long, l)
-      by (long, inl e) = absurd (nz (ap (both_at b first second) e ∙ both_there b entries i j pair first second (meeting S b i j first second are) ∙ s_cancels (lead_at b i).k (lead_at b j).k first.q second.q (lead_positive b entries j pair.within) are.factors))
+      by (long, inl e) = absurd (nz (ap (both_at b first second) e ∙ both_there b entries i j pair first second (meeting S b i j first second are)
+          ∙ s_cancels (lead_at b i).k (lead_at b j).k first.q second.q (lead_positive b entries j pair.within) are.factors))
 
-  s_closed : (v : List Term) → IsPairVector S b i j v → (ss : List Step) (g : Coefficients) → Chain b (coefficient_at v) ss g → ((x : Place) → g x ≡ pos 0) → IsClosed b S i j
-  s_closed v is ss g chain none = (is.first, is.second, is.steps, record { steps = ss; below = chain_below b entries (pair_place b i j) ss (coefficient_at v) g stands chain; is = whole })
+  s_closed : (v : List Term) → IsPairVector S b i j v → (ss : List Step) (g : Coefficients) → Chain b (coefficient_at v) ss g → ((x : Place) → g x ≡ pos 0)
+      → IsClosed b S i j
+  s_closed v is ss g chain none = (
+    is.first,
+    is.second,
+    is.steps,
+    record {
+      steps = ss;
+      below = chain_below b entries (pair_place b i j) ss (coefficient_at v) g stands chain;
+      is = whole;
+    },
+  )
     where
       same : (x : Place) → coefficient_at v x ≡ both_at b is.first is.second x
       same x = is.made.1.is x
@@ -243,11 +280,18 @@ module _ (b : List (List Term)) (entries : AreEntries b) (i j : ℕ) (pair : IsP
   by_abs (pos n) h = refl
   by_abs (negsuc n) h = absurd (omega (arith, ints, h))
 
-  pub g_divisor : (v : List Term) → IsPairVector G b i j v → (d : ℕ) × IsGcd (unsigned_abs (lead_at b i).k) (unsigned_abs (lead_at b j).k) d × (coefficient_at v (pair_place b i j) ≡ pos d)
+  pub g_divisor : (v : List Term) → IsPairVector G b i j v → (d : ℕ) × IsGcd (unsigned_abs (lead_at b i).k) (unsigned_abs (lead_at b j).k) d
+      × (coefficient_at v (pair_place b i j) ≡ pos d)
   g_divisor v is = by is.steps.factors
     where
-      by : AreFactors G (lead_at b i).k (lead_at b j).k is.first.q is.second.q → (d : ℕ) × IsGcd (unsigned_abs (lead_at b i).k) (unsigned_abs (lead_at b j).k) d × (coefficient_at v (pair_place b i j) ≡ pos d)
-      by (d, bezout) = (unsigned_abs d, bezout.divisor, is.made.1.is (pair_place b i j) ∙ both_there b entries i j pair is.first is.second (meeting G b i j is.first is.second is.steps) ∙ bezout.sum ∙ by_abs d bezout.positive)
+      by : AreFactors G (lead_at b i).k (lead_at b j).k is.first.q is.second.q → (d : ℕ) × IsGcd (unsigned_abs (lead_at b i).k) (unsigned_abs (lead_at b j).k) d
+          × (coefficient_at v (pair_place b i j) ≡ pos d)
+      by (d, bezout) = (
+        unsigned_abs d,
+        bezout.divisor,
+        is.made.1.is (pair_place b i j)
+            ∙ both_there b entries i j pair is.first is.second (meeting G b i j is.first is.second is.steps) ∙ bezout.sum ∙ by_abs d bezout.positive,
+      )
 
   -- ---- G: what the chain takes from the pair's place are multiples of one lead coefficient
   module _ (r : ℕ) (e : Term) (h : List Term) (reducer : IsReducer b (pair_place b i j) r e h) where
@@ -274,24 +318,39 @@ module _ (b : List (List Term)) (entries : AreEntries b) (i j : ℕ) (pair : IsP
         at_due = due_place b entries f s n there.0
 
         by : AtMost n.place → Divides e.k (taken_at b s (pair_place b i j))
-        by (inr l) = (pos 0, taken_is b s (pair_place b i j) ∙ ap (λ z. s.q *ℤ z) (shifted_above b entries s.t s.by long h_in (pair_place b i j) (subst (λ z. IsBelow z (pair_place b i j)) (sym at_due) l)) ∙ nothing s.q e.k)
+        by (inr l) = (
+          pos 0,
+          taken_is b s (pair_place b i j)
+              ∙ ap (λ z. s.q *ℤ z) (shifted_above b entries s.t s.by long h_in (pair_place b i j) (subst (λ z. IsBelow z (pair_place b i j)) (sym at_due) l))
+              ∙ nothing s.q e.k,
+        )
           where
             nothing : (a c : ℤ) → a *ℤ pos 0 ≡ pos 0 *ℤ c
             nothing a c = omega (arith, ints)
         by (inl q) =
-            let number : s.by ≡ r = same_reducer b (pair_place b i j) s.by r n.lead e n.others h (subst (λ z. IsReducer b z s.by n.lead n.others) q n.due.reducer) reducer in
-            let lead : lead_at b s.by ≡ e = ap (lead_at b) number ∙ entry_lead b r e h reducer.entry in
-            (s.q, taken_is b s (pair_place b i j) ∙ ap (λ z. s.q *ℤ z) (ap (shifted s.t (vector_at b s.by)) (sym (at_due ∙ q)) ∙ shifted_lead b entries s.t s.by long h_in ∙ ap (λ (u : Term). u.k) lead))
+            let number : s.by ≡ r = same_reducer b (pair_place b i j) s.by r n.lead e n.others h
+            (subst (λ z. IsReducer b z s.by n.lead n.others) q n.due.reducer) reducer in
+            let lead : lead_at b s.by ≡ e = ap (lead_at b) number ∙ entry_lead b r e h reducer.entry in (
+              s.q,
+              taken_is b s (pair_place b i j) ∙ ap (λ z. s.q *ℤ z) (ap (shifted s.t (vector_at b s.by)) (sym (at_due ∙ q))
+                  ∙ shifted_lead b entries s.t s.by long h_in ∙ ap (λ (u : Term). u.k) lead),
+            )
 
     chain_divides : (ss : List Step) (f g : Coefficients) → Chain b f ss g → StandsAt AtMost f → Divides e.k (f (pair_place b i j) -ℤ g (pair_place b i j))
     chain_divides [] f g chain stands = (pos 0, none (f (pair_place b i j)) (g (pair_place b i j)) e.k (chain (pair_place b i j)))
       where
         none : (a c k : ℤ) → c ≡ a → a -ℤ c ≡ pos 0 *ℤ k
         none a c k q = omega (arith, ints, q)
-    chain_divides (s ∷ ss) f g chain stands = by (one_step f stands s chain.0) (chain_divides ss (after b f s) g chain.1 (after_stands b entries AtMost lower f stands s (step_stands b entries AtMost lower f stands s chain.0)))
+    chain_divides (s ∷ ss) f g chain stands = by (one_step f stands s chain.0)
+        (chain_divides ss (after b f s) g chain.1 (after_stands b entries AtMost lower f stands s (step_stands b entries AtMost lower f stands s chain.0)))
       where
-        by : Divides e.k (taken_at b s (pair_place b i j)) → Divides e.k (after b f s (pair_place b i j) -ℤ g (pair_place b i j)) → Divides e.k (f (pair_place b i j) -ℤ g (pair_place b i j))
-        by (x, is) (y, rest) = (x +ℤ y, sum (f (pair_place b i j)) (taken_at b s (pair_place b i j)) (g (pair_place b i j)) (x *ℤ e.k) (y *ℤ e.k) is rest ∙ sym (+ℤ-*ℤ x y e.k))
+        by : Divides e.k (taken_at b s (pair_place b i j)) → Divides e.k (after b f s (pair_place b i j) -ℤ g (pair_place b i j))
+            → Divides e.k (f (pair_place b i j) -ℤ g (pair_place b i j))
+        by (x, is) (y, rest) = (
+          x +ℤ y,
+          sum (f (pair_place b i j)) (taken_at b s (pair_place b i j)) (g (pair_place b i j)) (x *ℤ e.k) (y *ℤ e.k) is rest
+              ∙ sym (+ℤ-*ℤ x y e.k),
+        )
           where
             sum : (a t c m n : ℤ) → t ≡ m → (a -ℤ t) -ℤ c ≡ n → a -ℤ c ≡ m +ℤ n
             sum a t c m n p q = omega (arith, ints, p, q)
@@ -302,8 +361,10 @@ module _ (b : List (List Term)) (entries : AreEntries b) (i j : ℕ) (pair : IsP
   divides_abs (negsuc k) l hk hl d = absurd (omega (arith, ints, hk))
   divides_abs (pos k) (negsuc l) hk hl d = absurd (omega (arith, ints, hl))
 
-  g_closed : (v : List Term) → IsPairVector G b i j v → (ss : List Step) (g : Coefficients) → Chain b (coefficient_at v) ss g → ((x : Place) → g x ≡ pos 0) → IsClosed b G i j
-  g_closed v is ss g chain none = by (reducer_there b entries (pair_place b i j) i (lead_at b i) (behind (vector_at b i)) (as_entry b entries i i_in) (first_reduces b entries i j pair is.first is.second (meeting G b i j is.first is.second is.steps)))
+  g_closed : (v : List Term) → IsPairVector G b i j v → (ss : List Step) (g : Coefficients) → Chain b (coefficient_at v) ss g → ((x : Place) → g x ≡ pos 0)
+      → IsClosed b G i j
+  g_closed v is ss g chain none = by (reducer_there b entries (pair_place b i j) i (lead_at b i) (behind (vector_at b i)) (as_entry b entries i i_in)
+      (first_reduces b entries i j pair is.first is.second (meeting G b i j is.first is.second is.steps)))
     where
       i_in : i < length b
       i_in = let o : i < j = pair.order in let w : j < length b = pair.within in omega (arith, o, w)
@@ -315,7 +376,8 @@ module _ (b : List (List Term)) (entries : AreEntries b) (i j : ℕ) (pair : IsP
       by (r, e, h, reducer) = found is.steps.factors
         where
           all : Divides e.k (coefficient_at v (pair_place b i j) -ℤ g (pair_place b i j))
-          all = chain_divides r e h reducer ss (coefficient_at v) g chain (λ x nz. both_stand b entries i j pair is.first is.second (meeting G b i j is.first is.second is.steps) x (λ z. nz (same x ∙ z)))
+          all = chain_divides r e h reducer ss (coefficient_at v) g chain (λ x nz. both_stand b entries i j pair is.first is.second
+              (meeting G b i j is.first is.second is.steps) x (λ z. nz (same x ∙ z)))
 
           nothing : (a c : ℤ) → c ≡ pos 0 → a ≡ a -ℤ c
           nothing a c q = omega (arith, ints, q)
@@ -328,20 +390,25 @@ module _ (b : List (List Term)) (entries : AreEntries b) (i j : ℕ) (pair : IsP
 
           found : AreFactors G (lead_at b i).k (lead_at b j).k is.first.q is.second.q → IsClosed b G i j
           found (d, bezout) =
-              let there : d ≡ coefficient_at v (pair_place b i j) -ℤ g (pair_place b i j) = sym bezout.sum ∙ sym (both_there b entries i j pair is.first is.second (meeting G b i j is.first is.second is.steps)) ∙ sym (same (pair_place b i j)) ∙ nothing (coefficient_at v (pair_place b i j)) (g (pair_place b i j)) (none (pair_place b i j)) in
+              let there : d ≡ coefficient_at v (pair_place b i j) -ℤ g (pair_place b i j) = sym bezout.sum
+              ∙ sym (both_there b entries i j pair is.first is.second (meeting G b i j is.first is.second is.steps)) ∙ sym (same (pair_place b i j))
+              ∙ nothing (coefficient_at v (pair_place b i j)) (g (pair_place b i j)) (none (pair_place b i j)) in
               let of_d : Divides (lead_at b r).k d = (all.0, there ∙ all.1 ∙ ap (λ (u : Term). all.0 *ℤ u.k) (sym lead)) in (
                 r,
                 (
                   entry_number b r (e ∷ h) reducer.entry,
                   record {
                     reduces = subst (λ u. Reduces u (pair_place b i j)) (sym lead) reducer.reduces;
-                    first = divides_on (lead_at b r).k d (lead_at b i).k of_d (divides_abs d (lead_at b i).k bezout.positive (lead_positive b entries i i_in) bezout.divisor.0);
-                    second = divides_on (lead_at b r).k d (lead_at b j).k of_d (divides_abs d (lead_at b j).k bezout.positive (lead_positive b entries j pair.within) bezout.divisor.1);
+                    first = divides_on (lead_at b r).k d (lead_at b i).k of_d (divides_abs d (lead_at b i).k bezout.positive (lead_positive b entries i i_in)
+                        bezout.divisor.0);
+                    second = divides_on (lead_at b r).k d (lead_at b j).k of_d (divides_abs d (lead_at b j).k bezout.positive
+                        (lead_positive b entries j pair.within) bezout.divisor.1);
                   },
                 ),
               )
 
   -- A TASK WHOSE PAIR VECTOR'S CHAIN ENDS AT ZERO
-  pub closed_by_chain : (kind : PairKind) (v : List Term) → IsPairVector kind b i j v → (ss : List Step) (g : Coefficients) → Chain b (coefficient_at v) ss g → ((x : Place) → g x ≡ pos 0) → IsClosed b kind i j
+  pub closed_by_chain : (kind : PairKind) (v : List Term) → IsPairVector kind b i j v → (ss : List Step) (g : Coefficients) → Chain b (coefficient_at v) ss g
+      → ((x : Place) → g x ≡ pos 0) → IsClosed b kind i j
   closed_by_chain S = s_closed
   closed_by_chain G = g_closed

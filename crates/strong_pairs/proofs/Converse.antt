@@ -1,5 +1,6 @@
 -- The tasks of a strong list are closed: a member is a sum of multiples with lead places no higher than its own.
-use Rattle.std.proofs.Common.{◌≡◌, ◌≢◌, ℕ, zero, suc, ◌+◌, ◌*◌, ◌/◌, ◌%◌, ◌<◌, ℤ, pos, negsuc, neg_ℤ, ◌+ℤ◌, ◌-ℤ◌, ◌*ℤ◌, List, [], ◌∷◌, length, ◌⊎◌, inl, inr, refl, sym, ap, subst, ◌∙◌, arith}
+use Rattle.std.proofs.Common.{◌≡◌, ◌≢◌, ℕ, zero, suc, ◌+◌, ◌*◌, ◌/◌, ◌%◌, ◌<◌, ℤ, pos, negsuc, neg_ℤ, ◌+ℤ◌, ◌-ℤ◌, ◌*ℤ◌, List, [], ◌∷◌, length, ◌⊎◌, inl, inr}
+use Rattle.std.proofs.Common.{refl, sym, ap, subst, ◌∙◌, arith}
 use borrow.Author.Differences.{ints}
 use mathlib.Core.WellFounded.{Acc}
 use lib.WfN.{lt-wf_rel}
@@ -57,8 +58,10 @@ stepped k l c h = record {
 
     whole : c.y *ℤ pos k +ℤ (c.x +ℤ neg_ℤ (c.y *ℤ pos (k / l))) *ℤ pos l ≡ pos c.d
     whole =
-        let one : c.y *ℤ pos k ≡ (c.y *ℤ pos (k / l)) *ℤ pos l +ℤ c.y *ℤ pos (k % l) = ap (λ z. c.y *ℤ z) parts ∙ *ℤ-+ℤ c.y (pos (k / l) *ℤ pos l) (pos (k % l)) ∙ ap (λ z. z +ℤ c.y *ℤ pos (k % l)) (sym (*ℤ_assoc c.y (pos (k / l)) (pos l))) in
-        let two : (c.x +ℤ neg_ℤ (c.y *ℤ pos (k / l))) *ℤ pos l ≡ c.x *ℤ pos l +ℤ neg_ℤ ((c.y *ℤ pos (k / l)) *ℤ pos l) = +ℤ-*ℤ c.x (neg_ℤ (c.y *ℤ pos (k / l))) (pos l) ∙ ap (λ z. c.x *ℤ pos l +ℤ z) (neg_ℤ-*ℤ (c.y *ℤ pos (k / l)) (pos l)) in
+        let one : c.y *ℤ pos k ≡ (c.y *ℤ pos (k / l)) *ℤ pos l +ℤ c.y *ℤ pos (k % l) = ap (λ z. c.y *ℤ z) parts ∙ *ℤ-+ℤ c.y (pos (k / l) *ℤ pos l) (pos (k % l))
+        ∙ ap (λ z. z +ℤ c.y *ℤ pos (k % l)) (sym (*ℤ_assoc c.y (pos (k / l)) (pos l))) in
+        let two : (c.x +ℤ neg_ℤ (c.y *ℤ pos (k / l))) *ℤ pos l ≡ c.x *ℤ pos l +ℤ neg_ℤ ((c.y *ℤ pos (k / l)) *ℤ pos l) =
+        +ℤ-*ℤ c.x (neg_ℤ (c.y *ℤ pos (k / l))) (pos l) ∙ ap (λ z. c.x *ℤ pos l +ℤ z) (neg_ℤ-*ℤ (c.y *ℤ pos (k / l)) (pos l)) in
         solve (c.y *ℤ pos k) ((c.x +ℤ neg_ℤ (c.y *ℤ pos (k / l))) *ℤ pos l) ((c.y *ℤ pos (k / l)) *ℤ pos l) (c.y *ℤ pos (k % l)) (c.x *ℤ pos l) one two ∙ c.sum
       where
         solve : (a e m r n : ℤ) → a ≡ m +ℤ r → e ≡ n +ℤ neg_ℤ m → a +ℤ e ≡ n +ℤ r
@@ -101,7 +104,10 @@ module _ (gens b : List (List Term)) (entries : AreEntries b) (strong : IsStrong
       long = length-quotient (lead_at b divisor.number).at.m p.m reduces.1 ∙ lead_length b entries divisor.number number
 
       at_p : moved (quotient p.m (lead_at b divisor.number).at.m) (lead_at b divisor.number).at ≡ p
-      at_p n = record { m = quotient-back (lead_at b divisor.number).at.m p.m (lead_length b entries divisor.number number ∙ sym there.0) reduces.1 n; c = reduces.0 n }
+      at_p n = record {
+        m = quotient-back (lead_at b divisor.number).at.m p.m (lead_length b entries divisor.number number ∙ sym there.0) reduces.1 n;
+        c = reduces.0 n;
+      }
 
       is_step : (length step.t ≡ VARIABLES) × (step.by < length b) × P (step_place b step)
       is_step = (long, number, subst P (sym at_p) there.1)
@@ -113,7 +119,11 @@ module _ (gens b : List (List Term)) (entries : AreEntries b) (strong : IsStrong
       alone z = omega (arith, ints)
 
       left_member : InModule gens left
-      left_member = module_difference gens f (taken_at b step) left member (module_same gens (steps_at b (step ∷ [])) (taken_at b step) (λ x. alone (taken_at b step x) ∙ sym (steps_at-cons b step [] x)) (sum_in gens b strong.members (step ∷ []) ((is_step.0, is_step.1), tt))) (λ x. refl)
+      left_member = module_difference gens f (taken_at b step) left member (module_same gens (steps_at b (step ∷ [])) (taken_at b step)
+          (λ x. alone (taken_at b step x) ∙ sym (steps_at-cons b step [] x)) (sum_in gens b strong.members (step ∷ []) (
+            (is_step.0, is_step.1),
+            tt,
+          ))) (λ x. refl)
 
       left_stands : StandsAt P left
       left_stands = after_stands b entries P down f stands step is_step
@@ -122,10 +132,14 @@ module _ (gens b : List (List Term)) (entries : AreEntries b) (strong : IsStrong
       untaken a c e = omega (arith, ints, e)
 
       left_none : left p ≡ pos 0
-      left_none = untaken (f p) (taken_at b step p) (divisor.divides ∙ ap (λ (e : Term). divisor.factor *ℤ e.k) (sym own) ∙ ap (λ z. divisor.factor *ℤ z) (sym (ap (shifted step.t (vector_at b step.by)) (sym at_p) ∙ shifted_lead b entries step.t step.by long number)) ∙ sym (taken_is b step p))
+      left_none = untaken (f p) (taken_at b step p) (divisor.divides ∙ ap (λ (e : Term). divisor.factor *ℤ e.k) (sym own)
+          ∙ ap (λ z. divisor.factor *ℤ z) (sym (ap (shifted step.t (vector_at b step.by)) (sym at_p) ∙ shifted_lead b entries step.t step.by long number))
+          ∙ sym (taken_is b step p))
 
       left_above : (x : Place) → IsBelow p x → left x ≡ pos 0
-      left_above x l = untaken (f x) (taken_at b step x) (lead.above x l ∙ sym (taken_is b step x ∙ ap (λ z. divisor.factor *ℤ z) (shifted_above b entries step.t step.by long number x (subst (λ z. IsBelow z x) (sym at_p) l)) ∙ nothing divisor.factor))
+      left_above x l = untaken (f x) (taken_at b step x) (lead.above x l ∙ sym (taken_is b step x
+          ∙ ap (λ z. divisor.factor *ℤ z) (shifted_above b entries step.t step.by long number x (subst (λ z. IsBelow z x) (sym at_p) l))
+          ∙ nothing divisor.factor))
         where
           nothing : (a : ℤ) → a *ℤ pos 0 ≡ pos 0
           nothing a = omega (arith, ints)
@@ -139,7 +153,12 @@ module _ (gens b : List (List Term)) (entries : AreEntries b) (strong : IsStrong
           by (inr (inr k)) = absurd (l.nonzero (left_above q k))
 
       joined : Written left → Written f
-      joined (steps, are, is) = (step ∷ steps, (is_step, are), λ x. sum (f x) (taken_at b step x) (steps_at b steps x) (is x) ∙ sym (steps_at-cons b step steps x))
+      joined (steps, are, is) = (
+        step ∷ steps,
+        (is_step, are),
+        λ x. sum (f x) (taken_at b step x) (steps_at b steps x) (is x)
+            ∙ sym (steps_at-cons b step steps x),
+      )
         where
           sum : (a c z : ℤ) → a -ℤ c ≡ z → a ≡ c +ℤ z
           sum a c z e = omega (arith, ints, e)
@@ -148,9 +167,13 @@ module _ (gens b : List (List Term)) (entries : AreEntries b) (strong : IsStrong
     written_none f none = ([], tt, none)
 
     written_at : (p : Place) → Acc Lower p → (f : Coefficients) → InModule gens f → StandsAt P f → IsLead f p → Written f
-    written_at p (Acc.intro p' acc) f member stands lead = joined f member stands p lead (by (zero_or_lead (left f member stands p lead) (sum_of_steps gens (left_member f member stands p lead).steps) (left_member f member stands p lead).is) (λ q l. written_at q (acc q (left_lower f member stands p lead q l)) (left f member stands p lead) (left_member f member stands p lead) (left_stands f member stands p lead) l))
+    written_at p (Acc.intro p' acc) f member stands lead =
+        joined f member stands p lead (by (zero_or_lead (left f member stands p lead) (sum_of_steps gens (left_member f member stands p lead).steps)
+        (left_member f member stands p lead).is) (λ q l. written_at q (acc q (left_lower f member stands p lead q l)) (left f member stands p lead)
+        (left_member f member stands p lead) (left_stands f member stands p lead) l))
       where
-        by : ((x : Place) → left f member stands p lead x ≡ pos 0) ⊎ ((q : Place) × IsLead (left f member stands p lead) q) → ((q : Place) → IsLead (left f member stands p lead) q → Written (left f member stands p lead)) → Written (left f member stands p lead)
+        by : ((x : Place) → left f member stands p lead x ≡ pos 0) ⊎ ((q : Place) × IsLead (left f member stands p lead) q)
+            → ((q : Place) → IsLead (left f member stands p lead) q → Written (left f member stands p lead)) → Written (left f member stands p lead)
         by (inl none) rec = written_none (left f member stands p lead) none
         by (inr (q, l)) rec = rec q l
 
@@ -191,13 +214,19 @@ module _ (gens b : List (List Term)) (entries : AreEntries b) (strong : IsStrong
     meet u v = record { first_monomial = refl; second_monomial = refl; first_number = refl; second_number = refl }
 
     both_member : (u v : ℤ) → InModule gens (both_at b (to_first u) (to_second v))
-    both_member u v = module_same gens (steps_at b (to_first u ∷ (to_second v ∷ []))) (both_at b (to_first u) (to_second v)) (λ x. sum (taken_at b (to_first u) x) (taken_at b (to_second v) x) (steps_at b (to_second v ∷ []) x) (steps_at-cons b (to_second v) [] x) ∙ sym (steps_at-cons b (to_first u) (to_second v ∷ []) x))
-        (sum_in gens b strong.members (to_first u ∷ (to_second v ∷ [])) ((first-length b entries i j pair (to_first u) (to_second v) (meet u v), i_there), ((second-length b entries i j pair (to_first u) (to_second v) (meet u v), pair.within), tt)))
+    both_member u v = module_same gens (steps_at b (to_first u ∷ (to_second v ∷ []))) (both_at b (to_first u) (to_second v))
+        (λ x. sum (taken_at b (to_first u) x) (taken_at b (to_second v) x) (steps_at b (to_second v ∷ []) x) (steps_at-cons b (to_second v) [] x)
+        ∙ sym (steps_at-cons b (to_first u) (to_second v ∷ []) x))
+        (sum_in gens b strong.members (to_first u ∷ (to_second v ∷ [])) (
+          (first-length b entries i j pair (to_first u) (to_second v) (meet u v), i_there),
+          ((second-length b entries i j pair (to_first u) (to_second v) (meet u v), pair.within), tt),
+        ))
       where
         sum : (a c z : ℤ) → z ≡ c +ℤ pos 0 → a +ℤ c ≡ a +ℤ z
         sum a c z e = omega (arith, ints, e)
 
-    s_factors : AreFactors S (lead_at b i).k (lead_at b j).k (pos (unsigned_abs (lead_at b j).k / gcd_of.d)) (neg_ℤ (pos (unsigned_abs (lead_at b i).k / gcd_of.d)))
+    s_factors : AreFactors S (lead_at b i).k (lead_at b j).k (pos (unsigned_abs (lead_at b j).k / gcd_of.d))
+        (neg_ℤ (pos (unsigned_abs (lead_at b i).k / gcd_of.d)))
     s_factors = (
       gcd_of.d,
       gcd_of.gcd,
@@ -208,24 +237,31 @@ module _ (gens b : List (List Term)) (entries : AreEntries b) (strong : IsStrong
         whole : (n : ℕ) → gcd_of.d ∣ n → pos (n / gcd_of.d) *ℤ pos gcd_of.d ≡ pos n
         whole n d = let e : (n / gcd_of.d) * gcd_of.d ≡ n = div-mul_cancel gcd_of.d d in omega (arith, ints, e)
 
-    s_steps : ArePairSteps S b i j (to_first (pos (unsigned_abs (lead_at b j).k / gcd_of.d))) (to_second (neg_ℤ (pos (unsigned_abs (lead_at b i).k / gcd_of.d))))
+    s_steps : ArePairSteps S b i j (to_first (pos (unsigned_abs (lead_at b j).k / gcd_of.d)))
+        (to_second (neg_ℤ (pos (unsigned_abs (lead_at b i).k / gcd_of.d))))
     s_steps = record { factors = s_factors; first_monomial = refl; second_monomial = refl; first_number = refl; second_number = refl }
 
     s_closed : IsClosed b S i j
     s_closed =
         let u : ℤ = pos (unsigned_abs (lead_at b j).k / gcd_of.d) in
         let v : ℤ = neg_ℤ (pos (unsigned_abs (lead_at b i).k / gcd_of.d)) in
-        let w : (steps : List Step) × AreStepsAt (λ x. IsBelow x (pair_place b i j)) b steps × ((x : Place) → both_at b (to_first u) (to_second v) x ≡ steps_at b steps x) = written (λ x. IsBelow x (pair_place b i j)) (λ x y l k. order.transitive y x (pair_place b i j) l k) (both_at b (to_first u) (to_second v)) (both_member u v) (s_below b entries i j pair (to_first u) (to_second v) s_steps) in
+        let w : (steps : List Step) × AreStepsAt (λ x. IsBelow x (pair_place b i j)) b steps
+        × ((x : Place) → both_at b (to_first u) (to_second v) x ≡ steps_at b steps x) =
+        written (λ x. IsBelow x (pair_place b i j)) (λ x y l k. order.transitive y x (pair_place b i j) l k) (both_at b (to_first u) (to_second v))
+        (both_member u v) (s_below b entries i j pair (to_first u) (to_second v) s_steps) in
         (to_first u, to_second v, s_steps, record { steps = w.0; below = w.1; is = w.2 })
 
     g_closed : IsClosed b G i j
     g_closed = by (strong.divided (both_at b (to_first gcd_of.x) (to_second gcd_of.y)) (pair_place b i j) (both_member gcd_of.x gcd_of.y) lead)
       where
         is_d : both_at b (to_first gcd_of.x) (to_second gcd_of.y) (pair_place b i j) ≡ pos gcd_of.d
-        is_d = both_there b entries i j pair (to_first gcd_of.x) (to_second gcd_of.y) (meet gcd_of.x gcd_of.y) ∙ (λ n. gcd_of.x *ℤ sym k-is n +ℤ gcd_of.y *ℤ sym l-is n) ∙ gcd_of.sum
+        is_d = both_there b entries i j pair (to_first gcd_of.x) (to_second gcd_of.y) (meet gcd_of.x gcd_of.y)
+            ∙ (λ n. gcd_of.x *ℤ sym k-is n +ℤ gcd_of.y *ℤ sym l-is n) ∙ gcd_of.sum
 
         divides_k : (n : ℕ) → n ∣ unsigned_abs (lead_at b i).k → pos 0 <ℤ pos n
-        divides_k zero d = absurd (let e : (unsigned_abs (lead_at b i).k / zero) * zero ≡ unsigned_abs (lead_at b i).k = div-mul_cancel zero d in let none : pos 0 ≡ (lead_at b i).k = omega (arith, ints, e, k-is) in let h : pos 0 <ℤ (lead_at b i).k = lead_positive b entries i i_there in omega (arith, ints, none, h))
+        divides_k zero d = absurd (let e : (unsigned_abs (lead_at b i).k / zero) * zero ≡ unsigned_abs (lead_at b i).k = div-mul_cancel zero d
+            in let none : pos 0 ≡ (lead_at b i).k = omega (arith, ints, e, k-is) in let h : pos 0 <ℤ (lead_at b i).k = lead_positive b entries i i_there
+            in omega (arith, ints, none, h))
         divides_k (suc n) d = omega (arith, ints)
 
         d_positive : pos 0 <ℤ pos gcd_of.d
@@ -244,7 +280,8 @@ module _ (gens b : List (List Term)) (entries : AreEntries b) (strong : IsStrong
                 apart (long, inl e) = order.irreflexive x (subst (λ z. IsBelow z x) (sym e) l)
                 apart (long, inr k) = order.irreflexive x (order.transitive x (pair_place b i j) x k l)
 
-                by : (both_at b (to_first gcd_of.x) (to_second gcd_of.y) x ≡ pos 0) ⊎ (both_at b (to_first gcd_of.x) (to_second gcd_of.y) x ≢ pos 0) → both_at b (to_first gcd_of.x) (to_second gcd_of.y) x ≡ pos 0
+                by : (both_at b (to_first gcd_of.x) (to_second gcd_of.y) x ≡ pos 0) ⊎ (both_at b (to_first gcd_of.x) (to_second gcd_of.y) x ≢ pos 0)
+                    → both_at b (to_first gcd_of.x) (to_second gcd_of.y) x ≡ pos 0
                 by (inl e) = e
                 by (inr nz) = absurd (apart (both_stand b entries i j pair (to_first gcd_of.x) (to_second gcd_of.y) (meet gcd_of.x gcd_of.y) x nz))
 
@@ -257,8 +294,10 @@ module _ (gens b : List (List Term)) (entries : AreEntries b) (strong : IsStrong
                 entry_number b d.number (d.lead ∷ d.others) d.entry,
                 record {
                   reduces = subst (λ e. Reduces e (pair_place b i j)) (sym own) d.reduces;
-                  first = divides_on (lead_at b d.number).k (pos gcd_of.d) (lead_at b i).k of_d (divides_abs b entries i j pair (pos gcd_of.d) (lead_at b i).k d_positive (lead_positive b entries i i_there) gcd_of.gcd.0);
-                  second = divides_on (lead_at b d.number).k (pos gcd_of.d) (lead_at b j).k of_d (divides_abs b entries i j pair (pos gcd_of.d) (lead_at b j).k d_positive (lead_positive b entries j pair.within) gcd_of.gcd.1);
+                  first = divides_on (lead_at b d.number).k (pos gcd_of.d) (lead_at b i).k of_d
+                      (divides_abs b entries i j pair (pos gcd_of.d) (lead_at b i).k d_positive (lead_positive b entries i i_there) gcd_of.gcd.0);
+                  second = divides_on (lead_at b d.number).k (pos gcd_of.d) (lead_at b j).k of_d
+                      (divides_abs b entries i j pair (pos gcd_of.d) (lead_at b j).k d_positive (lead_positive b entries j pair.within) gcd_of.gcd.1);
                 },
               ),
             )

@@ -1,5 +1,6 @@
 -- The tests that an entry covers a pair.
-use Rattle.std.proofs.Common.{◌≡◌, ℕ, zero, suc, ◌*◌, ◌/◌, ◌%◌, ◌<◌, ◌≤◌, max, Bool, ℤ, pos, negsuc, ◌*ℤ◌, List, [], ◌∷◌, length, slice_index, IsTrue, nat_eq, to_z, of_z, FitsSigned, ◌↔◌, refl, sym, ap, ◌∙◌, subst, arith}
+use Rattle.std.proofs.Common.{◌≡◌, ℕ, zero, suc, ◌*◌, ◌/◌, ◌%◌, ◌<◌, ◌≤◌, max, Bool, ℤ, pos, negsuc, ◌*ℤ◌, List, [], ◌∷◌, length, slice_index, IsTrue, nat_eq}
+use Rattle.std.proofs.Common.{to_z, of_z, FitsSigned, ◌↔◌, refl, sym, ap, ◌∙◌, subst, arith}
 use borrow.Author.Differences.{ints}
 use lib.Signed.{rem_z}
 use mir.Syntax.{w128}
@@ -13,13 +14,15 @@ use Rattle.strong_pairs.specs.Covering.{Divides}
 abbrev pub BelowBoth : List ℕ → List ℕ → List ℕ → ℕ → Type 0
 BelowBoth u s t n = (k : ℕ) → k < n → slice_index u k ≤ max (slice_index s k) (slice_index t k)
 
-at_combined : (f : ℕ → ℕ → ℕ) (s t : List ℕ) (k : ℕ) → length s ≡ length t → k < length s → slice_index (combined f s t) k ≡ f (slice_index s k) (slice_index t k)
+at_combined : (f : ℕ → ℕ → ℕ) (s t : List ℕ) (k : ℕ) → length s ≡ length t → k < length s
+    → slice_index (combined f s t) k ≡ f (slice_index s k) (slice_index t k)
 at_combined f [] t k e h = absurd (omega (arith, h))
 at_combined f (x ∷ s) [] k e h = absurd (omega (arith, e))
 at_combined f (x ∷ s) (y ∷ t) zero e h = refl
 at_combined f (x ∷ s) (y ∷ t) (suc k) e h = at_combined f s t k (omega (arith, e)) (omega (arith, h))
 
-pub divides_both : (all : Bool) (u s t : List ℕ) (n : ℕ) → IsTrue all ↔ BelowBoth u s t n → length u ≡ n → length s ≡ n → length t ≡ n → all ≡ divides u (common_multiple s t)
+pub divides_both : (all : Bool) (u s t : List ℕ) (n : ℕ) → IsTrue all ↔ BelowBoth u s t n → length u ≡ n → length s ≡ n → length t ≡ n
+    → all ≡ divides u (common_multiple s t)
 divides_both all u s t n h a b c = divides_is all u (common_multiple s t) n (forth, back) a (length-combined (λ x y. max x y) s t (b ∙ sym c) ∙ b)
   where
     at : (k : ℕ) → k < n → slice_index (common_multiple s t) k ≡ max (slice_index s k) (slice_index t k)
@@ -52,7 +55,8 @@ divides_test (negsuc k) l h g = absurd (omega (arith, ints, h))
 divides_test (pos k) (negsuc l) h g = absurd (omega (arith, ints, g))
 
 -- as 128 bits give it
-pub divides_word : (k l : ℤ) → FitsSigned w128 k → FitsSigned w128 l → pos 0 <ℤ k → pos 0 <ℤ l → IsTrue (nat_eq (of_z w128 (rem_z (to_z w128 (of_z w128 l)) (to_z w128 (of_z w128 k)))) 0) ↔ Divides k l
+pub divides_word : (k l : ℤ) → FitsSigned w128 k → FitsSigned w128 l → pos 0 <ℤ k → pos 0 <ℤ l
+    → IsTrue (nat_eq (of_z w128 (rem_z (to_z w128 (of_z w128 l)) (to_z w128 (of_z w128 k)))) 0) ↔ Divides k l
 divides_word k l f e h g = (forth, back)
   where
     same : of_z w128 (rem_z (to_z w128 (of_z w128 l)) (to_z w128 (of_z w128 k))) ≡ of_z w128 (rem_z l k)

@@ -25,18 +25,22 @@ order_of i j = grind arith
 
 module _ (b : List (List Term)) (entries : AreEntries b) where
   -- what covers two leads that divide a place divides it too
-  pub covers_on : (p : Place) (i j k : ℕ) → i < length b → j < length b → Reduces (lead_at b i) p → Reduces (lead_at b j) p → CoversLeads (lead_at b k) (lead_at b i) (lead_at b j) → Reduces (lead_at b k) p
+  pub covers_on : (p : Place) (i j k : ℕ) → i < length b → j < length b → Reduces (lead_at b i) p → Reduces (lead_at b j) p
+      → CoversLeads (lead_at b k) (lead_at b i) (lead_at b j) → Reduces (lead_at b k) p
   covers_on p i j k hi hj ri rj c =
       let same : length (lead_at b i).at.m ≡ length (lead_at b j).at.m = lead_length b entries i hi ∙ sym (lead_length b entries j hj) in
-      let multiple : divides (common_multiple (lead_at b i).at.m (lead_at b j).at.m) p.m ≡ true = (divides-common_multiple (lead_at b i).at.m (lead_at b j).at.m p.m same).1 (ri.1, rj.1) in
+      let multiple : divides (common_multiple (lead_at b i).at.m (lead_at b j).at.m) p.m ≡ true =
+      (divides-common_multiple (lead_at b i).at.m (lead_at b j).at.m p.m same).1 (ri.1, rj.1) in
       (c.reduces.0 ∙ ri.0, divides_trans (lead_at b k).at.m (common_multiple (lead_at b i).at.m (lead_at b j).at.m) p.m c.reduces.1 multiple)
 
   module _ (closed : AreClosed b G) (p : Place) where
     -- for two
-    pub both : (i j : ℕ) → Reaches b p i → Reaches b p j → (k : ℕ) × Reaches b p k × Divides (lead_at b k).k (lead_at b i).k × Divides (lead_at b k).k (lead_at b j).k
+    pub both : (i j : ℕ) → Reaches b p i → Reaches b p j → (k : ℕ) × Reaches b p k × Divides (lead_at b k).k (lead_at b i).k
+        × Divides (lead_at b k).k (lead_at b j).k
     both i j hi hj = by (order_of i j)
       where
-        one_way : (i j : ℕ) → Reaches b p i → Reaches b p j → i < j → (k : ℕ) × Reaches b p k × Divides (lead_at b k).k (lead_at b i).k × Divides (lead_at b k).k (lead_at b j).k
+        one_way : (i j : ℕ) → Reaches b p i → Reaches b p j → i < j → (k : ℕ) × Reaches b p k × Divides (lead_at b k).k (lead_at b i).k
+            × Divides (lead_at b k).k (lead_at b j).k
         one_way i j hi hj l =
             let c : (k : ℕ) × Covers b i j k = closed i j (record { order = l; within = hj.0; component = hi.1.0 ∙ sym hj.1.0 }) in
             (c.0, (c.1.0, covers_on p i j c.0 hi.0 hj.0 hi.1 hj.1 c.1.1), c.1.1.first, c.1.1.second)
@@ -51,7 +55,8 @@ module _ (b : List (List Term)) (entries : AreEntries b) where
     coverage i [] h = (i, record { reaches = h.0; divides = (divides_itself (lead_at b i).k, tt) })
     coverage i (j ∷ numbers) h = by (coverage i numbers (h.0, h.1.1))
       where
-        further : (k l : ℕ) → Divides (lead_at b l).k (lead_at b k).k → (ns : List ℕ) → AllByRecursion (λ n. Divides (lead_at b k).k (lead_at b n).k) ns → AllByRecursion (λ n. Divides (lead_at b l).k (lead_at b n).k) ns
+        further : (k l : ℕ) → Divides (lead_at b l).k (lead_at b k).k → (ns : List ℕ) → AllByRecursion (λ n. Divides (lead_at b k).k (lead_at b n).k) ns
+            → AllByRecursion (λ n. Divides (lead_at b l).k (lead_at b n).k) ns
         further k l d [] a = tt
         further k l d (n ∷ ns) a = (divides_on (lead_at b l).k (lead_at b k).k (lead_at b n).k d a.0, further k l d ns a.1)
 

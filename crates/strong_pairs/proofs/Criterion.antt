@@ -1,5 +1,6 @@
 -- THE STRONG CRITERION: where all tasks are closed, the lead of each sum of multiples is divided by that of an entry.
-use Rattle.std.proofs.Common.{◌≡◌, ◌≢◌, ℕ, ◌<◌, Bool, true, false, cond, ℤ, pos, negsuc, ◌+ℤ◌, ◌*ℤ◌, List, [], ◌∷◌, ◌++◌, length, ◌⊎◌, inl, inr, refl, sym, ap, subst, ◌∙◌, arith}
+use Rattle.std.proofs.Common.{◌≡◌, ◌≢◌, ℕ, ◌<◌, Bool, true, false, cond, ℤ, pos, negsuc, ◌+ℤ◌, ◌*ℤ◌, List, [], ◌∷◌, ◌++◌, length, ◌⊎◌, inl, inr, refl, sym, ap}
+use Rattle.std.proofs.Common.{subst, ◌∙◌, arith}
 use borrow.Author.Differences.{ints}
 use mathlib.Core.WellFounded.{Acc}
 use Rattle.std.specs.List.{AllByRecursion}
@@ -57,7 +58,12 @@ module _ (b : List (List Term)) (entries : AreEntries b) where
           three : (here ≡ p) ⊎ (IsBelow here p ⊎ IsBelow p here) → Topped P (s ∷ (r ∷ ss))
           three (inl e) = (p, long, holds, ((h.0.0, h.0.1, inl e), all))
           three (inr (inl l)) = (p, long, holds, ((h.0.0, h.0.1, inr l), all))
-          three (inr (inr l)) = (here, place_length b entries s h.0.0 h.0.1, h.0.2, ((h.0.0, h.0.1, inl refl), at_weaker b entries (AtMost p) (AtMost here) (at_most_higher p here l) (r ∷ ss) all))
+          three (inr (inr l)) = (
+            here,
+            place_length b entries s h.0.0 h.0.1,
+            h.0.2,
+            ((h.0.0, h.0.1, inl refl), at_weaker b entries (AtMost p) (AtMost here) (at_most_higher p here l) (r ∷ ss) all),
+          )
 
   -- ---- the entries whose multiples reach the place
   abbrev tops : Place → List Step → List ℕ
@@ -71,7 +77,8 @@ module _ (b : List (List Term)) (entries : AreEntries b) where
   tops_reach p [] h = tt
   tops_reach p (s ∷ ss) h = by (same_place (step_place b s) p) refl (tops_reach p ss h.1)
     where
-      by : (r : Bool) → same_place (step_place b s) p ≡ r → AllByRecursion (Reaches b p) (tops p ss) → AllByRecursion (Reaches b p) (cond r (s.by ∷ tops p ss) (tops p ss))
+      by : (r : Bool) → same_place (step_place b s) p ≡ r → AllByRecursion (Reaches b p) (tops p ss)
+          → AllByRecursion (Reaches b p) (cond r (s.by ∷ tops p ss) (tops p ss))
       by true e rest = (reaches s p h.0.0 h.0.1 (test.sound (step_place b s) p e), rest)
       by false e rest = rest
 
@@ -82,9 +89,11 @@ module _ (b : List (List Term)) (entries : AreEntries b) where
 
   -- ---- they are gathered into one multiple
   abbrev Gathered : Place → ℕ → List ℕ → List Step → Type 0
-  Gathered p k u ss = (f : ℤ) × (rest : List Step) × AreStepsBelow b p rest × ((x : Place) → steps_at b ss x ≡ f *ℤ shifted u (vector_at b k) x +ℤ steps_at b rest x)
+  Gathered p k u ss = (f : ℤ) × (rest : List Step) × AreStepsBelow b p rest × ((x : Place)
+      → steps_at b ss x ≡ f *ℤ shifted u (vector_at b k) x +ℤ steps_at b rest x)
 
-  module _ (closed : AreClosed b S) (p : Place) (k : ℕ) (u : List ℕ) (k_in : k < length b) (long : length u ≡ VARIABLES) (at_p : moved u (lead_at b k).at ≡ p) where
+  module _ (closed : AreClosed b S) (p : Place) (k : ℕ) (u : List ℕ) (k_in : k < length b) (long : length u
+      ≡ VARIABLES) (at_p : moved u (lead_at b k).at ≡ p) where
     gather : (ss : List Step) → AreStepsAt (AtMost p) b ss → AllByRecursion (λ i. Divides (lead_at b k).k (lead_at b i).k) (tops p ss) → Gathered p k u ss
     gather [] h all = (pos 0, [], tt, λ x. omega (arith, ints))
     gather (s ∷ ss) h all = by (same_place (step_place b s) p) refl all (λ a. gather ss h.1 a)
@@ -99,7 +108,9 @@ module _ (b : List (List Term)) (entries : AreEntries b) where
             let two : (q *ℤ m +ℤ f) *ℤ a ≡ (q *ℤ m) *ℤ a +ℤ f *ℤ a = +ℤ-*ℤ (q *ℤ m) f a in
             omega (arith, ints, one, two)
 
-        by : (r : Bool) → same_place (step_place b s) p ≡ r → AllByRecursion (λ i. Divides (lead_at b k).k (lead_at b i).k) (cond r (s.by ∷ tops p ss) (tops p ss)) → (AllByRecursion (λ i. Divides (lead_at b k).k (lead_at b i).k) (tops p ss) → Gathered p k u ss) → Gathered p k u (s ∷ ss)
+        by : (r : Bool) → same_place (step_place b s) p ≡ r → AllByRecursion (λ i. Divides (lead_at b k).k (lead_at b i).k)
+            (cond r (s.by ∷ tops p ss) (tops p ss)) → (AllByRecursion (λ i. Divides (lead_at b k).k (lead_at b i).k) (tops p ss) → Gathered p k u ss)
+            → Gathered p k u (s ∷ ss)
         by false e a others = below_one (others a)
           where
             below_one : Gathered p k u ss → Gathered p k u (s ∷ ss)
@@ -107,9 +118,17 @@ module _ (b : List (List Term)) (entries : AreEntries b) where
               f,
               s ∷ rest,
               ((h.0.0, h.0.1, below_top s p e h.0.2), below),
-              λ x. steps_at-cons b s ss x ∙ ap (λ z. taken_at b s x +ℤ z) (is x) ∙ past (taken_at b s x) (f *ℤ shifted u (vector_at b k) x) (steps_at b rest x) ∙ ap (λ z. f *ℤ shifted u (vector_at b k) x +ℤ z) (sym (steps_at-cons b s rest x)),
+              λ x. steps_at-cons b s ss x ∙ ap (λ z. taken_at b s x +ℤ z) (is x) ∙ past (taken_at b s x) (f *ℤ shifted u (vector_at b k) x) (steps_at b rest x)
+                  ∙ ap (λ z. f *ℤ shifted u (vector_at b k) x +ℤ z) (sym (steps_at-cons b s rest x)),
             )
-        by true e a others = exchanged (others a.1) (exchange b entries closed s.by k s.t u p a.0.0 (record { i_in = h.0.1; j_in = k_in; t-length = h.0.0; u-length = long; first = test.sound (step_place b s) p e; second = at_p }) a.0.1)
+        by true e a others = exchanged (others a.1) (exchange b entries closed s.by k s.t u p a.0.0 (record {
+          i_in = h.0.1;
+          j_in = k_in;
+          t-length = h.0.0;
+          u-length = long;
+          first = test.sound (step_place b s) p e;
+          second = at_p;
+        }) a.0.1)
           where
             exchanged : Gathered p k u ss → Exchanged b entries s.by k s.t u p a.0.0 → Gathered p k u (s ∷ ss)
             exchanged (f, rest, below, is) (low, low_below, low_is) = (
@@ -119,7 +138,8 @@ module _ (b : List (List Term)) (entries : AreEntries b) where
               λ x. steps_at-cons b s ss x
                   ∙ (λ n. (taken_is b s x ∙ ap (λ z. s.q *ℤ z) (low_is x)) n +ℤ is x n)
                   ∙ regroup s.q a.0.0 f (shifted u (vector_at b k) x) (steps_at b low x) (steps_at b rest x)
-                  ∙ ap (λ z. (s.q *ℤ a.0.0 +ℤ f) *ℤ shifted u (vector_at b k) x +ℤ z) (sym (steps_at-append b (scaled s.q low) rest x ∙ ap (λ z. z +ℤ steps_at b rest x) (steps_at-scaled b s.q low x))),
+                  ∙ ap (λ z. (s.q *ℤ a.0.0 +ℤ f) *ℤ shifted u (vector_at b k) x +ℤ z) (sym (steps_at-append b (scaled s.q low) rest x
+                  ∙ ap (λ z. z +ℤ steps_at b rest x) (steps_at-scaled b s.q low x))),
             )
 
   -- ---- by induction on the greatest lead place
@@ -134,23 +154,29 @@ module _ (b : List (List Term)) (entries : AreEntries b) where
   module _ (closed : AllClosed b) where
     -- by the steps below the place
     abbrev Rest : Place → Type 0
-    Rest p = (q : Place) → Lower q p → (ss : List Step) → AreStepsAt (AtMost q) b ss → (f : Coefficients) → ((x : Place) → f x ≡ steps_at b ss x) → (r : Place) → IsLead f r → IsDivided b f r
+    Rest p = (q : Place) → Lower q p → (ss : List Step) → AreStepsAt (AtMost q) b ss → (f : Coefficients) → ((x : Place) → f x ≡ steps_at b ss x) → (r : Place)
+        → IsLead f r → IsDivided b f r
 
-    descend : (p : Place) → InAll p → Rest p → (rest : List Step) → AreStepsBelow b p rest → (f : Coefficients) → ((x : Place) → f x ≡ steps_at b rest x) → (r : Place) → IsLead f r → IsDivided b f r
+    descend : (p : Place) → InAll p → Rest p → (rest : List Step) → AreStepsBelow b p rest → (f : Coefficients) → ((x : Place) → f x ≡ steps_at b rest x)
+        → (r : Place) → IsLead f r → IsDivided b f r
     descend p long rec [] h f is r lead = absurd (lead.nonzero (is r))
-    descend p long rec (s ∷ ss) h f is r lead = let t : Topped (λ x. IsBelow x p) (s ∷ ss) = top (λ x. IsBelow x p) s ss h in rec t.0 (t.1, long, t.2) (s ∷ ss) t.3 f is r lead
+    descend p long rec (s ∷ ss) h f is r lead = let t : Topped (λ x. IsBelow x p) (s ∷ ss) = top (λ x. IsBelow x p) s ss h
+        in rec t.0 (t.1, long, t.2) (s ∷ ss) t.3 f is r lead
 
     no_tops : (p : Place) (ss : List Step) → AreStepsAt (AtMost p) b ss → tops p ss ≡ [] → AreStepsBelow b p ss
     no_tops p [] h e = tt
     no_tops p (s ∷ ss) h e = by (same_place (step_place b s) p) refl e (λ g. no_tops p ss h.1 g)
       where
-        by : (r : Bool) → same_place (step_place b s) p ≡ r → cond r (s.by ∷ tops p ss) (tops p ss) ≡ [] → (tops p ss ≡ [] → AreStepsBelow b p ss) → AreStepsBelow b p (s ∷ ss)
+        by : (r : Bool) → same_place (step_place b s) p ≡ r → cond r (s.by ∷ tops p ss) (tops p ss) ≡ [] → (tops p ss ≡ [] → AreStepsBelow b p ss)
+            → AreStepsBelow b p (s ∷ ss)
         by true g e others = absurd cc
         by false g e others = ((h.0.0, h.0.1, below_top s p g h.0.2), others e)
 
     -- the lead is at p, where entry k has its multiple
-    led : (p : Place) (k : ℕ) (u : List ℕ) → k < length b → length u ≡ VARIABLES → moved u (lead_at b k).at ≡ p → Reduces (lead_at b k) p → (c : ℤ) → c ≢ pos 0 →
-        (rest : List Step) → AreStepsBelow b p rest → (f : Coefficients) → ((x : Place) → f x ≡ c *ℤ shifted u (vector_at b k) x +ℤ steps_at b rest x) → (r : Place) → IsLead f r → IsDivided b f r
+    led : (p : Place) (k : ℕ) (u : List ℕ) → k < length b → length u ≡ VARIABLES → moved u (lead_at b k).at ≡ p → Reduces (lead_at b k) p
+        → (c : ℤ) → c ≢ pos 0 →
+        (rest : List Step) → AreStepsBelow b p rest → (f : Coefficients) → ((x : Place) → f x ≡ c *ℤ shifted u (vector_at b k) x +ℤ steps_at b rest x)
+        → (r : Place) → IsLead f r → IsDivided b f r
     led p k u k_in long at_p reduces c nonzero rest below f is r lead = record {
       number = k;
       lead = lead_at b k;
@@ -173,7 +199,8 @@ module _ (b : List (List Term)) (entries : AreEntries b) where
         above : (x : Place) → IsBelow p x → f x ≡ pos 0
         above x l =
             let first : shifted u (vector_at b k) x ≡ pos 0 = shifted_above b entries u k long k_in x (subst (λ z. IsBelow z x) (sym at_p) l) in
-            let none : steps_at b rest x ≡ pos 0 = zero_over b entries x rest (at_weaker b entries (λ y. IsBelow y p) (λ y. IsBelow y x) (λ y m. order.transitive y p x m l) rest below) in
+            let none : steps_at b rest x ≡ pos 0 = zero_over b entries x rest (at_weaker b entries (λ y. IsBelow y p) (λ y. IsBelow y x)
+            (λ y m. order.transitive y p x m l) rest below) in
             is x ∙ ap (λ z. c *ℤ z +ℤ steps_at b rest x) first ∙ nothing c (steps_at b rest x) none
           where
             nothing : (a z : ℤ) → z ≡ pos 0 → a *ℤ pos 0 +ℤ z ≡ pos 0
@@ -189,7 +216,8 @@ module _ (b : List (List Term)) (entries : AreEntries b) where
         same : p ≡ r
         same = one_lead f p r lead_there lead
 
-    at_top : (p : Place) → InAll p → Rest p → (ss : List Step) → AreStepsAt (AtMost p) b ss → (f : Coefficients) → ((x : Place) → f x ≡ steps_at b ss x) → (r : Place) → IsLead f r → IsDivided b f r
+    at_top : (p : Place) → InAll p → Rest p → (ss : List Step) → AreStepsAt (AtMost p) b ss → (f : Coefficients) → ((x : Place) → f x ≡ steps_at b ss x)
+        → (r : Place) → IsLead f r → IsDivided b f r
     at_top p long rec ss h f is r lead = by (tops p ss) refl
       where
         by : (numbers : List ℕ) → tops p ss ≡ numbers → IsDivided b f r
@@ -197,7 +225,8 @@ module _ (b : List (List Term)) (entries : AreEntries b) where
         by (i ∷ numbers) e = covered (coverage b entries (closed G) p i numbers (subst (AllByRecursion (Reaches b p)) e (tops_reach p ss h)))
           where
             covered : (k : ℕ) × DividesAll b p (i ∷ numbers) k → IsDivided b f r
-            covered (k, all) = gathered (gather (closed S) p k u k_in u-length at_p ss h (subst (AllByRecursion (λ n. Divides (lead_at b k).k (lead_at b n).k)) (sym e) all.divides))
+            covered (k, all) = gathered (gather (closed S) p k u k_in u-length at_p ss h
+                (subst (AllByRecursion (λ n. Divides (lead_at b k).k (lead_at b n).k)) (sym e) all.divides))
               where
                 k_in : k < length b
                 k_in = all.reaches.0
@@ -224,8 +253,10 @@ module _ (b : List (List Term)) (entries : AreEntries b) where
                         none : (c a z : ℤ) → c ≡ pos 0 → c *ℤ a +ℤ z ≡ z
                         none c a z e = let gone : c *ℤ a ≡ pos 0 *ℤ a = ap (λ y. y *ℤ a) e in omega (arith, ints, gone)
 
-    divided_at : (p : Place) → Acc Lower p → InAll p → (ss : List Step) → AreStepsAt (AtMost p) b ss → (f : Coefficients) → ((x : Place) → f x ≡ steps_at b ss x) → (r : Place) → IsLead f r → IsDivided b f r
-    divided_at p (Acc.intro p' acc) long ss h f is r lead = at_top p long (λ q l rs g e is_e o lead_e. divided_at q (acc q l) l.0 rs g e is_e o lead_e) ss h f is r lead
+    divided_at : (p : Place) → Acc Lower p → InAll p → (ss : List Step) → AreStepsAt (AtMost p) b ss → (f : Coefficients)
+        → ((x : Place) → f x ≡ steps_at b ss x) → (r : Place) → IsLead f r → IsDivided b f r
+    divided_at p (Acc.intro p' acc) long ss h f is r lead = at_top p long (λ q l rs g e is_e o lead_e. divided_at q (acc q l) l.0 rs g e is_e o lead_e)
+        ss h f is r lead
 
     everywhere : (ss : List Step) → AreSteps b ss → AreStepsAt (λ x. Unit {0}) b ss
     everywhere [] h = tt
@@ -251,13 +282,19 @@ turned_multiple q t v w e =
     one : (z : ℤ) → z *ℤ pos 1 ≡ z
     one z = omega (arith, ints)
 
-pub over_list : (gens b : List (List Term)) → Holds gens b → (ss : List Step) → AreSteps gens ss → (rs : List Step) × AreSteps b rs × (sum_of_steps gens ss ≡ sum_of_steps b rs)
+pub over_list : (gens b : List (List Term)) → Holds gens b → (ss : List Step) → AreSteps gens ss
+    → (rs : List Step) × AreSteps b rs × (sum_of_steps gens ss ≡ sum_of_steps b rs)
 over_list gens b holds [] h = ([], tt, refl)
 over_list gens b holds (s ∷ ss) h = by (holds s.by h.0.1) (over_list gens b holds ss h.1)
   where
-    by : (j : ℕ) × (j < length b) × IsUpToSign (vector_at gens s.by) (vector_at b j) → (rs : List Step) × AreSteps b rs × (sum_of_steps gens ss ≡ sum_of_steps b rs) → (rs : List Step) × AreSteps b rs × (sum_of_steps gens (s ∷ ss) ≡ sum_of_steps b rs)
+    by : (j : ℕ) × (j < length b) × IsUpToSign (vector_at gens s.by) (vector_at b j) → (rs : List Step) × AreSteps b rs
+        × (sum_of_steps gens ss ≡ sum_of_steps b rs) → (rs : List Step) × AreSteps b rs × (sum_of_steps gens (s ∷ ss) ≡ sum_of_steps b rs)
     by (j, j_in, inl e) (rs, are, is) = (record { q = s.q; t = s.t; by = j } ∷ rs, ((h.0.0, j_in), are), λ n. multiple s.q s.t (sym e n) ++ is n)
-    by (j, j_in, inr e) (rs, are, is) = (record { q = s.q *ℤ negsuc 0; t = s.t; by = j } ∷ rs, ((h.0.0, j_in), are), λ n. sym (turned_multiple s.q s.t (vector_at gens s.by) (vector_at b j) e) n ++ is n)
+    by (j, j_in, inr e) (rs, are, is) = (
+      record { q = s.q *ℤ negsuc 0; t = s.t; by = j } ∷ rs,
+      ((h.0.0, j_in), are),
+      λ n. sym (turned_multiple s.q s.t (vector_at gens s.by) (vector_at b j) e) n ++ is n,
+    )
 
 -- ---- a vector is its multiple by 1
 rename_one : (v : List Term) → AllByRecursion IsTerm v → rename (moved one) (sum_of v) ≡ sum_of v
@@ -265,7 +302,8 @@ rename_one [] h = refl
 rename_one (t ∷ v) h = λ n. (t.k, record { m = product-one t.at.m h.0.place.variables n; c = t.at.c }) ∷ rename_one v h.1 n
 
 once : (v : List Term) → AllByRecursion IsTerm v → (x : Place) → coefficient same_place (multiple (pos 1) one v) x ≡ coefficient_at v x
-once v h x = coefficient-scale same_place (pos 1) (rename (moved one) (sum_of v)) x ∙ just (coefficient same_place (rename (moved one) (sum_of v)) x) ∙ ap (λ w. coefficient same_place w x) (rename_one v h)
+once v h x = coefficient-scale same_place (pos 1) (rename (moved one) (sum_of v)) x ∙ just (coefficient same_place (rename (moved one) (sum_of v)) x)
+    ∙ ap (λ w. coefficient same_place w x) (rename_one v h)
   where
     just : (z : ℤ) → pos 1 *ℤ z ≡ z
     just z = omega (arith, ints)
@@ -287,20 +325,27 @@ member gens b generating j h = by (generating.others j h)
     from q i i_in e = record {
       steps = record { q = q; t = one; by = i } ∷ [];
       are = ((refl, i_in), tt);
-      is = λ x. sym (once w terms x) ∙ ap (λ v. coefficient same_place v x) e ∙ alone (coefficient same_place (multiple q one (vector_at gens i)) x) ∙ sym (steps_at-cons gens (record { q = q; t = one; by = i }) [] x);
+      is = λ x. sym (once w terms x) ∙ ap (λ v. coefficient same_place v x) e ∙ alone (coefficient same_place (multiple q one (vector_at gens i)) x)
+          ∙ sym (steps_at-cons gens (record { q = q; t = one; by = i }) [] x);
     }
 
     from_sign : (i : ℕ) → i < length gens → IsUpToSign (vector_at gens i) w → InModule gens (coefficient_at w)
     from_sign i i_in (inl e) = from (pos 1) i i_in (ap (multiple (pos 1) one) e)
     from_sign i i_in (inr e) = from (negsuc 0) i i_in (turned_multiple (negsuc 0) one (vector_at gens i) w e)
 
-    by : ((i : ℕ) × (i < length gens) × IsUpToSign (vector_at gens i) (vector_at b j)) ⊎ InModule gens (coefficient_at (vector_at b j)) → InModule gens (coefficient_at (vector_at b j))
+    by : ((i : ℕ) × (i < length gens) × IsUpToSign (vector_at gens i) (vector_at b j)) ⊎ InModule gens (coefficient_at (vector_at b j))
+        → InModule gens (coefficient_at (vector_at b j))
     by (inl (i, i_in, up)) = from_sign i i_in up
     by (inr m) = m
 
 -- THE STRONG CRITERION
 pub criterion : (gens b : List (List Term)) → IsGenerating gens b → AllClosed b → IsStrong gens b
-criterion gens b generating closed = record { members = member gens b generating; divided = λ f p m lead. by f p m lead (over_list gens b generating.generators m.steps m.are) }
+criterion gens b generating closed = record {
+  members = member gens b generating;
+  divided =
+      λ f p m lead. by f p m lead (over_list gens b generating.generators m.steps m.are);
+}
   where
-    by : (f : Coefficients) (p : Place) → (m : InModule gens f) → IsLead f p → (rs : List Step) × AreSteps b rs × (sum_of_steps gens m.steps ≡ sum_of_steps b rs) → IsDivided b f p
+    by : (f : Coefficients) (p : Place) → (m : InModule gens f) → IsLead f p → (rs : List Step) × AreSteps b rs
+        × (sum_of_steps gens m.steps ≡ sum_of_steps b rs) → IsDivided b f p
     by f p m lead (rs, are, same) = divided b generating.entries closed rs are f (λ x. m.is x ∙ ap (λ v. coefficient same_place v x) same) p lead

@@ -33,9 +33,11 @@ less_is a c e = by (nat_lt a c) refl (a == c) refl
 
 -- by the component, where all with a lower monomial are done
 inner : (m : List ℕ) → ((q : Place) → Below VARIABLES q.m m → Acc Lower q) → (c : ℕ) → Acc ◌<◌ c → Acc Lower (record { m = m; c = c })
-inner m lower c (Acc.intro c' h) = Acc.intro (record { m = m; c = c }) (λ q l. by q l (parts (mono_cmp q.m m) (nat_cmp q.c c) l.2) (λ d less. inner m lower d (h d less)))
+inner m lower c (Acc.intro c' h) = Acc.intro (record { m = m; c = c }) (λ q l. by q l (parts (mono_cmp q.m m) (nat_cmp q.c c) l.2)
+    (λ d less. inner m lower d (h d less)))
   where
-    by : (q : Place) → Lower q (record { m = m; c = c }) → (mono_cmp q.m m ≡ Less) ⊎ ((mono_cmp q.m m ≡ Equal) × (nat_cmp q.c c ≡ Less)) → ((d : ℕ) → d < c → Acc Lower (record { m = m; c = d })) → Acc Lower q
+    by : (q : Place) → Lower q (record { m = m; c = c }) → (mono_cmp q.m m ≡ Less) ⊎ ((mono_cmp q.m m ≡ Equal) × (nat_cmp q.c c ≡ Less))
+        → ((d : ℕ) → d < c → Acc Lower (record { m = m; c = d })) → Acc Lower q
     by q l (inl e) before = lower q (l.0, l.1, e)
     by q l (inr (e, k)) before =
         let same : q.m ≡ m = (mono_cmp_exact q.m m).0 e in

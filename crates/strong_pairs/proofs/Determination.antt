@@ -46,7 +46,8 @@ same_factors S k l u v x y hk hl (d, g, first, second) (e, h, third, fourth) =
       cancel v y (pos d) some (second ∙ sym fourth ∙ ap (λ n. y *ℤ pos n) same),
     )
 same_factors G k l u v x y hk hl (d, g) (e, h) =
-    let same : d ≡ e = positive_same d e g.positive h.positive (same_from_IsGcd (unsigned_abs k) (unsigned_abs l) (unsigned_abs d) (unsigned_abs e) g.divisor h.divisor) in
+    let same : d ≡ e = positive_same d e g.positive h.positive (same_from_IsGcd (unsigned_abs k) (unsigned_abs l) (unsigned_abs d) (unsigned_abs e)
+    g.divisor h.divisor) in
     let one : u ≡ x = antisymmetric u x (g.least x y h.natural (h.sum ∙ sym same)) (h.least u v g.natural (g.sum ∙ same)) in (
       one,
       cancel v y l hl (same_rest (u *ℤ k) (v *ℤ l) (y *ℤ l) d g.sum (ap (λ z. z *ℤ k +ℤ y *ℤ l) one ∙ h.sum ∙ sym same)),
@@ -56,9 +57,11 @@ module _ (b : List (List Term)) (entries : AreEntries b) (kind : PairKind) (i j 
   i_in : i < length b
   i_in = let o : i < j = pair.order in let w : j < length b = pair.within in omega (arith, o, w)
 
-  pub same_steps : (first second third fourth : Step) → ArePairSteps kind b i j first second → ArePairSteps kind b i j third fourth → (first ≡ third) × (second ≡ fourth)
+  pub same_steps : (first second third fourth : Step) → ArePairSteps kind b i j first second → ArePairSteps kind b i j third fourth
+      → (first ≡ third) × (second ≡ fourth)
   same_steps first second third fourth a c =
-      let factors : (first.q ≡ third.q) × (second.q ≡ fourth.q) = same_factors kind (lead_at b i).k (lead_at b j).k first.q second.q third.q fourth.q (lead_positive b entries i i_in) (lead_positive b entries j pair.within) a.factors c.factors in
+      let factors : (first.q ≡ third.q) × (second.q ≡ fourth.q) = same_factors kind (lead_at b i).k (lead_at b j).k first.q second.q third.q fourth.q
+      (lead_positive b entries i i_in) (lead_positive b entries j pair.within) a.factors c.factors in
       let t = a.first_monomial ∙ sym c.first_monomial in
       let s = a.second_monomial ∙ sym c.second_monomial in
       let m = a.first_number ∙ sym c.first_number in

@@ -1,5 +1,6 @@
 -- A chain over a strong list ends in the one reduced vector.
-use Rattle.std.proofs.Common.{◌≡◌, ◌≢◌, ℕ, zero, suc, Bool, true, false, ◌⊎◌, inl, inr, ℤ, pos, negsuc, ◌+ℤ◌, ◌-ℤ◌, ◌*ℤ◌, List, [], ◌∷◌, length, ◌↔◌, refl, sym, ap, subst, ◌∙◌, arith}
+use Rattle.std.proofs.Common.{◌≡◌, ◌≢◌, ℕ, zero, suc, Bool, true, false, ◌⊎◌, inl, inr, ℤ, pos, negsuc, ◌+ℤ◌, ◌-ℤ◌, ◌*ℤ◌, List, [], ◌∷◌, length, ◌↔◌, refl, sym}
+use Rattle.std.proofs.Common.{ap, subst, ◌∙◌, arith}
 use borrow.Author.Differences.{ints}
 use Rattle.std.specs.Int.{int_div_euclid}
 use Rattle.std.specs.List.{AllByRecursion}
@@ -31,7 +32,8 @@ step_length b entries f s n =
     ∙ length-quotient n.lead.at.m n.place.m n.due.reducer.reduces.1
     ∙ (lead_of_entry_positive b entries s.by n.lead n.others n.due.reducer.entry).0
 
-pub chain_sum : (b : List (List Term)) → AreEntries b → (ss : List Step) (f g : Coefficients) → Chain b f ss g → AreSteps b ss × ((x : Place) → f x -ℤ g x ≡ steps_at b ss x)
+pub chain_sum : (b : List (List Term)) → AreEntries b → (ss : List Step) (f g : Coefficients) → Chain b f ss g
+    → AreSteps b ss × ((x : Place) → f x -ℤ g x ≡ steps_at b ss x)
 chain_sum b entries [] f g h = (tt, λ x. omega (arith, ints, h x))
 chain_sum b entries (s ∷ ss) f g h =
     let rest : AreSteps b ss × ((x : Place) → after b f s x -ℤ g x ≡ steps_at b ss x) = chain_sum b entries ss (after b f s) g h.1 in (
@@ -50,7 +52,8 @@ zero_or_not (pos (suc n)) = inr (λ e. absurd cc)
 zero_or_not (negsuc n) = inr (λ e. absurd cc)
 
 -- where an entry reduces the place, the coefficient is from 0 on and below the entry's
-pub at_end : (b : List (List Term)) → AreEntries b → (f : Coefficients) → IsEnd b f → (p : Place) (i : ℕ) (e : Term) (g : List Term) → Entry b i e g → Reduces e p → (pos 0 ≤ℤ f p) × (f p <ℤ e.k)
+pub at_end : (b : List (List Term)) → AreEntries b → (f : Coefficients) → IsEnd b f → (p : Place) (i : ℕ) (e : Term) (g : List Term) → Entry b i e g
+    → Reduces e p → (pos 0 ≤ℤ f p) × (f p <ℤ e.k)
 at_end b entries f end p i e g entry reduces = by (reducer_there b entries p i e g entry reduces)
   where
     by : (j : ℕ) × (d : Term) × (h : List Term) × IsReducer b p j d h → (pos 0 ≤ℤ f p) × (f p <ℤ e.k)
@@ -81,7 +84,8 @@ module _ (gens b : List (List Term)) (entries : AreEntries b) (strong : IsStrong
   -- EXACTNESS
   pub reduced : (f g : Coefficients) (ss : List Step) → Chain b f ss g → IsEnd b g → IsReduced gens f g
   reduced f g ss chain end = record {
-    differs = let sum : AreSteps b ss × ((x : Place) → f x -ℤ g x ≡ steps_at b ss x) = chain_sum b entries ss f g chain in module_same gens (steps_at b ss) (difference_at f g) sum.1 (sum_in gens b strong.members ss sum.0);
+    differs = let sum : AreSteps b ss × ((x : Place) → f x -ℤ g x ≡ steps_at b ss x) = chain_sum b entries ss f g chain
+        in module_same gens (steps_at b ss) (difference_at f g) sum.1 (sum_in gens b strong.members ss sum.0);
     remainder = λ h p member lead positive. by h p lead positive (strong.divided h p member lead);
   }
     where
@@ -104,7 +108,8 @@ module _ (gens b : List (List Term)) (entries : AreEntries b) (strong : IsStrong
   }
 
   -- the end is empty exactly for members
-  pub empty_for_members : (f : Coefficients) (w : List Term) (ss : List Step) → IsSparse w → Chain b f ss (coefficient_at w) → IsEnd b (coefficient_at w) → (w ≡ []) ↔ InModule gens f
+  pub empty_for_members : (f : Coefficients) (w : List Term) (ss : List Step) → IsSparse w → Chain b f ss (coefficient_at w) → IsEnd b (coefficient_at w)
+      → (w ≡ []) ↔ InModule gens f
   empty_for_members f w ss sparse chain end = (forth, back w sparse end rest)
     where
       differs : InModule gens (difference_at f (coefficient_at w))
@@ -159,7 +164,8 @@ module _ (f : Coefficients) where
   top_key [] = inl tt
   top_key (t ∷ v) = by (zero_or_not (f t.1)) (top_key v)
     where
-      by : (f t.1 ≡ pos 0) ⊎ (f t.1 ≢ pos 0) → ZeroAt v ⊎ ((p : Place) × (f p ≢ pos 0) × ZeroAbove p v) → ZeroAt (t ∷ v) ⊎ ((p : Place) × (f p ≢ pos 0) × ZeroAbove p (t ∷ v))
+      by : (f t.1 ≡ pos 0) ⊎ (f t.1 ≢ pos 0) → ZeroAt v ⊎ ((p : Place) × (f p ≢ pos 0) × ZeroAbove p v)
+          → ZeroAt (t ∷ v) ⊎ ((p : Place) × (f p ≢ pos 0) × ZeroAbove p (t ∷ v))
       by (inl z) (inl h) = inl (z, h)
       by (inl z) (inr (p, n, h)) = inr (p, n, ((λ l. z), h))
       by (inr n) (inl h) = inr (t.1, n, ((λ l. absurd (order.irreflexive t.1 l)), weaker t.1 v h))
@@ -171,7 +177,8 @@ module _ (f : Coefficients) where
           three (inr (inr l)) = inr (p, m, ((λ k. absurd (order.irreflexive p (order.transitive p t.1 p k l))), h))
 
 -- a finite sum is 0 or has a lead place
-pub zero_or_lead : (f : Coefficients) (v : FormalSum Place) → ((x : Place) → f x ≡ coefficient same_place v x) → ((x : Place) → f x ≡ pos 0) ⊎ ((p : Place) × IsLead f p)
+pub zero_or_lead : (f : Coefficients) (v : FormalSum Place) → ((x : Place) → f x ≡ coefficient same_place v x)
+    → ((x : Place) → f x ≡ pos 0) ⊎ ((p : Place) × IsLead f p)
 zero_or_lead f v is = by (top_key f v)
   where
     by : ZeroAt f v ⊎ ((p : Place) × (f p ≢ pos 0) × ZeroAbove f p v) → ((x : Place) → f x ≡ pos 0) ⊎ ((p : Place) × IsLead f p)

@@ -1,5 +1,6 @@
 -- A closed S task carries a multiple of one entry over to the other: what is left are multiples with lower lead places.
-use Rattle.std.proofs.Common.{◌≡◌, ℕ, ◌+◌, ◌<◌, max, true, ℤ, pos, negsuc, neg_ℤ, ◌+ℤ◌, ◌*ℤ◌, List, [], ◌++◌, length, ◌⊎◌, inl, inr, refl, sym, ap, subst, ◌∙◌, arith}
+use Rattle.std.proofs.Common.{◌≡◌, ℕ, ◌+◌, ◌<◌, max, true, ℤ, pos, negsuc, neg_ℤ, ◌+ℤ◌, ◌*ℤ◌, List, [], ◌++◌, length, ◌⊎◌, inl, inr, refl, sym, ap, subst, ◌∙◌}
+use Rattle.std.proofs.Common.{arith}
 use borrow.Author.Differences.{ints}
 use Rattle.std.specs.Int.{IsGcd, ◌∣◌}
 use Rattle.std.specs.Prelude.{unsigned_abs, ◌<ℤ◌}
@@ -64,7 +65,8 @@ dvd_abs k l (f, e) = subst (λ n. unsigned_abs k ∣ n) (sym (ap unsigned_abs e 
 
 -- where l divides k, it is the greatest common divisor of both
 gcd_is : (k l : ℤ) (d : ℕ) → pos 0 <ℤ l → Divides l k → IsGcd (unsigned_abs k) (unsigned_abs l) d → pos d ≡ l
-gcd_is k l d h dv g = ap pos (same_from_IsGcd (unsigned_abs k) (unsigned_abs l) d (unsigned_abs l) g (dvd_abs l k dv, dvd_refl (unsigned_abs l), λ e x y. y)) ∙ positive_is l h
+gcd_is k l d h dv g = ap pos (same_from_IsGcd (unsigned_abs k) (unsigned_abs l) d (unsigned_abs l) g (dvd_abs l k dv, dvd_refl (unsigned_abs l), λ e x y. y))
+    ∙ positive_is l h
 
 one_times : (z : ℤ) → pos 1 *ℤ z ≡ z
 one_times z = omega (arith, ints)
@@ -88,9 +90,11 @@ up_factors k l f u v h e (d, g, first, second) =
     minus z = omega (arith, ints)
 
 -- ---- a multiple of a multiple
-multiple_moved : (q : ℤ) (t s : List ℕ) (v : List Term) (x : Place) → coefficient same_place (rename (moved t) (multiple q s v)) x ≡ q *ℤ shifted (product t s) v x
+multiple_moved : (q : ℤ) (t s : List ℕ) (v : List Term) (x : Place) → coefficient same_place (rename (moved t) (multiple q s v)) x
+    ≡ q *ℤ shifted (product t s) v x
 multiple_moved q t s v x =
-    ap (λ w. coefficient same_place w x) (rename-scale (moved t) q (rename (moved s) (sum_of v)) ∙ ap (scale q) (rename-rename (moved t) (moved s) (sum_of v) ∙ λ i. rename (λ p. moved-moved t s p i) (sum_of v)))
+    ap (λ w. coefficient same_place w x) (rename-scale (moved t) q (rename (moved s) (sum_of v))
+    ∙ ap (scale q) (rename-rename (moved t) (moved s) (sum_of v) ∙ λ i. rename (λ p. moved-moved t s p i) (sum_of v)))
     ∙ coefficient-scale same_place q (rename (moved (product t s)) (sum_of v)) x
 
 module _ (b : List (List Term)) (entries : AreEntries b) where
@@ -150,7 +154,10 @@ module _ (b : List (List Term)) (entries : AreEntries b) where
       v = quotient p.m w
 
       w_divides : divides w p.m ≡ true
-      w_divides = (divides-common_multiple mi mj p.m (mi-length ∙ sym mj-length)).1 (divides-multiple t mi p.m (meet.t-length ∙ sym mi-length) t-is, divides-multiple u mj p.m (meet.u-length ∙ sym mj-length) u-is)
+      w_divides = (divides-common_multiple mi mj p.m (mi-length ∙ sym mj-length)).1 (
+        divides-multiple t mi p.m (meet.t-length ∙ sym mi-length) t-is,
+        divides-multiple u mj p.m (meet.u-length ∙ sym mj-length) u-is,
+      )
 
       v-is : product v w ≡ p.m
       v-is = quotient-back w p.m (w-length ∙ sym p-length) w_divides
@@ -162,7 +169,8 @@ module _ (b : List (List Term)) (entries : AreEntries b) where
       way m s long s-length is d =
           let back : product (quotient w m) m ≡ w = quotient-back m w (long ∙ sym w-length) d in
           let q-length : length (quotient w m) ≡ VARIABLES = length-quotient m w d ∙ long in
-          product-cancel s (product v (quotient w m)) m (s-length ∙ sym long) (length-combined (λ a c. a + c) v (quotient w m) (v-length ∙ sym q-length) ∙ v-length ∙ sym long)
+          product-cancel s (product v (quotient w m)) m (s-length ∙ sym long) (length-combined (λ a c. a + c) v (quotient w m) (v-length ∙ sym q-length)
+          ∙ v-length ∙ sym long)
           (is ∙ sym v-is ∙ ap (product v) (sym back) ∙ sym (product_assoc v (quotient w m) m))
 
       both_divide : (divides mi w ≡ true) × (divides mj w ≡ true)
@@ -176,7 +184,8 @@ module _ (b : List (List Term)) (entries : AreEntries b) where
           let gi : List Term = vector_at b first.by in
           let gj : List Term = vector_at b second.by in
           let whole : FormalSum Place = multiple first.q first.t gi ++ multiple second.q second.t gj in
-          let same : (x : Place) → coefficient same_place whole x ≡ steps_at b sum.steps x = λ x. coefficient-append same_place (multiple first.q first.t gi) (multiple second.q second.t gj) x ∙ sum.is x in
+          let same : (x : Place) → coefficient same_place whole x ≡ steps_at b sum.steps x =
+          λ x. coefficient-append same_place (multiple first.q first.t gi) (multiple second.q second.t gj) x ∙ sum.is x in
           let t-way : product v first.t ≡ t = ap (product v) are.first_monomial ∙ sym (way mi t mi-length meet.t-length t-is both_divide.0) in
           let u-way : product v second.t ≡ u = ap (product v) are.second_monomial ∙ sym (way mj u mj-length meet.u-length u-is both_divide.1) in
           record {
@@ -184,9 +193,11 @@ module _ (b : List (List Term)) (entries : AreEntries b) where
             r = second.q;
             factors = are.factors;
             steps = carried (pos 1) v sum.steps;
-            below = subst (λ z. AreStepsBelow b z (carried (pos 1) v sum.steps)) place_is (below_carried b entries (pair_place b i j) (pos 1) v v-length w-length sum.steps sum.below);
+            below = subst (λ z. AreStepsBelow b z (carried (pos 1) v sum.steps)) place_is
+                (below_carried b entries (pair_place b i j) (pos 1) v v-length w-length sum.steps sum.below);
             is = λ x.
-                (λ n. first.q *ℤ shifted (sym t-way n) (vector_at b (sym are.first_number n)) x +ℤ second.q *ℤ shifted (sym u-way n) (vector_at b (sym are.second_number n)) x)
+                (λ n. first.q *ℤ shifted (sym t-way n) (vector_at b (sym are.first_number n)) x +ℤ second.q *ℤ shifted (sym u-way n)
+                (vector_at b (sym are.second_number n)) x)
                 ∙ (λ n. sym (multiple_moved first.q v first.t gi x) n +ℤ sym (multiple_moved second.q v second.t gj x) n)
                 ∙ sym (coefficient-append same_place (rename (moved v) (multiple first.q first.t gi)) (rename (moved v) (multiple second.q second.t gj)) x)
                 ∙ ap (λ z. coefficient same_place z x) (sym (rename-append (moved v) (multiple first.q first.t gi) (multiple second.q second.t gj)))
@@ -196,7 +207,8 @@ module _ (b : List (List Term)) (entries : AreEntries b) where
 
   -- a multiple of entry i as one of entry k, whose lead coefficient divides that of i
   abbrev pub Exchanged : ℕ → ℕ → List ℕ → List ℕ → Place → ℤ → Type 0
-  Exchanged i k t u p f = (steps : List Step) × AreStepsBelow b p steps × ((x : Place) → shifted t (vector_at b i) x ≡ f *ℤ shifted u (vector_at b k) x +ℤ steps_at b steps x)
+  Exchanged i k t u p f = (steps : List Step) × AreStepsBelow b p steps × ((x : Place)
+      → shifted t (vector_at b i) x ≡ f *ℤ shifted u (vector_at b k) x +ℤ steps_at b steps x)
 
   module _ (closed : AreClosed b S) where
     task : (i j : ℕ) (t u : List ℕ) (p : Place) → i < j → Meets i j t u p → IsClosed b S i j
@@ -225,7 +237,8 @@ module _ (b : List (List Term)) (entries : AreEntries b) where
         by : (i < k) ⊎ ((i ≡ k) ⊎ (k < i)) → Exchanged i k t u p f
         by (inl l) =
             let c : PairCarried i k t u p = pair_carried i k t u p (task i k t u p l meet) meet in
-            let are : (c.q ≡ pos 1) × (c.r ≡ neg_ℤ f) = down_factors (lead_at b i).k (lead_at b k).k f c.q c.r (lead_positive b entries k meet.j_in) e c.factors in
+            let are : (c.q ≡ pos 1) × (c.r ≡ neg_ℤ f) = down_factors (lead_at b i).k (lead_at b k).k f c.q c.r (lead_positive b entries k meet.j_in)
+            e c.factors in
             (c.steps, c.below, λ x. down c.q c.r f (shifted t (vector_at b i) x) (shifted u (vector_at b k) x) (steps_at b c.steps x) are.0 are.1 (c.is x))
         by (inr (inr l)) =
             let turned : Meets k i u t p = swapped i k t u p meet in
@@ -233,10 +246,13 @@ module _ (b : List (List Term)) (entries : AreEntries b) where
             let are : (c.q ≡ f) × (c.r ≡ negsuc 0) = up_factors (lead_at b k).k (lead_at b i).k f c.q c.r (lead_positive b entries k meet.j_in) e c.factors in (
               scaled (negsuc 0) c.steps,
               at_scaled b entries (λ x. IsBelow x p) (negsuc 0) c.steps c.below,
-              λ x. up c.q c.r f (shifted t (vector_at b i) x) (shifted u (vector_at b k) x) (steps_at b c.steps x) (steps_at b (scaled (negsuc 0) c.steps) x) are.0 are.1 (c.is x) (steps_at-scaled b (negsuc 0) c.steps x),
+              λ x. up c.q c.r f (shifted t (vector_at b i) x) (shifted u (vector_at b k) x) (steps_at b c.steps x) (steps_at b (scaled (negsuc 0) c.steps) x)
+                  are.0 are.1 (c.is x) (steps_at-scaled b (negsuc 0) c.steps x),
             )
         by (inr (inl s)) =
             let long : length (lead_at b i).at.m ≡ VARIABLES = lead_length b entries i meet.i_in in
-            let tu : t ≡ u = product-cancel t u (lead_at b i).at.m (meet.t-length ∙ sym long) (meet.u-length ∙ sym long) ((λ n. (meet.first n).m) ∙ sym (λ n. (meet.second n).m) ∙ ap (λ z. product u (lead_at b z).at.m) (sym s)) in
-            let unit : f ≡ pos 1 = cancel f (pos 1) (lead_at b i).k (lead_positive b entries i meet.i_in) (ap (λ z. f *ℤ (lead_at b z).k) s ∙ sym e ∙ sym (one_times (lead_at b i).k)) in
+            let tu : t ≡ u = product-cancel t u (lead_at b i).at.m (meet.t-length ∙ sym long) (meet.u-length ∙ sym long) ((λ n. (meet.first n).m)
+            ∙ sym (λ n. (meet.second n).m) ∙ ap (λ z. product u (lead_at b z).at.m) (sym s)) in
+            let unit : f ≡ pos 1 = cancel f (pos 1) (lead_at b i).k (lead_positive b entries i meet.i_in) (ap (λ z. f *ℤ (lead_at b z).k) s ∙ sym e
+            ∙ sym (one_times (lead_at b i).k)) in
             ([], tt, λ x. equal f (shifted t (vector_at b i) x) (shifted u (vector_at b k) x) unit (λ n. shifted (tu n) (vector_at b (s n)) x))

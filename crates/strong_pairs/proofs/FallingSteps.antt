@@ -43,7 +43,8 @@ module _ (b : List (List Term)) (entries : AreEntries b) (P : Place → Type 0) 
     same_lead = entry_lead b s.by n.lead n.others n.due.reducer.entry
 
     unmoved : (x : Place) → IsBelow n.place x → after b f s x ≡ f x
-    unmoved x l = untaken (f x) (taken_at b s x) (taken_is b s x ∙ ap (λ z. s.q *ℤ z) (shifted_above b entries s.t s.by long number x (subst (λ z. IsBelow z x) (sym at_due) l)) ∙ nothing s.q)
+    unmoved x l = untaken (f x) (taken_at b s x) (taken_is b s x
+        ∙ ap (λ z. s.q *ℤ z) (shifted_above b entries s.t s.by long number x (subst (λ z. IsBelow z x) (sym at_due) l)) ∙ nothing s.q)
       where
         nothing : (a : ℤ) → a *ℤ pos 0 ≡ pos 0
         nothing a = omega (arith, ints)
@@ -53,7 +54,8 @@ module _ (b : List (List Term)) (entries : AreEntries b) (P : Place → Type 0) 
 
     left : int_div_euclid (after b f s n.place) n.lead.k ≡ pos 0
     left =
-        ap (λ z. int_div_euclid z n.lead.k) (ap (λ z. f n.place -ℤ z) (taken_is b s n.place ∙ (λ i. n.factor i *ℤ taken_lead i)) ∙ turned (f n.place) (int_div_euclid (f n.place) n.lead.k *ℤ n.lead.k))
+        ap (λ z. int_div_euclid z n.lead.k) (ap (λ z. f n.place -ℤ z) (taken_is b s n.place ∙ (λ i. n.factor i *ℤ taken_lead i))
+        ∙ turned (f n.place) (int_div_euclid (f n.place) n.lead.k *ℤ n.lead.k))
         ∙ floor_left (f n.place) n.lead.k (lead_of_entry_positive b entries s.by n.lead n.others n.due.reducer.entry).1
       where
         turned : (a c : ℤ) → a -ℤ c ≡ a +ℤ neg_ℤ c
@@ -63,7 +65,10 @@ module _ (b : List (List Term)) (entries : AreEntries b) (P : Place → Type 0) 
         taken_lead = ap (shifted s.t (vector_at b s.by)) (sym at_due) ∙ shifted_lead b entries s.t s.by long number ∙ ap (λ (u : Term). u.k) same_lead
 
     rests_after : RestsFrom n.place (after b f s)
-    rests_after x (inr l) i e g due = n.greatest x l i e g (record { reducer = due.reducer; moves = λ none. due.moves (ap (λ z. int_div_euclid z e.k) (unmoved x l) ∙ none) })
+    rests_after x (inr l) i e g due = n.greatest x l i e g (record {
+      reducer = due.reducer;
+      moves = λ none. due.moves (ap (λ z. int_div_euclid z e.k) (unmoved x l) ∙ none);
+    })
     rests_after x (inl q) i e g due = by (subst (λ z. IsDue b (after b f s) z i e g) (sym q) due)
       where
         by : IsDue b (after b f s) n.place i e g → ⊥
@@ -72,13 +77,15 @@ module _ (b : List (List Term)) (entries : AreEntries b) (P : Place → Type 0) 
             let lead : e ≡ n.lead = sym (entry_lead b i e g d.reducer.entry) ∙ ap (lead_at b) one ∙ same_lead in
             d.moves (ap (λ (u : Term). int_div_euclid (after b f s n.place) u.k) lead ∙ left)
 
-  falls : (ss : List Step) (f g : Coefficients) → Chain b f ss g → StandsAt P f → (q : Place) → RestsFrom q f → AllBelow IsBelow q (step_places b ss) × Falling IsBelow (step_places b ss)
+  falls : (ss : List Step) (f g : Coefficients) → Chain b f ss g → StandsAt P f → (q : Place) → RestsFrom q f
+      → AllBelow IsBelow q (step_places b ss) × Falling IsBelow (step_places b ss)
   falls [] f g chain stands q rests = (tt, tt)
   falls (s ∷ ss) f g chain stands q rests =
       let n : IsNext b f s = chain.0 in
       let place : step_place b s ≡ chain.0.place = at_due f stands s chain.0 in
       let stands_on : StandsAt P (after b f s) = after_stands b entries P down f stands s (step_stands b entries P down f stands s chain.0) in
-      let rest : AllBelow IsBelow chain.0.place (step_places b ss) × Falling IsBelow (step_places b ss) = falls ss (after b f s) g chain.1 stands_on chain.0.place (rests_after f stands s chain.0) in
+      let rest : AllBelow IsBelow chain.0.place (step_places b ss) × Falling IsBelow (step_places b ss) =
+      falls ss (after b f s) g chain.1 stands_on chain.0.place (rests_after f stands s chain.0) in
       let here : IsBelow (step_place b s) q = subst (λ z. IsBelow z q) (sym place) (lower (order.total chain.0.place q)) in
       let others : AllBelow IsBelow (step_place b s) (step_places b ss) = subst (λ z. AllBelow IsBelow z (step_places b ss)) (sym place) rest.0 in
       ((here, AllBelow_transitive test order (step_place b s) q here (step_places b ss) others), (others, rest.1))
@@ -93,5 +100,6 @@ module _ (b : List (List Term)) (entries : AreEntries b) (P : Place → Type 0) 
   chain_falls (s ∷ ss) f g stands chain =
       let place : step_place b s ≡ chain.0.place = at_due f stands s chain.0 in
       let stands_on : StandsAt P (after b f s) = after_stands b entries P down f stands s (step_stands b entries P down f stands s chain.0) in
-      let rest : AllBelow IsBelow chain.0.place (step_places b ss) × Falling IsBelow (step_places b ss) = falls ss (after b f s) g chain.1 stands_on chain.0.place (rests_after f stands s chain.0) in
+      let rest : AllBelow IsBelow chain.0.place (step_places b ss) × Falling IsBelow (step_places b ss) =
+      falls ss (after b f s) g chain.1 stands_on chain.0.place (rests_after f stands s chain.0) in
       (subst (λ z. AllBelow IsBelow z (step_places b ss)) (sym place) rest.0, rest.1)

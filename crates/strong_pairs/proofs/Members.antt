@@ -36,7 +36,8 @@ length-product t s n e f = length-combined (λ a b. a + b) t s (e ∙ sym f) ∙
 module _ (b : List (List Term)) where
   pub sum-append : (ss rs : List Step) → sum_of_steps b (ss ++ rs) ≡ sum_of_steps b ss ++ sum_of_steps b rs
   sum-append [] rs = refl
-  sum-append (s ∷ ss) rs = ap (λ v. multiple s.q s.t (vector_at b s.by) ++ v) (sum-append ss rs) ∙ sym (append_assoc (multiple s.q s.t (vector_at b s.by)) (sum_of_steps b ss) (sum_of_steps b rs))
+  sum-append (s ∷ ss) rs = ap (λ v. multiple s.q s.t (vector_at b s.by) ++ v) (sum-append ss rs)
+      ∙ sym (append_assoc (multiple s.q s.t (vector_at b s.by)) (sum_of_steps b ss) (sum_of_steps b rs))
 
   pub sum-scaled : (q : ℤ) (ss : List Step) → sum_of_steps b (scaled q ss) ≡ scale q (sum_of_steps b ss)
   sum-scaled q [] = refl
@@ -44,7 +45,8 @@ module _ (b : List (List Term)) where
       (λ i. sym (scale-scale q s.q (rename (moved s.t) (sum_of (vector_at b s.by)))) i ++ sum-scaled q ss i)
       ∙ sym (scale-append q (multiple s.q s.t (vector_at b s.by)) (sum_of_steps b ss))
 
-  one-carried : (q p : ℤ) (t s : List ℕ) (v : FormalSum Place) → scale (q *ℤ p) (rename (moved (product t s)) v) ≡ scale q (rename (moved t) (scale p (rename (moved s) v)))
+  one-carried : (q p : ℤ) (t s : List ℕ) (v : FormalSum Place) → scale (q *ℤ p) (rename (moved (product t s)) v)
+      ≡ scale q (rename (moved t) (scale p (rename (moved s) v)))
   one-carried q p t s v =
       sym (scale-scale q p (rename (moved (product t s)) v))
       ∙ ap (λ w. scale q (scale p w)) ((λ i. rename (λ x. sym (moved-moved t s x) i) v) ∙ sym (rename-rename (moved t) (moved s) v))
@@ -68,7 +70,8 @@ module _ (b : List (List Term)) where
   steps_at-scaled q ss x = ap (λ v. coefficient same_place v x) (sum-scaled q ss) ∙ coefficient-scale same_place q (sum_of_steps b ss) x
 
   -- what has the coefficients of a sum of steps has them still when both are carried
-  pub carried_same : (q : ℤ) (t : List ℕ) (v : FormalSum Place) (ss : List Step) → ((x : Place) → coefficient same_place v x ≡ steps_at b ss x) → (x : Place) → coefficient same_place (scale q (rename (moved t) v)) x ≡ steps_at b (carried q t ss) x
+  pub carried_same : (q : ℤ) (t : List ℕ) (v : FormalSum Place) (ss : List Step) → ((x : Place) → coefficient same_place v x ≡ steps_at b ss x) → (x : Place)
+      → coefficient same_place (scale q (rename (moved t) v)) x ≡ steps_at b (carried q t ss) x
   carried_same q t v ss h x =
       coefficient-scale same_place q (rename (moved t) v) x
       ∙ ap (λ z. q *ℤ z) (Same-rename test same_place (moved t) v (sum_of_steps b ss) h x)
@@ -93,18 +96,21 @@ module _ (b : List (List Term)) where
 pub module_same : (gens : List (List Term)) (f g : Coefficients) → ((x : Place) → g x ≡ f x) → InModule gens f → InModule gens g
 module_same gens f g e h = record { steps = h.steps; are = h.are; is = λ x. e x ∙ h.is x }
 
-pub module_difference : (gens : List (List Term)) (f g h : Coefficients) → InModule gens f → InModule gens g → ((x : Place) → h x ≡ f x -ℤ g x) → InModule gens h
+pub module_difference : (gens : List (List Term)) (f g h : Coefficients) → InModule gens f → InModule gens g → ((x : Place) → h x ≡ f x -ℤ g x)
+    → InModule gens h
 module_difference gens f g h p q e = record {
   steps = p.steps ++ scaled (negsuc 0) q.steps;
   are = are_append gens p.steps (scaled (negsuc 0) q.steps) p.are (are_scaled gens (negsuc 0) q.steps q.are);
-  is = λ x. solve (f x) (g x) (h x) (steps_at gens p.steps x) (steps_at gens q.steps x) (steps_at gens (scaled (negsuc 0) q.steps) x) (e x) (p.is x) (q.is x) (steps_at-scaled gens (negsuc 0) q.steps x) ∙ sym (steps_at-append gens p.steps (scaled (negsuc 0) q.steps) x);
+  is = λ x. solve (f x) (g x) (h x) (steps_at gens p.steps x) (steps_at gens q.steps x) (steps_at gens (scaled (negsuc 0) q.steps) x) (e x) (p.is x) (q.is x)
+      (steps_at-scaled gens (negsuc 0) q.steps x) ∙ sym (steps_at-append gens p.steps (scaled (negsuc 0) q.steps) x);
 }
   where
     solve : (f g h a c d : ℤ) → h ≡ f -ℤ g → f ≡ a → g ≡ c → d ≡ negsuc 0 *ℤ c → h ≡ a +ℤ d
     solve f g h a c d e p q r = omega (arith, ints)
 
 -- sums of multiples of members are members
-pub sum_in : (gens b : List (List Term)) → ((i : ℕ) → i < length b → InModule gens (coefficient_at (vector_at b i))) → (ss : List Step) → AreSteps b ss → InModule gens (steps_at b ss)
+pub sum_in : (gens b : List (List Term)) → ((i : ℕ) → i < length b → InModule gens (coefficient_at (vector_at b i))) → (ss : List Step) → AreSteps b ss
+    → InModule gens (steps_at b ss)
 sum_in gens b members [] h = record { steps = []; are = tt; is = λ x. refl }
 sum_in gens b members (s ∷ ss) h =
     let rest : InModule gens (steps_at b ss) = sum_in gens b members ss h.1 in

@@ -1,5 +1,6 @@
 -- Where an entry reduces a place, the place has a reducer.
-use Rattle.std.proofs.Common.{◌≡◌, ℕ, zero, suc, ◌+◌, ◌<◌, ◌≤◌, Bool, true, false, nat_eq, ◌⊎◌, inl, inr, ℤ, pos, List, [], ◌∷◌, ◌++◌, length, take, refl, sym, ap, subst, ◌∙◌, arith}
+use Rattle.std.proofs.Common.{◌≡◌, ℕ, zero, suc, ◌+◌, ◌<◌, ◌≤◌, Bool, true, false, nat_eq, ◌⊎◌, inl, inr, ℤ, pos, List, [], ◌∷◌, ◌++◌, length, take, refl, sym}
+use Rattle.std.proofs.Common.{ap, subst, ◌∙◌, arith}
 use borrow.Author.Differences.{ints}
 use Rattle.std.specs.Prelude.{◌<ℤ◌, ◌≤ℤ◌, Some, slice_get}
 use Rattle.std.proofs.lemmas.List.{take_all}
@@ -14,7 +15,8 @@ use Rattle.module_vec.proofs.Scans.{read_push, read_push_old, read_push_new, rea
 use Rattle.strong_pairs.specs.Pairs.{lead_at}
 use Rattle.strong_pairs.proofs.Entered.{first_same, read_at, vector_is, lead_positive, entry_number, entry_lead, lead_length, behind}
 
-pub lead_of_entry_positive : (b : List (List Term)) → AreEntries b → (i : ℕ) (e : Term) (g : List Term) → Entry b i e g → (length e.at.m ≡ VARIABLES) × (pos 0 <ℤ e.k)
+pub lead_of_entry_positive : (b : List (List Term)) → AreEntries b → (i : ℕ) (e : Term) (g : List Term) → Entry b i e g
+    → (length e.at.m ≡ VARIABLES) × (pos 0 <ℤ e.k)
 lead_of_entry_positive b entries i e g entry =
     let h : i < length b = entry_number b i (e ∷ g) entry in
     let same = entry_lead b i e g entry in
@@ -55,11 +57,13 @@ module _ (b : List (List Term)) (v others : List Term) (lead : Term) (is : v ≡
     first = λ j f h entry reduces. by j f h reduces (read_push v b j (f ∷ h) entry);
   }
     where
-      by : (j : ℕ) (f : Term) (h : List Term) → Reduces f p → ((slice_get b j ≡ Some (f ∷ h)) × (j < length b)) ⊎ ((j ≡ length b) × (v ≡ f ∷ h)) → GoesBefore e.k i f.k j
+      by : (j : ℕ) (f : Term) (h : List Term) → Reduces f p → ((slice_get b j ≡ Some (f ∷ h)) × (j < length b)) ⊎ ((j ≡ length b) × (v ≡ f ∷ h))
+          → GoesBefore e.k i f.k j
       by j f h reduces (inl old) = r.first j f h old.0 reduces
       by j f h reduces (inr new) =
           let same : lead ≡ f = new_lead f h new.1 in
-          subst (λ n. GoesBefore e.k i f.k n) (sym new.0) (subst (λ (t : Term). GoesBefore e.k i t.k (length b)) same (before (subst (λ t. Reduces t p) (sym same) reduces)))
+          subst (λ n. GoesBefore e.k i f.k n) (sym new.0) (subst (λ (t : Term). GoesBefore e.k i t.k (length b)) same
+          (before (subst (λ t. Reduces t p) (sym same) reduces)))
 
   -- it goes before all earlier ones
   new : Reduces lead p → ((j : ℕ) (f : Term) (h : List Term) → Entry b j f h → Reduces f p → lead.k <ℤ f.k) → IsReducer (b ++ v ∷ []) p (length b) lead others
@@ -69,7 +73,8 @@ module _ (b : List (List Term)) (v others : List Term) (lead : Term) (is : v ≡
     first = λ j f h entry reduces. by j f h reduces (read_push v b j (f ∷ h) entry);
   }
     where
-      by : (j : ℕ) (f : Term) (h : List Term) → Reduces f p → ((slice_get b j ≡ Some (f ∷ h)) × (j < length b)) ⊎ ((j ≡ length b) × (v ≡ f ∷ h)) → GoesBefore lead.k (length b) f.k j
+      by : (j : ℕ) (f : Term) (h : List Term) → Reduces f p → ((slice_get b j ≡ Some (f ∷ h)) × (j < length b)) ⊎ ((j ≡ length b) × (v ≡ f ∷ h))
+          → GoesBefore lead.k (length b) f.k j
       by j f h reduces (inl old) = inl (less j f h old.0 reduces)
       by j f h reduces (inr last) = inr (ap (λ (t : Term). t.k) (new_lead f h last.1), omega (arith, last.0))
 
@@ -99,8 +104,10 @@ scan b entries p (suc n) h =
     subst (λ l. Unreduced l p ⊎ Reduced l p) (sym longer)
     (more (take n b) (vector_at b n) (behind (vector_at b n)) (lead_at b n) (vector_is b entries n within) p (scan b entries p n (omega arith)))
 
-pub reducer_there : (b : List (List Term)) → AreEntries b → (p : Place) (i : ℕ) (e : Term) (g : List Term) → Entry b i e g → Reduces e p → (j : ℕ) × (d : Term) × (h : List Term) × IsReducer b p j d h
-reducer_there b entries p i e g entry reduces = by (subst (λ l. Unreduced l p ⊎ Reduced l p) (take_all (length b) b (omega arith)) (scan b entries p (length b) (omega arith)))
+pub reducer_there : (b : List (List Term)) → AreEntries b → (p : Place) (i : ℕ) (e : Term) (g : List Term) → Entry b i e g → Reduces e p
+    → (j : ℕ) × (d : Term) × (h : List Term) × IsReducer b p j d h
+reducer_there b entries p i e g entry reduces =
+    by (subst (λ l. Unreduced l p ⊎ Reduced l p) (take_all (length b) b (omega arith)) (scan b entries p (length b) (omega arith)))
   where
     by : Unreduced b p ⊎ Reduced b p → (j : ℕ) × (d : Term) × (h : List Term) × IsReducer b p j d h
     by (inl none) = absurd (none i e g entry reduces)

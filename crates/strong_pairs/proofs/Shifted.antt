@@ -36,7 +36,8 @@ terms_in_all (t ∷ v) h = (h.0.place.variables, terms_in_all v h.1)
 
 module _ (t : List ℕ) (e : Term) (g : List Term) (long : length t ≡ VARIABLES) (vector : IsVector (e ∷ g)) where
   others_below : AllBelow IsBelow (moved t e.at) (rename (moved t) (sum_of g))
-  others_below = AllBelow-rename IsBelow IsBelow InAll (moved t) (λ p q h k l. moved_below t p q (h ∙ sym long) (k ∙ sym long) l) e.at (sum_of g) vector.sparse.terms.0.place.variables (terms_in_all g vector.sparse.terms.1) vector.sparse.falling.0
+  others_below = AllBelow-rename IsBelow IsBelow InAll (moved t) (λ p q h k l. moved_below t p q (h ∙ sym long) (k ∙ sym long) l) e.at (sum_of g)
+      vector.sparse.terms.0.place.variables (terms_in_all g vector.sparse.terms.1) vector.sparse.falling.0
 
   -- the lead is carried to the lead
   shifted_first : shifted t (e ∷ g) (moved t e.at) ≡ e.k
@@ -47,10 +48,13 @@ module _ (t : List ℕ) (e : Term) (g : List Term) (long : length t ≡ VARIABLE
 
 module _ (b : List (List Term)) (entries : AreEntries b) where
   pub shifted_lead : (t : List ℕ) (i : ℕ) → length t ≡ VARIABLES → i < length b → shifted t (vector_at b i) (moved t (lead_at b i).at) ≡ (lead_at b i).k
-  shifted_lead t i long h = ap (λ v. shifted t v (moved t (lead_at b i).at)) (vector_is b entries i h) ∙ shifted_first t (lead_at b i) (behind (vector_at b i)) long (whole_vector b entries i h)
+  shifted_lead t i long h = ap (λ v. shifted t v (moved t (lead_at b i).at)) (vector_is b entries i h)
+      ∙ shifted_first t (lead_at b i) (behind (vector_at b i)) long (whole_vector b entries i h)
 
-  pub shifted_above : (t : List ℕ) (i : ℕ) → length t ≡ VARIABLES → i < length b → (x : Place) → IsBelow (moved t (lead_at b i).at) x → shifted t (vector_at b i) x ≡ pos 0
-  shifted_above t i long h x l = ap (λ v. shifted t v x) (vector_is b entries i h) ∙ shifted_over t (lead_at b i) (behind (vector_at b i)) long (whole_vector b entries i h) x l
+  pub shifted_above : (t : List ℕ) (i : ℕ) → length t ≡ VARIABLES → i < length b → (x : Place) → IsBelow (moved t (lead_at b i).at) x
+      → shifted t (vector_at b i) x ≡ pos 0
+  shifted_above t i long h x l = ap (λ v. shifted t v x) (vector_is b entries i h)
+      ∙ shifted_over t (lead_at b i) (behind (vector_at b i)) long (whole_vector b entries i h) x l
 
   pub place_length : (s : Step) → length s.t ≡ VARIABLES → s.by < length b → InAll (step_place b s)
   place_length s long h = length-product s.t (lead_at b s.by).at.m VARIABLES long (lead_length b entries s.by h)
@@ -80,7 +84,8 @@ module _ (b : List (List Term)) (entries : AreEntries b) where
     at_are [] h = tt
     at_are (s ∷ ss) h = ((h.0.0, h.0.1), at_are ss h.1)
 
-    pub at_carried : (Q : Place → Type 0) (q : ℤ) (t : List ℕ) → length t ≡ VARIABLES → ((x : Place) → InAll x → P x → Q (moved t x)) → (ss : List Step) → AreStepsAt P b ss → AreStepsAt Q b (carried q t ss)
+    pub at_carried : (Q : Place → Type 0) (q : ℤ) (t : List ℕ) → length t ≡ VARIABLES → ((x : Place) → InAll x → P x → Q (moved t x)) → (ss : List Step)
+        → AreStepsAt P b ss → AreStepsAt Q b (carried q t ss)
     at_carried Q q t long f [] h = tt
     at_carried Q q t long f (s ∷ ss) h = (
       (
@@ -91,5 +96,7 @@ module _ (b : List (List Term)) (entries : AreEntries b) where
       at_carried Q q t long f ss h.1,
     )
 
-  pub below_carried : (p : Place) (q : ℤ) (t : List ℕ) → length t ≡ VARIABLES → InAll p → (ss : List Step) → AreStepsBelow b p ss → AreStepsBelow b (moved t p) (carried q t ss)
-  below_carried p q t long in_p ss h = at_carried (λ x. IsBelow x p) (λ x. IsBelow x (moved t p)) q t long (λ x in_x l. moved_below t x p (in_x ∙ sym long) (in_p ∙ sym long) l) ss h
+  pub below_carried : (p : Place) (q : ℤ) (t : List ℕ) → length t ≡ VARIABLES → InAll p → (ss : List Step) → AreStepsBelow b p ss
+      → AreStepsBelow b (moved t p) (carried q t ss)
+  below_carried p q t long in_p ss h = at_carried (λ x. IsBelow x p) (λ x. IsBelow x (moved t p)) q t long
+      (λ x in_x l. moved_below t x p (in_x ∙ sym long) (in_p ∙ sym long) l) ss h

@@ -8,8 +8,8 @@ use Rattle.strong_pairs.specs.Pairs.{lead_at, meeting_place}
 abbrev pub Divides : ℤ → ℤ → Type 0
 Divides k l = (factor : ℤ) × (l ≡ factor *ℤ k)
 
--- a lead d covers the leads e and f: it divides the place at which they meet, and both coefficients, hence their greatest
--- common divisor
+-- a lead d covers the leads e and f: it divides the place at which they meet, and both coefficients, hence their
+-- greatest common divisor
 pub record CoversLeads (d e f : Term) : Type 0 where
   pub reduces : Reduces d (meeting_place e f)
   pub first : Divides d.k e.k

@@ -23,4 +23,5 @@ Holds gens b = (i : ℕ) → i < length gens → (j : ℕ) × (j < length b) × 
 pub record IsGenerating (gens b : List (List Term)) : Type 0 where
   pub entries : AreEntries b
   pub generators : Holds gens b
-  pub others : (j : ℕ) → j < length b → ((i : ℕ) × (i < length gens) × IsUpToSign (vector_at gens i) (vector_at b j)) ⊎ InModule gens (coefficient_at (vector_at b j))
+  pub others : (j : ℕ) → j < length b → ((i : ℕ) × (i < length gens) × IsUpToSign (vector_at gens i) (vector_at b j))
+      ⊎ InModule gens (coefficient_at (vector_at b j))

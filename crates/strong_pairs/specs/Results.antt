@@ -47,11 +47,14 @@ FirstIsMade b first = (v : List Term) × IsMade (SumIsWide (taken_at b first)) (
 
 -- v is the sum of both multiples, on the way to which nothing met a limit
 abbrev pub BothAreMade : List (List Term) → Step → Step → List Term → Type 0
-BothAreMade b first second v = FirstIsMade b first × IsMade (AdditionIsWide (taken_at b first) (taken_at b second)) (both_at b first second) v
+BothAreMade b first second v = FirstIsMade b first
+    × IsMade (AdditionIsWide (taken_at b first) (taken_at b second)) (both_at b first second) v
 
 -- the first multiple meets a limit, or the second one does when it is added to it
 abbrev pub BothStop : List (List Term) → Step → Step → Stop → Type 0
-BothStop b first second stop = StopsBy 0 (SumIsWide (taken_at b first)) (taken_at b first) stop ⊎ (FirstIsMade b first × StopsBy 0 (AdditionIsWide (taken_at b first) (taken_at b second)) (both_at b first second) stop)
+BothStop b first second stop = StopsBy 0 (SumIsWide (taken_at b first)) (taken_at b first) stop
+    ⊎ (FirstIsMade b first × StopsBy 0 (AdditionIsWide (taken_at b first) (taken_at b second))
+    (both_at b first second) stop)
 
 -- why a pair whose degree is in reach has no vector
 pub record StopsPair (kind : PairKind) (b : List (List Term)) (i j : ℕ) (stop : Stop) : Type 0 where

@@ -41,10 +41,11 @@ pub record IsSumBelow (b : List (List Term)) (p : Place) (f : Coefficients) : Ty
   pub below : AreStepsBelow b p steps
   pub is : (x : Place) → f x ≡ steps_at b steps x
 
--- the task is truly closed: the S-vector is a sum of multiples with lead places below the pair's place; some entry covers
--- the pair of a G task
+-- the task is truly closed: the S-vector is a sum of multiples with lead places below the pair's place; some entry
+-- covers the pair of a G task
 abbrev pub IsClosed : List (List Term) → PairKind → ℕ → ℕ → Type 0
-IsClosed b S i j = (first second : Step) × ArePairSteps S b i j first second × IsSumBelow b (pair_place b i j) (both_at b first second)
+IsClosed b S i j = (first second : Step) × ArePairSteps S b i j first second
+    × IsSumBelow b (pair_place b i j) (both_at b first second)
 IsClosed b G i j = (k : ℕ) × Covers b i j k
 
 -- a G task is closed from the start where one lead coefficient divides the other

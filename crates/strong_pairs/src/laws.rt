@@ -18,7 +18,8 @@ ghost use Rattle.outcomes.specs.declared.kinds.PairKind.TheVariants.{S, G};
 ghost use Rattle.strong_pairs.specs.Generating.{BeginsWith, Holds, IsGenerating};
 ghost use Rattle.strong_pairs.specs.Pairs.{lead_at, IsPair, pair_place, ArePairSteps};
 ghost use Rattle.strong_pairs.specs.Results.{IsPairVector};
-ghost use Rattle.strong_pairs.specs.Tasks.{step_places, IsUpTo, StandsAt, AreStepsAt, AreStepsBelow, IsClosed, IsClosedFromStart, AreClosed, AllClosed, Reaches, DividesAll};
+ghost use Rattle.strong_pairs.specs.Tasks.{step_places, IsUpTo, StandsAt, AreStepsAt, AreStepsBelow, IsClosed};
+ghost use Rattle.strong_pairs.specs.Tasks.{IsClosedFromStart, AreClosed, AllClosed, Reaches, DividesAll};
 
 /// A task that is closed from the start is truly closed.
 pub fn starts_close_tasks()
@@ -36,12 +37,13 @@ pub fn chains_to_zero_close_tasks()
 /// A pair has one S-vector and one G-vector, since their steps are determined.
 pub fn pair_steps_are_determined()
     ensures { (b : List (List Term)) → AreEntries b → (kind : PairKind) (i j : ℕ) → IsPair b i j →
-        (first second third fourth : Step) → ArePairSteps kind b i j first second → ArePairSteps kind b i j third fourth →
+        (first second third fourth : Step) → ArePairSteps kind b i j first second
+        → ArePairSteps kind b i j third fourth →
         (first ≡ third) × (second ≡ fourth) }
 {}
 
-/// An S-vector stands below the pair's place. A G-vector stands up to it, and has the greatest common divisor of the lead
-/// coefficients there.
+/// An S-vector stands below the pair's place. A G-vector stands up to it, and has the greatest common divisor of the
+/// lead coefficients there.
 pub fn pair_vectors_stand()
     ensures s { (b : List (List Term)) → AreEntries b → (i j : ℕ) → IsPair b i j → (v : List Term) →
         IsPairVector S b i j v → StandsAt (λ x. IsBelow x (pair_place b i j)) (coefficient_at v) }
@@ -52,15 +54,15 @@ pub fn pair_vectors_stand()
         (coefficient_at v (pair_place b i j) ≡ pos d) }
 {}
 
-/// Coverage of greatest common divisors: where the G tasks are closed, of the entries whose leads divide a place, and of
-/// which some are given, one has a lead coefficient that divides those of all the given ones.
+/// Coverage of greatest common divisors: where the G tasks are closed, of the entries whose leads divide a place, and
+/// of which some are given, one has a lead coefficient that divides those of all the given ones.
 pub fn divisors_are_covered()
     ensures { (b : List (List Term)) → AreEntries b → AreClosed b G → (p : Place) (i : ℕ) (numbers : List ℕ) →
         AllByRecursion (Reaches b p) (i ∷ numbers) → (k : ℕ) × DividesAll b p (i ∷ numbers) k }
 {}
 
-/// The strong criterion (Möller 1988; Lichtblau 2012): a list of entries that generates the module, and all of whose tasks
-/// are truly closed, is strong.
+/// The strong criterion (Möller 1988; Lichtblau 2012): a list of entries that generates the module, and all of whose
+/// tasks are truly closed, is strong.
 pub fn closed_lists_are_strong()
     ensures { (gens b : List (List Term)) → IsGenerating gens b → AllClosed b → IsStrong gens b }
 {}

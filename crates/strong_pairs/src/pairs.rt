@@ -18,8 +18,8 @@ use std::alloc::Global;
 /// common divisor d, and t and s that carry the lead monomials to their least common multiple, it is
 /// `(l/d)·t·(entry i) - (k/d)·s·(entry j)`.
 ///
-/// `Steep` comes exactly where the degree of the common multiple passes [`DEGREE`](laurent_terms::DEGREE). Otherwise the
-/// multiples are added in this order to the empty vector, and `Wide` and `Long` come as in
+/// `Steep` comes exactly where the degree of the common multiple passes [`DEGREE`](laurent_terms::DEGREE). Otherwise
+/// the multiples are added in this order to the empty vector, and `Wide` and `Long` come as in
 /// [`sub_multiple`](ModVec::sub_multiple).
 pub fn s_vector<L: VecList>(alloc: Global, list: &L, i: u32, j: u32) -> Result<ModVec, PairFault>
     requires { IsPair (L.vectors list.now) i j }
@@ -28,9 +28,9 @@ pub fn s_vector<L: VecList>(alloc: Global, list: &L, i: u32, j: u32) -> Result<M
     pair_vector(alloc, list, PairKind::S, i, j)
 }
 
-/// The G-vector of two entries with one lead component, i below j: `u·t·(entry i) + v·s·(entry j)`, where `u·k + v·l` is
-/// the greatest common divisor of the lead coefficients and u is the least such number from 0 on. Its stops are those
-/// of [`s_vector`].
+/// The G-vector of two entries with one lead component, i below j: `u·t·(entry i) + v·s·(entry j)`, where `u·k + v·l`
+/// is the greatest common divisor of the lead coefficients and u is the least such number from 0 on. Its stops are
+/// those of [`s_vector`].
 pub fn g_vector<L: VecList>(alloc: Global, list: &L, i: u32, j: u32) -> Result<ModVec, PairFault>
     requires { IsPair (L.vectors list.now) i j }
     ensures { MakesPair G (L.vectors list.now) i j result }
@@ -70,7 +70,8 @@ pub fn pair_steps<L: VecList>(
 ) -> Result<(Step, Step), Stop>
     requires { IsPair (L.vectors list.now) i j }
     ensures steps { FindsSteps kind (L.vectors list.now) i j result }
-    ensures reach { IfOk result (λ steps. IsInReach (L.vectors list.now) steps.0 × IsInReach (L.vectors list.now) steps.1) }
+    ensures reach { IfOk result (λ steps. IsInReach (L.vectors list.now) steps.0
+        × IsInReach (L.vectors list.now) steps.1) }
 {
     let first = lead(list, i);
     let second = lead(list, j);

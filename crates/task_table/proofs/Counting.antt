@@ -29,7 +29,8 @@ tasks_below_more j zero = let e : j + 0 ≡ j = omega arith in rw e (omega arith
 tasks_below_more j (suc k) = let e : j + suc k ≡ suc (j + k) = omega arith in let h = tasks_below_more j k in rw e (omega (arith, h))
 
 pub tasks_below_grow : (j k : ℕ) → j ≤ k → tasks_below j ≤ tasks_below k
-tasks_below_grow j k h = let e : j + (k - j) ≡ k = omega arith in let g = tasks_below_more j (k - j) in let m : tasks_below (j + (k - j)) ≡ tasks_below k = rw e refl in omega (arith, g, m)
+tasks_below_grow j k h = let e : j + (k - j) ≡ k = omega arith in let g = tasks_below_more j (k - j)
+    in let m : tasks_below (j + (k - j)) ≡ tasks_below k = rw e refl in omega (arith, g, m)
 
 pub kind_small : (k : PairKind) → kind_number k ≤ 1
 kind_small G = omega arith

@@ -16,7 +16,8 @@ use Rattle.task_table.proofs.Counting.{tasks_below_none}
 use Rattle.task_table.proofs.Ordering.{three}
 
 -- after a write that makes nothing wanted before the hint
-pub hint_put : (wanted : Wanted) (states : List TaskState) (hint : Hint) (at : ℕ) (s : TaskState) → IsHint wanted states hint → (is_wanted wanted s ≡ false) ⊎ (hint.number ≤ at) → at < length states → IsHint wanted (slice_set states at s) hint
+pub hint_put : (wanted : Wanted) (states : List TaskState) (hint : Hint) (at : ℕ) (s : TaskState) → IsHint wanted states hint
+    → (is_wanted wanted s ≡ false) ⊎ (hint.number ≤ at) → at < length states → IsHint wanted (slice_set states at s) hint
 hint_put wanted states hint at s h o w = record {
   within = let l = length-set states at s in let v = h.within in omega (arith, l, v);
   begins = h.begins;
@@ -33,7 +34,8 @@ hint_put wanted states hint at s h o w = record {
 }
 
 -- the hint goes back to the task that was written
-pub hint_back : (wanted : Wanted) (states : List TaskState) (hint : Hint) (at row : ℕ) (s : TaskState) → IsHint wanted states hint → at < hint.number → tasks_below row ≤ at → IsHint wanted (slice_set states at s) (record { number = at; row = row })
+pub hint_back : (wanted : Wanted) (states : List TaskState) (hint : Hint) (at row : ℕ) (s : TaskState) → IsHint wanted states hint → at < hint.number
+    → tasks_below row ≤ at → IsHint wanted (slice_set states at s) (record { number = at; row = row })
 hint_back wanted states hint at row s h b r = record {
   within = let l = length-set states at s in let v = h.within in omega (arith, l, v, b);
   begins = r;
@@ -76,12 +78,19 @@ closed_not_open Closed e = refl
 closed_not_open Never e = refl
 
 -- after a reopening all open tasks stand behind the first that isn't closed
-pub hint_reopened : (from : Reopened) (states : List TaskState) (hint : Hint) → IsHint Unclosed states hint → IsHint Unclosed (map (reopened from) states) hint × IsHint OpenOnes (map (reopened from) states) hint
+pub hint_reopened : (from : Reopened) (states : List TaskState) (hint : Hint) → IsHint Unclosed states hint
+    → IsHint Unclosed (map (reopened from) states) hint × IsHint OpenOnes (map (reopened from) states) hint
 hint_reopened from states hint h =
     let within : hint.number ≤ length (map (reopened from) states) = let l = length-map states (reopened from) in let v = h.within in omega (arith, l, v) in
     let before : (k : ℕ) → k < hint.number → is_unclosed (state_at (map (reopened from) states) k) ≡ false =
-    λ k lt. ap is_unclosed (state_reopened from states k) ∙ (unclosed_reopened from (state_at states k) ∙ h.before k lt) in
-    (record { within = within; begins = h.begins; before = before }, record { within = within; begins = h.begins; before = λ k lt. closed_not_open (state_at (map (reopened from) states) k) (before k lt) })
+    λ k lt. ap is_unclosed (state_reopened from states k) ∙ (unclosed_reopened from (state_at states k) ∙ h.before k lt) in (
+      record { within = within; begins = h.begins; before = before },
+      record {
+        within = within;
+        begins = h.begins;
+        before = λ k lt. closed_not_open (state_at (map (reopened from) states) k) (before k lt);
+      },
+    )
 
 pub hint_start : (wanted : Wanted) (states : List TaskState) → IsHint wanted states (record { number = 0; row = 0 })
 hint_start wanted states = record { within = omega arith; begins = omega (arith, tasks_below_none 0 refl); before = λ k lt. absurd (omega (arith, lt)) }

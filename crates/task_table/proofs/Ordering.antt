@@ -110,7 +110,8 @@ before_chain order entries t u v (inr (e, p)) (inl q) = inl (omega (arith, e, q)
 before_chain order entries t u v (inr (e, p)) (inr (f, q)) = inr (e ∙ f, lower_chain t u v p q)
 
 -- the rank of a task doesn't change when entries are appended
-pub rank_stays : (order : Order) (entries more : List (List Term)) (t : Task) → IsTask (length entries) t → rank order (entries ++ more) t ≡ rank order entries t
+pub rank_stays : (order : Order) (entries more : List (List Term)) (t : Task) → IsTask (length entries) t
+    → rank order (entries ++ more) t ≡ rank order entries t
 rank_stays ByNumber entries more t h = refl
 
 pub before_stays : (order : Order) (entries more : List (List Term)) (t u : Task) → IsTask (length entries) t → IsTask (length entries) u →
@@ -118,11 +119,14 @@ pub before_stays : (order : Order) (entries more : List (List Term)) (t u : Task
 unfolding Before
 before_stays order entries more t u h k =
     let a = rank_stays order entries more t h in
-    let b = rank_stays order entries more u k in
-    ((λ x. elim x [ inl p ↦ inl (omega (arith, a, b, p)) | inr (e, p) ↦ inr (a ∙ (e ∙ sym b), p) ]), (λ x. elim x [ inl p ↦ inl (omega (arith, a, b, p)) | inr (e, p) ↦ inr (sym a ∙ (e ∙ b), p) ]))
+    let b = rank_stays order entries more u k in (
+      (λ x. elim x [ inl p ↦ inl (omega (arith, a, b, p)) | inr (e, p) ↦ inr (a ∙ (e ∙ sym b), p) ]),
+      (λ x. elim x [ inl p ↦ inl (omega (arith, a, b, p)) | inr (e, p) ↦ inr (sym a ∙ (e ∙ b), p) ]),
+    )
 
 -- by number, what comes before has a lower number
-pub before_number : (order : Order) (entries : List (List Term)) (t u : Task) → order ≡ ByNumber → t.i < t.j → Before order entries t u → number_of t < number_of u
+pub before_number : (order : Order) (entries : List (List Term)) (t u : Task) → order ≡ ByNumber → t.i < t.j → Before order entries t u
+    → number_of t < number_of u
 unfolding Before
 before_number ByNumber entries t u is h (inl p) = absurd (omega (arith, p))
 before_number ByNumber entries t u is h (inr (e, p)) = lower_number t u h p

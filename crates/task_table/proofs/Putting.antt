@@ -15,5 +15,10 @@ same_number t u a b e = elim (numbers_apart t u a b) [ inl s ↦ sym s | inr ne 
 pub put_same : (table : Table) (t : Task) (s : TaskState) → IsTable table → IsTask table.count t → state_of (put table t s) t ≡ s
 put_same table t s h k = let w = number_within t table.count k in let l = h.states in get_or-set_same table.states (number_of t) s Never (omega (arith, w, l))
 
-pub put_other : (table : Table) (t u : Task) (s : TaskState) → IsTable table → IsTask table.count t → IsTask table.count u → (state_of (put table t s) u ≡ state_of table u) ⊎ (u ≡ t)
-put_other table t u s h k m = elim (numbers_apart t u k.0 m.0) [ inl e ↦ inr e | inr ne ↦ inl (get_or-set_other table.states (number_of t) (number_of u) s Never ne) ]
+pub put_other : (table : Table) (t u : Task) (s : TaskState) → IsTable table → IsTask table.count t → IsTask table.count u
+    → (state_of (put table t s) u ≡ state_of table u) ⊎ (u ≡ t)
+put_other table t u s h k m = elim (numbers_apart t u k.0 m.0) [
+  | inl e ↦ inr e
+  | inr ne ↦ inl
+      (get_or-set_other table.states (number_of t) (number_of u) s Never ne)
+]

@@ -24,5 +24,6 @@ pub any_default : {X : Type 0} (xs : List X) (i : ℕ) (d e : X) → i < length 
 any_default xs i d e h = get_or_from_slice_get xs i (get_or xs i e) d (slice_get-get_or xs i e h)
 
 -- what an index read is the task's state
-pub is_state : (states : List TaskState) (t : Task) (at : ℕ) (x : TaskState) → at ≡ number_of t → at < length states → x ≡ get_or states at x → x ≡ state_at states (number_of t)
+pub is_state : (states : List TaskState) (t : Task) (at : ℕ) (x : TaskState) → at ≡ number_of t → at < length states → x ≡ get_or states at x
+    → x ≡ state_at states (number_of t)
 is_state states t at x e h r = r ∙ (any_default states at x Never h ∙ ap (λ k. state_at states k) e)

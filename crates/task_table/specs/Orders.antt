@@ -8,7 +8,8 @@ use Rattle.task_table.specs.Tasks.{kind_number}
 
 -- by the greater entry of the pair, then the lesser one, then G before S
 abbrev pub HasLowerNumber : Task → Task → Type 0
-HasLowerNumber t u = (t.j < u.j) ⊎ ((t.j ≡ u.j) × ((t.i < u.i) ⊎ ((t.i ≡ u.i) × (kind_number t.kind < kind_number u.kind))))
+HasLowerNumber t u = (t.j < u.j) ⊎ ((t.j ≡ u.j) × ((t.i < u.i)
+    ⊎ ((t.i ≡ u.i) × (kind_number t.kind < kind_number u.kind))))
 
 -- what the order looks at first; the entries are given by their vectors
 abbrev pub rank : Order → List (List Term) → Task → ℕ
@@ -16,4 +17,5 @@ rank ByNumber entries t = 0
 
 -- t is worked before u
 unfoldable pub Before : Order → List (List Term) → Task → Task → Type 0
-Before order entries t u = (rank order entries t < rank order entries u) ⊎ ((rank order entries t ≡ rank order entries u) × HasLowerNumber t u)
+Before order entries t u = (rank order entries t < rank order entries u)
+    ⊎ ((rank order entries t ≡ rank order entries u) × HasLowerNumber t u)

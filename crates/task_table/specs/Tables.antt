@@ -1,5 +1,6 @@
 -- A table of tasks: the state of each task of a log.
-use Rattle.std.specs.Prelude.{◌≡◌, ℕ, ◌≤◌, List, [], true, false, length, map, count_by, Option, Some, None, slice_index_or, slice_set}
+use Rattle.std.specs.Prelude.{◌≡◌, ℕ, ◌≤◌, List, [], true, false, length, map, count_by, Option, Some, None}
+use Rattle.std.specs.Prelude.{slice_index_or, slice_set}
 use Rattle.module_vec.specs.declared.places.Term.{Term}
 use Rattle.outcomes.specs.declared.tasks.Task.{Task}
 use Rattle.task_table.specs.declared.TheConstants.{ENTRIES}
@@ -39,7 +40,8 @@ put table t s = record table { states = slice_set table.states (number_of t) s }
 pub record IsLeast (wanted : Wanted) (entries : List (List Term)) (table : Table) (t : Task) : Type 0 where
   pub task : IsTask table.count t
   pub is : is_wanted wanted (state_of table t) ≡ true
-  pub before : (u : Task) → IsTask table.count u → Before table.order entries u t → is_wanted wanted (state_of table u) ≡ false
+  pub before : (u : Task) → IsTask table.count u → Before table.order entries u t
+      → is_wanted wanted (state_of table u) ≡ false
 
 -- no task has a wanted state
 abbrev pub NoneIs : Wanted → Table → Type 0

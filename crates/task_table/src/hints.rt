@@ -55,7 +55,8 @@ pub fn advanced(states: &[TaskState], count: u32, wanted: Wanted, hint: Hint) ->
     requires hint { IsHint wanted states.now hint }
     ensures hint { IsHint wanted states.now result }
     ensures found { result.number < length states.now → is_wanted wanted (state_at states.now result.number) ≡ true }
-    ensures row { result.number < length states.now → (result.row < count) × (result.number < tasks_below (result.row + 1)) }
+    ensures row { result.number < length states.now → (result.row < count)
+        × (result.number < tasks_below (result.row + 1)) }
 {
     let at = first(states, wanted, hint);
     if at == states.len() {

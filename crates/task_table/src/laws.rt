@@ -23,7 +23,8 @@ pub fn old_tasks_keep_their_order()
     ensures rank { (order : TheOrder) (entries more : List (List Term)) (t : Task) → IsTask (length entries) t →
         rank order (entries ++ more) t ≡ rank order entries t }
     ensures order { (order : TheOrder) (entries more : List (List Term)) (t u : Task) →
-        IsTask (length entries) t → IsTask (length entries) u → Before order (entries ++ more) t u ↔ Before order entries t u }
+        IsTask (length entries) t → IsTask (length entries) u → Before order (entries ++ more) t u
+        ↔ Before order entries t u }
 {}
 
 /// Two tasks have two numbers, so that a table has a state for each.
@@ -33,7 +34,9 @@ pub fn numbers_are_apart()
 
 /// A task that gets a state has it, and all others keep theirs.
 pub fn one_state_is_put()
-    ensures here { (table : Table) (t : Task) (s : TheState) → IsTable table → IsTask table.count t → state_of (put table t s) t ≡ s }
-    ensures elsewhere { (table : Table) (t u : Task) (s : TheState) → IsTable table → IsTask table.count t → IsTask table.count u →
+    ensures here { (table : Table) (t : Task) (s : TheState) → IsTable table → IsTask table.count t
+        → state_of (put table t s) t ≡ s }
+    ensures elsewhere { (table : Table) (t u : Task) (s : TheState) → IsTable table → IsTask table.count t
+        → IsTask table.count u →
         (state_of (put table t s) u ≡ state_of table u) ⊎ (u ≡ t) }
 {}

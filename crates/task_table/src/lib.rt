@@ -1,7 +1,7 @@
 //! The table of a completion's tasks: which of them are open, taken, hard or closed, and which is the next one.
 //!
-//! A log of n entries has n(n-1) tasks, two for each pair. The table keeps one state for each, in the order of the tasks'
-//! numbers, and knows nothing else of entries. It takes all its room when it is made.
+//! A log of n entries has n(n-1) tasks, two for each pair. The table keeps one state for each, in the order of the
+//! tasks' numbers, and knows nothing else of entries. It takes all its room when it is made.
 #![tactic(auto)]
 
 mod hints;

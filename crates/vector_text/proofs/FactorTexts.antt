@@ -1,5 +1,6 @@
 -- The texts of factors.
-use Rattle.std.proofs.Common.{◌≡◌, ℕ, zero, suc, ◌+◌, ◌*◌, ◌/◌, ◌%◌, ◌<◌, ◌≤◌, ◌^◌, ◌==◌, Bool, true, false, if◌then◌else◌, List, [], ◌∷◌, ◌++◌, length, take, drop, Option, Some, None, decimal, refl, sym, ap, subst, ◌∙◌, arith, append_assoc, append-nil}
+use Rattle.std.proofs.Common.{◌≡◌, ℕ, zero, suc, ◌+◌, ◌*◌, ◌/◌, ◌%◌, ◌<◌, ◌≤◌, ◌^◌, ◌==◌, Bool, true, false, if◌then◌else◌, List, [], ◌∷◌, ◌++◌, length, take}
+use Rattle.std.proofs.Common.{drop, Option, Some, None, decimal, refl, sym, ap, subst, ◌∙◌, arith, append_assoc, append-nil}
 use Rattle.std.proofs.lemmas.Bool.Decides.{nat_tests}
 use Rattle.std.proofs.lemmas.Option.{none-some, same_Some}
 use Rattle.laurent_terms.specs.declared.TheConstants.{DEGREE}
@@ -51,7 +52,8 @@ one_written ds n good lt = λ x h e. let same = number_is ds n x good h (digits_
 pub past_degree : (ds : List ℕ) (n : ℕ) → IsRead decimal IsSmall ds (Some n) → DEGREE < n → IsRead exponent_text IsExponent (94 ∷ ds) None
 past_degree ds n good lt = λ x h e. let same = number_is ds n x good h (digits_are ds x e) in omega (arith, h.1)
 
-other_by : (text : List ℕ) (x : ℕ) (t : Bool) → (length text == 0) ≡ false → ((ds : List ℕ) → text ≡ 94 ∷ ds → ⊥) → text ≡ (if t then [] else 94 ∷ decimal x) → ⊥
+other_by : (text : List ℕ) (x : ℕ) (t : Bool) → (length text == 0) ≡ false → ((ds : List ℕ) → text ≡ 94 ∷ ds → ⊥)
+    → text ≡ (if t then [] else 94 ∷ decimal x) → ⊥
 other_by text x true some other e = let k : true ≡ false = sym (ap (λ (bs : List ℕ). length bs == 0) e) ∙ some in cc
 other_by text x false some other e = other (decimal x) e
 
@@ -107,9 +109,11 @@ pub record Parts (names : List (List ℕ)) (f : Factor) : Type 0 where
 pub parts : (names : List (List ℕ)) → AreNames names → (f : Factor) → IsFactorOf (length names) f → Parts names f
 parts names known f h =
     let below : f.variable / 2 < length names = omega (arith, h.variable) in
-    let is : factor_text names f ≡ name_of names (f.variable / 2) ++ behind_name f = append_assoc (name_of names (f.variable / 2)) (if f.variable % 2 == 0 then [] else 39 ∷ []) (exponent_text f.exponent) in
+    let is : factor_text names f ≡ name_of names (f.variable / 2) ++ behind_name f =
+    append_assoc (name_of names (f.variable / 2)) (if f.variable % 2 == 0 then [] else 39 ∷ []) (exponent_text f.exponent) in
     let holds = name_holds IsName names (f.variable / 2) known.each below in
-    let name : name_at (factor_text names f) ≡ name_of names (f.variable / 2) = rw is (name_taken (name_of names (f.variable / 2)) (behind_name f) holds (behind_stops f)) in
+    let name : name_at (factor_text names f) ≡ name_of names (f.variable / 2) =
+    rw is (name_taken (name_of names (f.variable / 2)) (behind_name f) holds (behind_stops f)) in
     record {
       below = below;
       text = is;
@@ -153,13 +157,15 @@ pub factor_same : (names : List (List ℕ)) → AreNames names → (f g : Factor
 factor_same names known f g h k e =
     let a = parts names known f h in
     let b = parts names known g k in
-    let half : f.variable / 2 ≡ g.variable / 2 = same_Some (f.variable / 2) (g.variable / 2) (sym a.found ∙ ap (λ (t : List ℕ). finding names (name_at t)) e ∙ b.found) in
+    let half : f.variable / 2 ≡ g.variable / 2 = same_Some (f.variable / 2) (g.variable / 2) (sym a.found
+    ∙ ap (λ (t : List ℕ). finding names (name_at t)) e ∙ b.found) in
     let behind = behind_same (f.variable % 2 == 0) (g.variable % 2 == 0) f.exponent g.exponent h.exponent k.exponent (sym a.rest ∙ ap after_name e ∙ b.rest) in
     let v = same_number f.variable g.variable half behind.0 in
     factor_is f g v behind.1
 
 -- the exits of the reader
-pub no_generator : (names : List (List ℕ)) → AreNames names → (text : List ℕ) → finding names (name_at text) ≡ None → IsRead (factor_text names) (IsFactorOf (length names)) text None
+pub no_generator : (names : List (List ℕ)) → AreNames names → (text : List ℕ) → finding names (name_at text) ≡ None
+    → IsRead (factor_text names) (IsFactorOf (length names)) text None
 no_generator names known text none = λ f h e.
     none-some (f.variable / 2) (sym none ∙ ap (λ (t : List ℕ). finding names (name_at t)) e ∙ (parts names known f h).found)
 
@@ -167,16 +173,19 @@ behind_odd : (t : Bool) (x : ℕ) (rest : List ℕ) → 39 ∷ rest ≡ (if t th
 behind_odd true x rest e = absurd (no_tick x rest e)
 behind_odd false x rest e = tail_same e
 
-pub no_inverse_exponent : (names : List (List ℕ)) → AreNames names → (text rest : List ℕ) → after_name text ≡ 39 ∷ rest → IsRead exponent_text IsExponent rest None
+pub no_inverse_exponent : (names : List (List ℕ)) → AreNames names → (text rest : List ℕ) → after_name text ≡ 39 ∷ rest
+    → IsRead exponent_text IsExponent rest None
     → IsRead (factor_text names) (IsFactorOf (length names)) text None
 no_inverse_exponent names known text rest is bad = λ f h e.
     bad f.exponent h.exponent (behind_odd (f.variable % 2 == 0) f.exponent rest (sym is ∙ ap after_name e ∙ (parts names known f h).rest))
 
-behind_even : (t : Bool) (x : ℕ) (rest : List ℕ) → ((bs : List ℕ) → rest ≡ 39 ∷ bs → ⊥) → rest ≡ (if t then [] else 39 ∷ []) ++ exponent_text x → rest ≡ exponent_text x
+behind_even : (t : Bool) (x : ℕ) (rest : List ℕ) → ((bs : List ℕ) → rest ≡ 39 ∷ bs → ⊥) → rest ≡ (if t then [] else 39 ∷ []) ++ exponent_text x
+    → rest ≡ exponent_text x
 behind_even true x rest other e = e
 behind_even false x rest other e = absurd (other (exponent_text x) e)
 
-pub no_exponent : (names : List (List ℕ)) → AreNames names → (text : List ℕ) → ((bs : List ℕ) → after_name text ≡ 39 ∷ bs → ⊥) → IsRead exponent_text IsExponent (after_name text) None
+pub no_exponent : (names : List (List ℕ)) → AreNames names → (text : List ℕ) → ((bs : List ℕ) → after_name text ≡ 39 ∷ bs → ⊥)
+    → IsRead exponent_text IsExponent (after_name text) None
     → IsRead (factor_text names) (IsFactorOf (length names)) text None
 no_exponent names known text other bad = λ f h e.
     bad f.exponent h.exponent (behind_even (f.variable % 2 == 0) f.exponent (after_name text) other (ap after_name e ∙ (parts names known f h).rest))
@@ -204,8 +213,10 @@ even_half g = (omega arith, grind (arith, nat_tests))
 odd_half : (g : ℕ) → ((2 * g + 1) / 2 ≡ g) × (((2 * g + 1) % 2 == 0) ≡ false)
 odd_half g = (omega arith, grind (arith, nat_tests))
 
-pub inverse_read : (names : List (List ℕ)) → AreNames names → (text rest : List ℕ) (g e : ℕ) → finding names (name_at text) ≡ Some g → g < length names → after_name text ≡ 39 ∷ rest
-    → IsRead exponent_text IsExponent rest (Some e) → IsRead (factor_text names) (IsFactorOf (length names)) text (Some (record { variable = 2 * g + 1; exponent = e }))
+pub inverse_read : (names : List (List ℕ)) → AreNames names → (text rest : List ℕ) (g e : ℕ) → finding names (name_at text) ≡ Some g → g < length names
+    → after_name text ≡ 39 ∷ rest
+    → IsRead exponent_text IsExponent rest (Some e) → IsRead (factor_text names) (IsFactorOf (length names)) text
+    (Some (record { variable = 2 * g + 1; exponent = e }))
 inverse_read names known text rest g e found lt is good =
     let a = odd_half g in (
       record { variable = omega arith; exponent = good.0 },
@@ -213,7 +224,8 @@ inverse_read names known text rest g e found lt is good =
     )
 
 pub factor_read : (names : List (List ℕ)) → AreNames names → (text : List ℕ) (g e : ℕ) → finding names (name_at text) ≡ Some g → g < length names
-    → IsRead exponent_text IsExponent (after_name text) (Some e) → IsRead (factor_text names) (IsFactorOf (length names)) text (Some (record { variable = 2 * g; exponent = e }))
+    → IsRead exponent_text IsExponent (after_name text) (Some e)
+    → IsRead (factor_text names) (IsFactorOf (length names)) text (Some (record { variable = 2 * g; exponent = e }))
 factor_read names known text g e found lt good =
     let a = even_half g in (
       record { variable = omega arith; exponent = good.0 },

@@ -1,5 +1,6 @@
 -- The texts of monomials, read factor by factor.
-use Rattle.std.proofs.Common.{◌≡◌, ◌≢◌, ◌⊎◌, inl, inr, ℕ, zero, suc, ◌+◌, ◌*◌, ◌/◌, ◌%◌, ◌<◌, ◌≤◌, ◌==◌, Bool, true, false, if◌then◌else◌, List, [], ◌∷◌, ◌++◌, length, get_or, slice_set, replicate, map, Option, Some, None, codes, decimal, refl, sym, ap, subst, ◌∙◌, arith, append_assoc}
+use Rattle.std.proofs.Common.{◌≡◌, ◌≢◌, ◌⊎◌, inl, inr, ℕ, zero, suc, ◌+◌, ◌*◌, ◌/◌, ◌%◌, ◌<◌, ◌≤◌, ◌==◌, Bool, true, false, if◌then◌else◌, List, [], ◌∷◌, ◌++◌}
+use Rattle.std.proofs.Common.{length, get_or, slice_set, replicate, map, Option, Some, None, codes, decimal, refl, sym, ap, subst, ◌∙◌, arith, append_assoc}
 use Rattle.std.proofs.lemmas.List.{get_or-set_other, length-replicate}
 use Rattle.std.proofs.lemmas.List.Sums.{sum_by-set}
 use Rattle.std.proofs.lemmas.List.Folds.{sum_by-replicate}
@@ -97,22 +98,27 @@ begins names text mono = record {
 over : (names : List (List ℕ)) (text made : List ℕ) (next : ℕ) (left : Option (List ℕ)) → Going names text made next left → MonoIsOver (length names) made
 over names text made next left h = λ k le. h.free k (omega (arith, le, h.bound))
 
-all_made : (names : List (List ℕ)) (text made : List ℕ) (next : ℕ) (left : Option (List ℕ)) → Going names text made next left → AllByRecursion (IsFactorHere names) (factors_from 0 made)
+all_made : (names : List (List ℕ)) (text made : List ℕ) (next : ℕ) (left : Option (List ℕ)) → Going names text made next left
+    → AllByRecursion (IsFactorHere names) (factors_from 0 made)
 all_made names text made next left h = valid (length names) made h.mono (over names text made next left h)
 
 -- something is left
-pub still : (names : List (List ℕ)) (text made : List ℕ) (next : ℕ) (left : Option (List ℕ)) (rest : List ℕ) → left ≡ Some rest → Going names text made next left → Going names text made next (Some rest)
+pub still : (names : List (List ℕ)) (text made : List ℕ) (next : ℕ) (left : Option (List ℕ)) (rest : List ℕ) → left ≡ Some rest
+    → Going names text made next left → Going names text made next (Some rest)
 still names text made next left rest e h = let P : Option (List ℕ) → Type 0 = Going names text made next in subst P e h
 
 -- no monomial's text goes on with this part
-pub no_factor : (names : List (List ℕ)) → AreNames names → (text made rest front : List ℕ) (next : ℕ) (after : Option (List ℕ)) → Going names text made next (Some rest)
-    → first_part 46 rest ≡ (front, after) → IsRead (factor_text names) (IsFactorHere names) front None → IsRead (factors_text names) (IsProductOf (length names)) text None
+pub no_factor : (names : List (List ℕ)) → AreNames names → (text made rest front : List ℕ) (next : ℕ) (after : Option (List ℕ))
+    → Going names text made next (Some rest)
+    → first_part 46 rest ≡ (front, after) → IsRead (factor_text names) (IsFactorHere names) front None
+    → IsRead (factors_text names) (IsProductOf (length names)) text None
 no_factor names known text made rest front next after h e bad = λ s k is.
     unread 46 (factor_text names) (IsFactorHere names) (factors_apart names known) text rest front after (factors_from 0 made) (factors_from 0 s)
     h.leaves e (all_made names text made next (Some rest) h) bad (valid (length names) s k.mono.mono k.mono.over) k.some is
 
 -- the factor that is read is the next one of each monomial with this text
-next_factor : (names : List (List ℕ)) → AreNames names → (text made rest front : List ℕ) (next : ℕ) (after : Option (List ℕ)) (f : Factor) → Going names text made next (Some rest)
+next_factor : (names : List (List ℕ)) → AreNames names → (text made rest front : List ℕ) (next : ℕ) (after : Option (List ℕ)) (f : Factor)
+    → Going names text made next (Some rest)
     → first_part 46 rest ≡ (front, after) → IsRead (factor_text names) (IsFactorHere names) front (Some f)
     → (s : List ℕ) → IsProductOf (length names) s → text ≡ factors_text names s → (fs : List Factor) × (factors_from 0 s ≡ factors_from 0 made ++ f ∷ fs)
 next_factor names known text made rest front next after f h e good s k is =
@@ -120,7 +126,8 @@ next_factor names known text made rest front next after f h e good s k is =
     h.leaves e (all_made names text made next (Some rest) h) good (valid (length names) s k.mono.mono k.mono.over) k.some is
 
 -- the variables rise
-pub not_rising : (names : List (List ℕ)) → AreNames names → (text made rest front : List ℕ) (next : ℕ) (after : Option (List ℕ)) (f : Factor) → Going names text made next (Some rest)
+pub not_rising : (names : List (List ℕ)) → AreNames names → (text made rest front : List ℕ) (next : ℕ) (after : Option (List ℕ)) (f : Factor)
+    → Going names text made next (Some rest)
     → first_part 46 rest ≡ (front, after) → IsRead (factor_text names) (IsFactorHere names) front (Some f) → f.variable < next
     → IsRead (factors_text names) (IsProductOf (length names)) text None
 not_rising names known text made rest front next after f h e good lt = λ s k is.
@@ -132,7 +139,8 @@ degree_power n v e lt =
     omega (arith, whole, sum_by-replicate (λ x. x) n 0, zero_in n v)
 
 -- and the degree stays within its limit
-pub too_high : (names : List (List ℕ)) → AreNames names → (text made rest front : List ℕ) (next : ℕ) (after : Option (List ℕ)) (f : Factor) (power : List ℕ) → Going names text made next (Some rest)
+pub too_high : (names : List (List ℕ)) → AreNames names → (text made rest front : List ℕ) (next : ℕ) (after : Option (List ℕ)) (f : Factor) (power : List ℕ)
+    → Going names text made next (Some rest)
     → first_part 46 rest ≡ (front, after) → IsRead (factor_text names) (IsFactorHere names) front (Some f) → f.variable < VARIABLES
     → power ≡ slice_set one f.variable f.exponent → DEGREE < degree made + degree power
     → IsRead (factors_text names) (IsProductOf (length names)) text None
@@ -145,8 +153,10 @@ free_after : (made : List ℕ) (at e k : ℕ) → at + 1 ≤ k → get_or made k
 free_after made at e k le z = let ne : k ≢ at = λ q. omega (arith, q, le) in get_or-set_other made at k e 0 ne ∙ z
 
 -- one more factor
-pub going_on : (names : List (List ℕ)) → 2 * length names ≤ VARIABLES → (text made rest front : List ℕ) (next : ℕ) (after : Option (List ℕ)) (f : Factor) (power more : List ℕ)
-    → Going names text made next (Some rest) → first_part 46 rest ≡ (front, after) → IsRead (factor_text names) (IsFactorHere names) front (Some f) → next ≤ f.variable
+pub going_on : (names : List (List ℕ)) → 2 * length names ≤ VARIABLES
+    → (text made rest front : List ℕ) (next : ℕ) (after : Option (List ℕ)) (f : Factor) (power more : List ℕ)
+    → Going names text made next (Some rest) → first_part 46 rest ≡ (front, after) → IsRead (factor_text names) (IsFactorHere names) front (Some f)
+    → next ≤ f.variable
     → power ≡ slice_set one f.variable f.exponent → more ≡ product made power → IsMonomial more → Going names text more (f.variable + 1) after
 going_on names few text made rest front next after f power more h e good le power_is more_is mono =
     let lt : f.variable < length made = omega (arith, h.mono.variables, few, good.0.variable) in
@@ -167,19 +177,22 @@ going_on names few text made rest front next after f power more h e good le powe
     }
 
 -- the whole text is read
-pub whole_read : (names : List (List ℕ)) (text made : List ℕ) (next : ℕ) → Going names text made next None → IsRead (factors_text names) (IsProductOf (length names)) text (Some made)
+pub whole_read : (names : List (List ℕ)) (text made : List ℕ) (next : ℕ) → Going names text made next None
+    → IsRead (factors_text names) (IsProductOf (length names)) text (Some made)
 whole_read names text made next h =
     (record { mono = record { mono = h.mono; over = over names text made next None h }; some = h.leaves.0 }, h.leaves.1)
 
 one_text : (names : List (List ℕ)) → monomial_text names one ≡ codes "1"
 one_text names = refl
 
-pub one_read : (names : List (List ℕ)) (text made : List ℕ) → text ≡ codes "1" → made ≡ one → IsMonomial made → IsRead (monomial_text names) (IsMonoOf (length names)) text (Some made)
+pub one_read : (names : List (List ℕ)) (text made : List ℕ) → text ≡ codes "1" → made ≡ one → IsMonomial made
+    → IsRead (monomial_text names) (IsMonoOf (length names)) text (Some made)
 one_read names text made is made_is mono =
     (record { mono = mono; over = λ k le. ap (λ (s : List ℕ). get_or s k 0) made_is ∙ zero_at k }, is ∙ sym (ap (monomial_text names) made_is))
 
 -- a monomial with a factor, and one without
-product_is : (names : List (List ℕ)) (fs : List Factor) → 0 < length fs → product_text (map (factor_text names) fs) ≡ joined (46 ∷ []) (map (factor_text names) fs)
+product_is : (names : List (List ℕ)) (fs : List Factor) → 0 < length fs → product_text (map (factor_text names) fs)
+    ≡ joined (46 ∷ []) (map (factor_text names) fs)
 product_is names [] some = absurd (omega arith)
 product_is names (f ∷ fs) some = refl
 
@@ -207,26 +220,30 @@ not_digit_one c (inl lt) = apart 49 c (λ e. omega (arith, lt, e))
 not_digit_one c (inr lt) = apart 49 c (λ e. omega (arith, lt, e))
 
 -- a monomial's text lacks each byte that isn't its factors' or their separator
-pub monomial_lacks : (c : ℕ) (names : List (List ℕ)) (s : List ℕ) → IsSeparator c → 46 ≢ c → AreNames names → IsMonoOf (length names) s → Lacks c (monomial_text names s)
+pub monomial_lacks : (c : ℕ) (names : List (List ℕ)) (s : List ℕ) → IsSeparator c → 46 ≢ c → AreNames names → IsMonoOf (length names) s
+    → Lacks c (monomial_text names s)
 monomial_lacks c names s o ne known h = by (factors_from 0 s) (valid (length names) s h.mono h.over) where
   by : (fs : List Factor) → AllByRecursion (IsFactorHere names) fs → Lacks c (product_text (map (factor_text names) fs))
   by [] k = (not_digit_one c o.digit, tt)
   by (f ∷ fs) k = listed_lacks c 46 (factor_text names) (f ∷ fs) ne (all_weaker (f ∷ fs) (λ g q. factor_lacks c names g o known q) k)
 
-first_marked : (names : List (List ℕ)) (f : Factor) (fs : List Factor) → AreNames names → IsFactorOf (length names) f → mark_of (listed 46 (factor_text names) (f ∷ fs)) ≡ marks.Letter
+first_marked : (names : List (List ℕ)) (f : Factor) (fs : List Factor) → AreNames names → IsFactorOf (length names) f
+    → mark_of (listed 46 (factor_text names) (f ∷ fs)) ≡ marks.Letter
 first_marked names f fs known h =
     let below : f.variable / 2 < length names = omega (arith, h.variable) in
     let tick : List ℕ = if f.variable % 2 == 0 then [] else 39 ∷ [] in
     let more : List ℕ = led_by (46 ∷ []) (map (factor_text names) fs) in
     let is : listed 46 (factor_text names) (f ∷ fs) ≡ name_of names (f.variable / 2) ++ (tick ++ (exponent_text f.exponent ++ more)) = simp append_assoc in
-    ap mark_of is ∙ name_marked (name_of names (f.variable / 2)) (tick ++ (exponent_text f.exponent ++ more)) (name_holds IsName names (f.variable / 2) known.each below)
+    ap mark_of is ∙ name_marked (name_of names (f.variable / 2)) (tick ++ (exponent_text f.exponent ++ more))
+    (name_holds IsName names (f.variable / 2) known.each below)
 
 one_marked : mark_of (49 ∷ []) ≡ marks.One
 unfolding mark_byte is_letter
 one_marked = refl
 
 -- a text is that of one monomial
-pub monomial_same : (names : List (List ℕ)) → AreNames names → (s t : List ℕ) → IsMonoOf (length names) s → IsMonoOf (length names) t → monomial_text names s ≡ monomial_text names t → s ≡ t
+pub monomial_same : (names : List (List ℕ)) → AreNames names → (s t : List ℕ) → IsMonoOf (length names) s → IsMonoOf (length names) t
+    → monomial_text names s ≡ monomial_text names t → s ≡ t
 monomial_same names known s t h k e =
     factors_same 0 s t (h.mono.variables ∙ sym k.mono.variables)
     (by (factors_from 0 s) (factors_from 0 t) (valid (length names) s h.mono h.over) (valid (length names) t k.mono k.over) e) where

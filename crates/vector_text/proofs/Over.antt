@@ -1,5 +1,6 @@
 -- Monomials and vectors that stay over the generators.
-use Rattle.std.proofs.Common.{◌≡◌, ◌≢◌, ℕ, zero, suc, ◌+◌, ◌-◌, ◌*◌, ◌<◌, ◌≤◌, Bool, true, false, ℤ, pos, ◌+ℤ◌, if◌then◌else◌, List, [], ◌∷◌, ◌++◌, length, get_or, slice_index_or, replicate, max, refl, sym, ap, subst, ◌∙◌, arith}
+use Rattle.std.proofs.Common.{◌≡◌, ◌≢◌, ℕ, zero, suc, ◌+◌, ◌-◌, ◌*◌, ◌<◌, ◌≤◌, Bool, true, false, ℤ, pos, ◌+ℤ◌, if◌then◌else◌, List, [], ◌∷◌, ◌++◌, length}
+use Rattle.std.proofs.Common.{get_or, slice_index_or, replicate, max, refl, sym, ap, subst, ◌∙◌, arith}
 use Rattle.std.proofs.Math.IntN.{+ℤ_idl}
 use Rattle.std.proofs.lemmas.List.{get_or-set_other}
 use Rattle.std.specs.List.{AllByRecursion}
@@ -65,7 +66,8 @@ others t v x f some e = by (same_place t.at x) refl e where
   by true h k = some (subst (λ (y : Place). coefficient_at v y ≡ pos 0) (test.sound t.at x h) (at_above t.at v f.0))
   by false h k = some (sym (+ℤ_idl (coefficient_at v x)) ∙ k)
 
-each : (P : Place → Type 0) (v : List Term) → Falls v → AllByRecursion IsTerm v → ((x : Place) → coefficient_at v x ≢ pos 0 → P x) → AllByRecursion (λ t. P t.at) v
+each : (P : Place → Type 0) (v : List Term) → Falls v → AllByRecursion IsTerm v → ((x : Place) → coefficient_at v x ≢ pos 0 → P x)
+    → AllByRecursion (λ t. P t.at) v
 each P [] f h k = tt
 each P (t ∷ v) f h k =
     (k t.at (λ e. h.0.nonzero (sym (coefficient-first test order (t.k, t.at) (sum_of v) f.0) ∙ e)), each P v f.1 h.1 (λ x some. k x (others t v x f some)))
@@ -75,5 +77,6 @@ pub coefficients_over : (n : ℕ) (f : Coefficients) (v : List Term) → IsSpars
 coefficients_over n f v sparse is h = each (PlaceIsOver n) v sparse.falling sparse.terms (λ x some. h x (λ e. some (is x ∙ e)))
 
 -- or where each place of a sum that is the same is
-pub sum_over : (n : ℕ) (f : FormalSum Place) (v : List Term) → IsSparse v → Same same_place (sum_of v) f → AllByRecursion (λ t. PlaceIsOver n t.1) f → VectorIsOver n v
+pub sum_over : (n : ℕ) (f : FormalSum Place) (v : List Term) → IsSparse v → Same same_place (sum_of v) f → AllByRecursion (λ t. PlaceIsOver n t.1) f
+    → VectorIsOver n v
 sum_over n f v sparse same h = coefficients_over n (coefficient same_place f) v sparse same (λ x some. stands (PlaceIsOver n) f x h some)

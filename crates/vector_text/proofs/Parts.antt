@@ -1,5 +1,6 @@
 -- Texts of values with a separator between each two, read from the first value on.
-use Rattle.std.proofs.Common.{◌≡◌, ◌≢◌, ℕ, suc, ◌<◌, List, [], ◌∷◌, ◌++◌, length, map, Option, Some, None, refl, sym, ap, subst, ◌∙◌, arith, append_assoc, append-nil}
+use Rattle.std.proofs.Common.{◌≡◌, ◌≢◌, ℕ, suc, ◌<◌, List, [], ◌∷◌, ◌++◌, length, map, Option, Some, None, refl, sym, ap, subst, ◌∙◌, arith, append_assoc}
+use Rattle.std.proofs.Common.{append-nil}
 use Rattle.std.proofs.lemmas.Option.{none-some}
 use Rattle.std.specs.List.{AllByRecursion}
 use Rattle.spelling.specs.Spelling.{IsRead, cut, parted, first_part}
@@ -63,11 +64,14 @@ firsts : {X : Type 0} (c : ℕ) (spelling : X → List ℕ) (m : X) (ms : List X
     → listed c spelling (x ∷ xs) ≡ ended c spelling (m ∷ ms) ++ rest → (spelling x ≡ spelling m) × (others c spelling xs ≡ Some (ended c spelling ms ++ rest))
 firsts c spelling m ms x xs rest h k e =
     let left = first_listed c spelling x xs k in
-    let assoc : ended c spelling (m ∷ ms) ++ rest ≡ spelling m ++ c ∷ (ended c spelling ms ++ rest) = append_assoc (spelling m) (c ∷ ended c spelling ms) rest in
-    let right = cut_parted c (spelling m ++ c ∷ (ended c spelling ms ++ rest)) (spelling m) (ended c spelling ms ++ rest) (cut_here c (spelling m) (ended c spelling ms ++ rest) h) in
+    let assoc : ended c spelling (m ∷ ms) ++ rest ≡ spelling m ++ c ∷ (ended c spelling ms ++ rest) =
+    append_assoc (spelling m) (c ∷ ended c spelling ms) rest in
+    let right = cut_parted c (spelling m ++ c ∷ (ended c spelling ms ++ rest)) (spelling m) (ended c spelling ms ++ rest)
+    (cut_here c (spelling m) (ended c spelling ms ++ rest) h) in
     pair_same (sym left ∙ ap (first_part c) (e ∙ assoc) ∙ right)
 
-follows_more : {X : Type 0} (c : ℕ) (spelling : X → List ℕ) (m : X) (ms : List X) (x : X) (xs rest : _) → x ≡ m → Follows c spelling ms xs rest → Follows c spelling (m ∷ ms) (x ∷ xs) rest
+follows_more : {X : Type 0} (c : ℕ) (spelling : X → List ℕ) (m : X) (ms : List X) (x : X) (xs rest : _) → x ≡ m → Follows c spelling ms xs rest
+    → Follows c spelling (m ∷ ms) (x ∷ xs) rest
 follows_more c spelling m ms x xs rest same f = record { next = f.next; more = f.more; split = cc (same, f.split); text = f.text }
 
 pub followed : {X : Type 0} (c : ℕ) (spelling : X → List ℕ) (IsValid : X → Type 0) → IsApart c spelling IsValid → (made xs : List X) (rest : List ℕ)
@@ -82,7 +86,8 @@ followed c spelling IsValid apart (m ∷ ms) (x ∷ y ∷ ys) rest h k some e =
     let same = apart.one x m k.0 h.0 both.0 in
     follows_more c spelling m ms x (y ∷ ys) rest same (followed c spelling IsValid apart ms (y ∷ ys) rest h.1 k.1 (omega arith) (some_same both.1))
 
-ended_more : {X : Type 0} (c : ℕ) (spelling : X → List ℕ) (made : List X) (x : X) → ended c spelling (made ++ x ∷ []) ≡ ended c spelling made ++ (spelling x ++ c ∷ [])
+ended_more : {X : Type 0} (c : ℕ) (spelling : X → List ℕ) (made : List X) (x : X)
+    → ended c spelling (made ++ x ∷ []) ≡ ended c spelling made ++ (spelling x ++ c ∷ [])
 ended_more c spelling [] x = refl
 ended_more c spelling (m ∷ ms) x = rw (ended_more c spelling ms x) (sym (append_assoc (spelling m) (c ∷ ended c spelling ms) (spelling x ++ c ∷ [])))
 
@@ -90,7 +95,8 @@ listed_more : {X : Type 0} (c : ℕ) (spelling : X → List ℕ) (made : List X)
 listed_more c spelling [] x = append-nil (spelling x)
 listed_more c spelling (m ∷ []) x = simp (append-nil, append_assoc)
 listed_more c spelling (m ∷ n ∷ ms) x =
-    ap (λ (bs : List ℕ). spelling m ++ c ∷ bs) (listed_more c spelling (n ∷ ms) x) ∙ sym (append_assoc (spelling m) (c ∷ ended c spelling (n ∷ ms)) (spelling x))
+    ap (λ (bs : List ℕ). spelling m ++ c ∷ bs) (listed_more c spelling (n ∷ ms) x)
+    ∙ sym (append_assoc (spelling m) (c ∷ ended c spelling (n ∷ ms)) (spelling x))
 
 first_whole : (c : ℕ) (text front : List ℕ) → first_part c text ≡ (front, None) → text ≡ front
 first_whole c text front e = by (cut c text) e where
@@ -128,7 +134,8 @@ all_after : {X : Type 0} (P : X → Type 0) (xs : List X) (y : X) (ys : List X) 
 all_after P [] y ys h = h.0
 all_after P (x ∷ xs) y ys h = all_after P xs y ys h.1
 
-pub next_is : {X : Type 0} (c : ℕ) (spelling : X → List ℕ) (IsValid : X → Type 0) → IsApart c spelling IsValid → (text rest front : List ℕ) (after : Option (List ℕ)) (made xs : List X)
+pub next_is : {X : Type 0} (c : ℕ) (spelling : X → List ℕ) (IsValid : X → Type 0) → IsApart c spelling IsValid
+    → (text rest front : List ℕ) (after : Option (List ℕ)) (made xs : List X)
     → Leaves c spelling text made (Some rest) → first_part c rest ≡ (front, after) → AllByRecursion IsValid made → AllByRecursion IsValid xs → 0 < length xs
     → text ≡ listed c spelling xs → Next c spelling IsValid made xs front
 next_is c spelling IsValid apart text rest front after made xs h e all_made all_xs some is =
@@ -138,14 +145,16 @@ next_is c spelling IsValid apart text rest front after made xs h e all_made all_
     record { next = f.next; more = f.more; split = f.split; valid = valid; text = both.0 }
 
 -- nothing valid has a text of which the next part is no value's
-pub unread : {X : Type 0} (c : ℕ) (spelling : X → List ℕ) (IsValid : X → Type 0) → IsApart c spelling IsValid → (text rest front : List ℕ) (after : Option (List ℕ)) (made xs : List X)
+pub unread : {X : Type 0} (c : ℕ) (spelling : X → List ℕ) (IsValid : X → Type 0) → IsApart c spelling IsValid
+    → (text rest front : List ℕ) (after : Option (List ℕ)) (made xs : List X)
     → Leaves c spelling text made (Some rest) → first_part c rest ≡ (front, after) → AllByRecursion IsValid made → IsRead spelling IsValid front None
     → AllByRecursion IsValid xs → 0 < length xs → text ≡ listed c spelling xs → ⊥
 unread c spelling IsValid apart text rest front after made xs h e all_made bad all_xs some is =
     let n = next_is c spelling IsValid apart text rest front after made xs h e all_made all_xs some is in bad n.next n.valid n.text
 
 -- the value that is read is the next one
-pub read_next : {X : Type 0} (c : ℕ) (spelling : X → List ℕ) (IsValid : X → Type 0) → IsApart c spelling IsValid → (text rest front : List ℕ) (after : Option (List ℕ)) (made xs : List X) (x : X)
+pub read_next : {X : Type 0} (c : ℕ) (spelling : X → List ℕ) (IsValid : X → Type 0) → IsApart c spelling IsValid
+    → (text rest front : List ℕ) (after : Option (List ℕ)) (made xs : List X) (x : X)
     → Leaves c spelling text made (Some rest) → first_part c rest ≡ (front, after) → AllByRecursion IsValid made → IsRead spelling IsValid front (Some x)
     → AllByRecursion IsValid xs → 0 < length xs → text ≡ listed c spelling xs → (more : List X) × (xs ≡ made ++ x ∷ more)
 read_next c spelling IsValid apart text rest front after made xs x h e all_made good all_xs some is =
@@ -160,16 +169,19 @@ listed_same c spelling IsValid apart [] [] h k e = refl
 listed_same c spelling IsValid apart [] (y ∷ ys) h k e = absurd (none-some (listed c spelling (y ∷ ys)) e)
 listed_same c spelling IsValid apart (x ∷ xs) [] h k e = absurd (none-some (listed c spelling (x ∷ xs)) (sym e))
 listed_same c spelling IsValid apart (x ∷ xs) (y ∷ ys) h k e =
-    let both = pair_same (sym (first_listed c spelling x xs (apart.lacks x h.0)) ∙ ap (first_part c) (some_same e) ∙ first_listed c spelling y ys (apart.lacks y k.0)) in
+    let both = pair_same (sym (first_listed c spelling x xs (apart.lacks x h.0)) ∙ ap (first_part c) (some_same e)
+    ∙ first_listed c spelling y ys (apart.lacks y k.0)) in
     let first : x ≡ y = apart.one x y h.0 k.0 both.0 in
     let rest : xs ≡ ys = listed_same c spelling IsValid apart xs ys h.1 k.1 both.1 in cc (first, rest)
 
-led_lacks : {X : Type 0} (b c : ℕ) (spelling : X → List ℕ) (xs : List X) → c ≢ b → AllByRecursion (λ x. Lacks b (spelling x)) xs → Lacks b (led_by (c ∷ []) (map spelling xs))
+led_lacks : {X : Type 0} (b c : ℕ) (spelling : X → List ℕ) (xs : List X) → c ≢ b → AllByRecursion (λ x. Lacks b (spelling x)) xs
+    → Lacks b (led_by (c ∷ []) (map spelling xs))
 led_lacks b c spelling [] ne h = tt
 led_lacks b c spelling (x ∷ xs) ne h = (apart c b ne, lacks_append b (spelling x) (led_by (c ∷ []) (map spelling xs)) h.0 (led_lacks b c spelling xs ne h.1))
 
 -- a byte that stands in no value's spelling and is not the separator
-pub listed_lacks : {X : Type 0} (b c : ℕ) (spelling : X → List ℕ) (xs : List X) → c ≢ b → AllByRecursion (λ x. Lacks b (spelling x)) xs → Lacks b (listed c spelling xs)
+pub listed_lacks : {X : Type 0} (b c : ℕ) (spelling : X → List ℕ) (xs : List X) → c ≢ b → AllByRecursion (λ x. Lacks b (spelling x)) xs
+    → Lacks b (listed c spelling xs)
 listed_lacks b c spelling [] ne h = tt
 listed_lacks b c spelling (x ∷ xs) ne h = lacks_append b (spelling x) (led_by (c ∷ []) (map spelling xs)) h.0 (led_lacks b c spelling xs ne h.1)
 

@@ -1,5 +1,6 @@
 -- Powers of a variable, as monomials of integer vectors.
-use Rattle.std.proofs.Common.{◌≡◌, ◌≢◌, ℕ, zero, suc, ◌+◌, ◌*◌, ◌/◌, ◌%◌, ◌<◌, ℤ, pos, Option, negsuc, neg_ℤ, unsigned_abs, List, ◌∷◌, length, slice_set, replicate, refl, ap, subst, ◌∙◌, arith, append-nil, sum_by}
+use Rattle.std.proofs.Common.{◌≡◌, ◌≢◌, ℕ, zero, suc, ◌+◌, ◌*◌, ◌/◌, ◌%◌, ◌<◌, ℤ, pos, Option, negsuc, neg_ℤ, unsigned_abs, List, ◌∷◌, length, slice_set}
+use Rattle.std.proofs.Common.{replicate, refl, ap, subst, ◌∙◌, arith, append-nil, sum_by}
 use Rattle.std.proofs.lemmas.List.Sums.{sum_by-set}
 use Rattle.std.proofs.lemmas.List.Folds.{sum_by-replicate}
 use Rattle.std.proofs.lemmas.List.{get_or-replicate, length-replicate, length-set}

@@ -26,7 +26,8 @@ pub one_monomial : (p : Presented) (s t : List ℕ) → IsPresented p → IsMono
     → monomial_text p.names s ≡ monomial_text p.names t → s ≡ t
 one_monomial p s t known h k e = monomial_same p.names (names_of p known) s t h k e
 
-pub one_place : (p : Presented) (x y : Place) → IsPresented p → IsPlaceOf (length p.names) x → IsPlaceOf (length p.names) y → place_text p.names x ≡ place_text p.names y → x ≡ y
+pub one_place : (p : Presented) (x y : Place) → IsPresented p → IsPlaceOf (length p.names) x → IsPlaceOf (length p.names) y
+    → place_text p.names x ≡ place_text p.names y → x ≡ y
 one_place p x y known h k e = place_same p.names (names_of p known) x y h k e
 
 pub one_vector : (p : Presented) (v w : List Term) → IsPresented p → IsVectorOf (length p.names) v → IsVectorOf (length p.names) w

@@ -1,5 +1,6 @@
 -- The texts of vectors, read term by term.
-use Rattle.std.proofs.Common.{◌≡◌, ◌≢◌, ◌⊎◌, inl, inr, ℕ, zero, suc, ℤ, pos, negsuc, map, sym, append_assoc, ◌-◌, ◌<◌, List, [], ◌∷◌, ◌++◌, length, slice_get, MatchOption, Option, Some, None, refl, ap, subst, ◌∙◌, arith, length-append}
+use Rattle.std.proofs.Common.{◌≡◌, ◌≢◌, ◌⊎◌, inl, inr, ℕ, zero, suc, ℤ, pos, negsuc, map, sym, append_assoc, ◌-◌, ◌<◌, List, [], ◌∷◌, ◌++◌, length, slice_get}
+use Rattle.std.proofs.Common.{MatchOption, Option, Some, None, refl, ap, subst, ◌∙◌, arith, length-append}
 use Rattle.std.specs.List.{AllByRecursion}
 use Rattle.spelling.specs.Spelling.{IsRead, first_part, coefficient}
 use Rattle.presentation.specs.Writing.{led_by}
@@ -24,7 +25,8 @@ pub begins : (names : List (List ℕ)) (text : List ℕ) → Going names text []
 begins names text = record { leaves = refl; vector = record { sparse = record { falling = tt; terms = tt }; most = omega arith }; over = tt }
 
 -- something is left
-pub still : (names : List (List ℕ)) (text : List ℕ) (terms : List Term) (left : Option (List ℕ)) (rest : List ℕ) → left ≡ Some rest → Going names text terms left → Going names text terms (Some rest)
+pub still : (names : List (List ℕ)) (text : List ℕ) (terms : List Term) (left : Option (List ℕ)) (rest : List ℕ) → left ≡ Some rest
+    → Going names text terms left → Going names text terms (Some rest)
 still names text terms left rest e h = let P : Option (List ℕ) → Type 0 = Going names text terms in subst P e h
 
 together : (n : ℕ) (v : List Term) → AllByRecursion IsTerm v → VectorIsOver n v → AllByRecursion (IsTermOf n) v
@@ -34,11 +36,13 @@ together n (t ∷ v) h k = (record { term = h.0; over = k.0 }, together n v h.1 
 all_terms : (n : ℕ) (v : List Term) → IsVectorOf n v → AllByRecursion (IsTermOf n) v
 all_terms n v h = together n v h.vector.sparse.terms h.over
 
-all_made : (names : List (List ℕ)) (text : List ℕ) (terms : List Term) (left : Option (List ℕ)) → Going names text terms left → AllByRecursion (IsTermOf (length names)) terms
+all_made : (names : List (List ℕ)) (text : List ℕ) (terms : List Term) (left : Option (List ℕ)) → Going names text terms left
+    → AllByRecursion (IsTermOf (length names)) terms
 all_made names text terms left h = together (length names) terms h.vector.sparse.terms h.over
 
 -- no vector's text goes on with this part
-pub no_term : (names : List (List ℕ)) → AreNames names → (text rest front : List ℕ) (after : Option (List ℕ)) (terms : List Term) → Going names text terms (Some rest)
+pub no_term : (names : List (List ℕ)) → AreNames names → (text rest front : List ℕ) (after : Option (List ℕ)) (terms : List Term)
+    → Going names text terms (Some rest)
     → first_part 32 rest ≡ (front, after) → IsRead (term_text names) (IsTermOf (length names)) front None
     → (v : List Term) → IsSumOf (length names) v → text ≡ terms_text names v → ⊥
 no_term names known text rest front after terms h e bad = λ v k is.
@@ -46,7 +50,8 @@ no_term names known text rest front after terms h e bad = λ v k is.
     h.leaves e (all_made names text terms (Some rest) h) bad (all_terms (length names) v k.vector) k.some is
 
 -- a term that stands behind others in a vector may follow them
-last_below : (v : List Term) (u : Term) (t : Term) (more : List Term) → Falls (u ∷ v ++ t ∷ more) → MatchOption (slice_get (u ∷ v) (length v)) (Unit {0}) (λ last. IsBelow t.at last.at)
+last_below : (v : List Term) (u : Term) (t : Term) (more : List Term) → Falls (u ∷ v ++ t ∷ more)
+    → MatchOption (slice_get (u ∷ v) (length v)) (Unit {0}) (λ last. IsBelow t.at last.at)
 last_below [] u t more f = f.0.0
 last_below (w ∷ v) u t more f = last_below v w t more f.1
 
@@ -56,7 +61,8 @@ follows v t more h = record { room = omega (arith, h.most, length-append v (t �
   by [] f = tt
   by (u ∷ w) f = let same : length (u ∷ w) - 1 ≡ length w = omega arith in rw same (last_below w u t more f)
 
-pub not_falling : (names : List (List ℕ)) → AreNames names → (text rest front : List ℕ) (after : Option (List ℕ)) (terms : List Term) (t : Term) → Going names text terms (Some rest)
+pub not_falling : (names : List (List ℕ)) → AreNames names → (text rest front : List ℕ) (after : Option (List ℕ)) (terms : List Term) (t : Term)
+    → Going names text terms (Some rest)
     → first_part 32 rest ≡ (front, after) → IsRead (term_text names) (IsTermOf (length names)) front (Some t) → (MayFollow terms t → ⊥)
     → (v : List Term) → IsSumOf (length names) v → text ≡ terms_text names v → ⊥
 not_falling names known text rest front after terms t h e good bad = λ v k is.
@@ -65,7 +71,8 @@ not_falling names known text rest front after terms t h e good bad = λ v k is.
     let P : List Term → Type 0 = IsVector in
     bad (follows terms t n.0 (subst P n.1 k.vector.vector))
 
-above_all : (v : List Term) (u : Term) (t : Term) → Falls (u ∷ v) → MatchOption (slice_get (u ∷ v) (length v)) (Unit {0}) (λ last. IsBelow t.at last.at) → Above t.at (u ∷ v)
+above_all : (v : List Term) (u : Term) (t : Term) → Falls (u ∷ v) → MatchOption (slice_get (u ∷ v) (length v)) (Unit {0}) (λ last. IsBelow t.at last.at)
+    → Above t.at (u ∷ v)
 above_all [] u t f h = (h, tt)
 above_all (w ∷ v) u t f h =
     let rest = above_all v w t f.1 h in (order.transitive t.at w.at u.at rest.0 f.0.0, rest)
@@ -89,7 +96,8 @@ longer v t h k m = record {
 
 -- one more term
 pub going_on : (names : List (List ℕ)) (text rest front : List ℕ) (after : Option (List ℕ)) (terms : List Term) (t : Term) → Going names text terms (Some rest)
-    → first_part 32 rest ≡ (front, after) → IsRead (term_text names) (IsTermOf (length names)) front (Some t) → MayFollow terms t → Going names text (terms ++ t ∷ []) after
+    → first_part 32 rest ≡ (front, after) → IsRead (term_text names) (IsTermOf (length names)) front (Some t) → MayFollow terms t
+    → Going names text (terms ++ t ∷ []) after
 going_on names text rest front after terms t h e good m = record {
   leaves = goes_on 32 (term_text names) text rest front after terms t h.leaves e good.1;
   vector = longer terms t h.vector good.0.term m;
@@ -97,7 +105,8 @@ going_on names text rest front after terms t h e good m = record {
 }
 
 -- the whole text is read
-pub whole_read : (names : List (List ℕ)) (text : List ℕ) (terms : List Term) → Going names text terms None → IsSumOf (length names) terms × (text ≡ terms_text names terms)
+pub whole_read : (names : List (List ℕ)) (text : List ℕ) (terms : List Term) → Going names text terms None
+    → IsSumOf (length names) terms × (text ≡ terms_text names terms)
 whole_read names text terms h = (record { vector = record { vector = h.vector; over = h.over }; some = h.leaves.0 }, h.leaves.1)
 
 -- a vector with a term, and the one without
@@ -129,9 +138,13 @@ not_zero (pos n) more e = omega (arith, head_same e)
 not_zero (negsuc n) more e = omega (arith, head_same e)
 
 -- a text is that of one vector
-pub vector_same : (names : List (List ℕ)) → AreNames names → (v w : List Term) → IsVectorOf (length names) v → IsVectorOf (length names) w → vector_text names v ≡ vector_text names w → v ≡ w
+pub vector_same : (names : List (List ℕ)) → AreNames names → (v w : List Term) → IsVectorOf (length names) v → IsVectorOf (length names) w
+    → vector_text names v ≡ vector_text names w → v ≡ w
 vector_same names known [] [] h k e = refl
-vector_same names known [] (u ∷ w) h k e = absurd (not_zero u.k (42 ∷ place_text names u.at ++ led_by (32 ∷ []) (map (term_text names) w)) (e ∙ append_assoc (coefficient u.k) (42 ∷ place_text names u.at) (led_by (32 ∷ []) (map (term_text names) w))))
-vector_same names known (t ∷ v) [] h k e = absurd (not_zero t.k (42 ∷ place_text names t.at ++ led_by (32 ∷ []) (map (term_text names) v)) (sym e ∙ append_assoc (coefficient t.k) (42 ∷ place_text names t.at) (led_by (32 ∷ []) (map (term_text names) v))))
+vector_same names known [] (u ∷ w) h k e = absurd (not_zero u.k (42 ∷ place_text names u.at ++ led_by (32 ∷ []) (map (term_text names) w)) (e
+    ∙ append_assoc (coefficient u.k) (42 ∷ place_text names u.at) (led_by (32 ∷ []) (map (term_text names) w))))
+vector_same names known (t ∷ v) [] h k e = absurd (not_zero t.k (42 ∷ place_text names t.at ++ led_by (32 ∷ []) (map (term_text names) v)) (sym e
+    ∙ append_assoc (coefficient t.k) (42 ∷ place_text names t.at) (led_by (32 ∷ []) (map (term_text names) v))))
 vector_same names known (t ∷ v) (u ∷ w) h k e =
-    listed_same 32 (term_text names) (IsTermOf (length names)) (terms_apart names known) (t ∷ v) (u ∷ w) (all_terms (length names) (t ∷ v) h) (all_terms (length names) (u ∷ w) k) (ap Some e)
+    listed_same 32 (term_text names) (IsTermOf (length names)) (terms_apart names known) (t ∷ v) (u ∷ w) (all_terms (length names) (t ∷ v) h)
+    (all_terms (length names) (u ∷ w) k) (ap Some e)

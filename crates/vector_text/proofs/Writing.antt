@@ -1,5 +1,6 @@
 -- The factors that are written, and those that are left.
-use Rattle.std.proofs.Common.{◌≡◌, ◌≢◌, ℕ, zero, suc, ◌+◌, ◌*◌, ◌<◌, ◌≤◌, ◌==◌, Bool, true, false, if◌then◌else◌, List, [], ◌∷◌, ◌++◌, length, drop, get_or, map, codes, refl, ap, ◌∙◌, arith, append_assoc, append-nil, add-one, ℤ, pos, negsuc}
+use Rattle.std.proofs.Common.{◌≡◌, ◌≢◌, ℕ, zero, suc, ◌+◌, ◌*◌, ◌<◌, ◌≤◌, ◌==◌, Bool, true, false, if◌then◌else◌, List, [], ◌∷◌, ◌++◌, length, drop, get_or}
+use Rattle.std.proofs.Common.{map, codes, refl, ap, ◌∙◌, arith, append_assoc, append-nil, add-one, ℤ, pos, negsuc}
 use Rattle.std.proofs.lemmas.List.{drop_more, get_or-drop}
 use Rattle.std.proofs.lemmas.Bool.Decides.{nat_tests}
 use Rattle.spelling.specs.Spelling.{IsCoefficient}

@@ -17,4 +17,5 @@ ReadBack x (Err NoMemory) = Unit {0}
 
 -- a reader of this text answers x
 abbrev pub IsReadBack : {X : Type 0} → (X → List ℕ) → (X → Type 0) → X → List ℕ → Type 0
-IsReadBack {X} spelling IsValid x text = (read : Result X SpellFault) → Reads spelling IsValid text read → ReadBack x read
+IsReadBack {X} spelling IsValid x text = (read : Result X SpellFault) → Reads spelling IsValid text read
+    → ReadBack x read

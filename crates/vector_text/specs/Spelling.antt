@@ -20,7 +20,10 @@ factor_text names f = variable_text names f.variable ++ exponent_text f.exponent
 -- the factors of a monomial in the order of the variables, where the exponents are those of the variables from v on
 abbrev pub factors_from : ℕ → List ℕ → List Factor
 factors_from v [] = []
-factors_from v (e ∷ s) = if e == 0 then factors_from (suc v) s else record { variable = v; exponent = e } ∷ factors_from (suc v) s
+factors_from v (e ∷ s) = if e == 0 then factors_from (suc v) s else record {
+  variable = v;
+  exponent = e;
+} ∷ factors_from (suc v) s
 
 -- `1`, or the factors with points between them
 abbrev pub product_text : List (List ℕ) → List ℕ

@@ -108,7 +108,8 @@ pub fn power(f: Factor) -> Option<Mono>
 #[tactic(auto, using(crate::proofs::Powers::total_set))]
 fn signed_power(g: u8, exponent: i32) -> Option<Mono>
     requires { 2 * g < VARIABLES }
-    ensures made { MadeWithin (unsigned_abs exponent) (monomial_of (slice_set (replicate 24 (pos 0)) g exponent)) result }
+    ensures made { MadeWithin (unsigned_abs exponent) (monomial_of
+        (slice_set (replicate 24 (pos 0)) g exponent)) result }
     ensures monomial { IfSome result IsMonomial }
 {
     let mut exponents = [0; VARIABLES / 2];

@@ -17,13 +17,15 @@ pub fn one_monomial()
 /// A text is that of one place.
 #[tactic(auto, using(crate::proofs::ReadingBack::one_place))]
 pub fn one_place()
-    ensures { (p : Presented) (x y : Place) → IsPresented p → IsPlaceOf (length p.names) x → IsPlaceOf (length p.names) y
+    ensures { (p : Presented) (x y : Place) → IsPresented p → IsPlaceOf (length p.names) x
+        → IsPlaceOf (length p.names) y
         → place_text p.names x ≡ place_text p.names y → x ≡ y }
 {}
 
 /// A text is that of one vector.
 #[tactic(auto, using(crate::proofs::ReadingBack::one_vector))]
 pub fn one_vector()
-    ensures { (p : Presented) (v w : List Term) → IsPresented p → IsVectorOf (length p.names) v → IsVectorOf (length p.names) w
+    ensures { (p : Presented) (v w : List Term) → IsPresented p → IsVectorOf (length p.names) v
+        → IsVectorOf (length p.names) w
         → vector_text p.names v ≡ vector_text p.names w → v ≡ w }
 {}

@@ -20,7 +20,8 @@ use std::alloc::{AllocError, Global};
 pub fn write_mono(alloc: Global, p: &Presentation, m: &Mono) -> Result<Vec<u8>, AllocError>
     requires { MonoIsOver (length p.now.names) m.now }
     ensures text { IfOk result (λ text. text.items ≡ monomial_text p.now.names m.now) }
-    ensures read_back { IfOk result (λ text. IsReadBack (monomial_text p.now.names) (IsMonoOf (length p.now.names)) m.now text.items) }
+    ensures read_back { IfOk result (λ text. IsReadBack (monomial_text p.now.names) (IsMonoOf (length p.now.names))
+        m.now text.items) }
 {
     p.known();
     // The proof needs that this is a monomial, and the call says so.

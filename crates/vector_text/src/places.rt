@@ -18,7 +18,8 @@ use std::alloc::{AllocError, Global};
 pub fn write_place(alloc: Global, p: &Presentation, at: &Place) -> Result<Vec<u8>, AllocError>
     requires { PlaceIsOver (length p.now.names) at.now }
     ensures text { IfOk result (λ text. text.items ≡ place_text p.now.names at.now) }
-    ensures read_back { IfOk result (λ text. IsReadBack (place_text p.now.names) (IsPlaceOf (length p.now.names)) at.now text.items) }
+    ensures read_back { IfOk result (λ text. IsReadBack (place_text p.now.names) (IsPlaceOf (length p.now.names))
+        at.now text.items) }
 {
     p.known();
     // The proof needs that this is a monomial, and the call says so.
@@ -38,8 +39,8 @@ pub fn put_place(out: &mut Vec<u8>, p: &Presentation, at: &Place) -> Result<(), 
     out.extend_from_slice(p.name(at.c).as_bytes())
 }
 
-/// The place over the presentation's generators that the text spells. `Spelling` exactly where it is no place's, and never
-/// `NoMemory`.
+/// The place over the presentation's generators that the text spells. `Spelling` exactly where it is no place's, and
+/// never `NoMemory`.
 pub fn read_place(p: &Presentation, text: &[u8]) -> Result<Place, SpellFault>
     ensures reads { Reads (place_text p.now.names) (IsPlaceOf (length p.now.names)) text.now result }
     ensures no_memory_taken { IfErr result (λ e. e ≡ SpellFault.Spelling) }

@@ -18,7 +18,8 @@ use std::alloc::{AllocError, Global};
 pub fn write_vector(alloc: Global, p: &Presentation, v: &ModVec) -> Result<Vec<u8>, AllocError>
     requires { VectorIsOver (length p.now.names) v.now }
     ensures text { IfOk result (λ text. text.items ≡ vector_text p.now.names v.now) }
-    ensures read_back { IfOk result (λ text. IsReadBack (vector_text p.now.names) (IsVectorOf (length p.now.names)) v.now text.items) }
+    ensures read_back { IfOk result (λ text. IsReadBack (vector_text p.now.names) (IsVectorOf (length p.now.names))
+        v.now text.items) }
 {
     p.known();
     // The proof needs that the terms are a vector's, and the call says so.
@@ -44,8 +45,9 @@ pub fn put_vector(out: &mut Vec<u8>, p: &Presentation, v: &ModVec) -> Result<(),
     Ok(())
 }
 
-/// The vector over the presentation's generators that the text spells: at most [`TERMS`](module_vec::TERMS) terms in strictly
-/// falling order of their places. `Spelling` exactly where the text is no such vector's. The time is linear in the text.
+/// The vector over the presentation's generators that the text spells: at most [`TERMS`](module_vec::TERMS) terms in
+/// strictly falling order of their places. `Spelling` exactly where the text is no such vector's. The time is linear in
+/// the text.
 pub fn read_vector(alloc: Global, p: &Presentation, text: &[u8]) -> Result<ModVec, SpellFault>
     ensures { Reads (vector_text p.now.names) (IsVectorOf (length p.now.names)) text.now result }
 {

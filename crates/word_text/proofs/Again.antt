@@ -1,5 +1,6 @@
 -- What is in the grammar is read.
-use Rattle.std.proofs.Common.{◌≡◌, ℕ, zero, suc, ◌<◌, ◌≤◌, true, false, List, [], ◌∷◌, ◌++◌, length, drop, Option, Result, Ok, refl, sym, ◌∙◌, ap, subst, arith, if◌then◌else◌}
+use Rattle.std.proofs.Common.{◌≡◌, ℕ, zero, suc, ◌<◌, ◌≤◌, true, false, List, [], ◌∷◌, ◌++◌, length, drop, Option, Result, Ok, refl, sym, ◌∙◌, ap, subst, arith}
+use Rattle.std.proofs.Common.{if◌then◌else◌}
 use Rattle.free_words.specs.declared.letter.Letter.{Letter}
 use Rattle.free_words.specs.Words.{commutator}
 use Rattle.word_text.specs.declared.fault.Fault.{Fault}
@@ -9,7 +10,8 @@ use Rattle.word_text.specs.declared.machine.Spot.{Spot}
 use Rattle.word_text.specs.declared.machine.Spot.TheVariants.{Start, After, Starred}
 use Rattle.word_text.specs.Scan.{◌>>=◌, is_blank, mark_byte, first_is, after_blanks, after_name, mark_of}
 use Rattle.word_text.specs.Powers.{written}
-use Rattle.word_text.specs.Machine.{Opening, Round, Square, Second, Frame, Reading, Turned, Find, goes_on, factor_ends, shuts, closes, stands_no_factor, named, turn_on, turn, word_from, word_within, fresh}
+use Rattle.word_text.specs.Machine.{Opening, Round, Square, Second, Frame, Reading, Turned, Find, goes_on, factor_ends, shuts, closes, stands_no_factor, named}
+use Rattle.word_text.specs.Machine.{turn_on, turn, word_from, word_within, fresh}
 use Rattle.word_text.specs.Grammar.{Part, Product, Factor, Atom, SpelledWithin, PowersWithin, IsWordWithin, IsWord}
 use Rattle.word_text.specs.Fronts.{SoFar}
 use Rattle.word_text.specs.Place.{text_within, word_text}
@@ -108,19 +110,22 @@ closes_at limit find s frames w c bs u m n e =
 
 -- a bracket opens
 opens_there : (limit : ℕ) (find : Find) (frames : List Frame) (outer : List Letter) (spot : Spot) (place : List ℕ) → mark_of place ≡ marks.Round
-    → Reaches limit find (at frames outer spot) place (at (record { outer = outer; start = length place; opening = Round } ∷ frames) [] Start) (after_blanks (drop 1 place))
+    → Reaches limit find (at frames outer spot) place (at (record { outer = outer; start = length place; opening = Round } ∷ frames) [] Start)
+    (after_blanks (drop 1 place))
 opens_there limit find frames outer spot place m =
     one_turn limit find (at frames outer spot) (at (record { outer = outer; start = length place; opening = Round } ∷ frames) [] Start) place (drop 1 place)
     (turn_at limit find marks.Round (at frames outer spot) place m (marked_skip place marks.Round m (λ e. cc))) (mark_some place marks.Round m (λ e. cc))
 
 opens_square : (limit : ℕ) (find : Find) (frames : List Frame) (outer : List Letter) (spot : Spot) (place : List ℕ) → mark_of place ≡ marks.Square
-    → Reaches limit find (at frames outer spot) place (at (record { outer = outer; start = length place; opening = Square } ∷ frames) [] Start) (after_blanks (drop 1 place))
+    → Reaches limit find (at frames outer spot) place (at (record { outer = outer; start = length place; opening = Square } ∷ frames) [] Start)
+    (after_blanks (drop 1 place))
 opens_square limit find frames outer spot place m =
     one_turn limit find (at frames outer spot) (at (record { outer = outer; start = length place; opening = Square } ∷ frames) [] Start) place (drop 1 place)
     (turn_at limit find marks.Square (at frames outer spot) place m (marked_skip place marks.Square m (λ e. cc))) (mark_some place marks.Square m (λ e. cc))
 
 -- the comma of a square bracket
-passes_comma : (limit : ℕ) (find : Find) (frames : List Frame) (outer u : List Letter) (start : ℕ) (s : Spot) (mid : List ℕ) → Unstarred (Product s) → first_is 44 mid ≡ true
+passes_comma : (limit : ℕ) (find : Find) (frames : List Frame) (outer u : List Letter) (start : ℕ) (s : Spot) (mid : List ℕ) → Unstarred (Product s)
+    → first_is 44 mid ≡ true
     → Reaches limit find (at (record { outer = outer; start = start; opening = Square } ∷ frames) u s) mid
     (at (record { outer = outer; start = start; opening = Second u } ∷ frames) [] Start) (after_blanks (drop 1 mid))
 passes_comma limit find frames outer u start s mid n c =
@@ -156,20 +161,23 @@ factor_reaches limit find frames outer a v spot bs raw rest f p le = λ n lt.
     factor_ok limit frames outer (length bs) a v raw rest (powers_again limit (length bs) a v raw rest p) le in
     (x.0, omega (arith, x.1, skip_le raw, no_longer (after_blanks raw) rest (raised limit a v (after_blanks raw) rest p.0)), x.2 ∙ ap (Onward limit x.0 find) e)
 
-pub complete : (limit : ℕ) (find : Find) (p : Part) (bs : List ℕ) (w : List Letter) (rest : List ℕ) → SpelledWithin limit find p bs w rest → Claim limit find p bs w rest
+pub complete : (limit : ℕ) (find : Find) (p : Part) (bs : List ℕ) (w : List Letter) (rest : List ℕ) → SpelledWithin limit find p bs w rest
+    → Claim limit find p bs w rest
 complete limit find _ _ _ _ (SpelledWithin.nothing bs) = λ frames n lt. (n, lt, refl)
 complete limit find _ _ _ _ (SpelledWithin.follows s bs mid rest u v a f le) = λ frames.
     thence limit find (at frames [] Start) (at frames u s) (at frames (u ++ v) After) bs mid rest
     (complete limit find (Product s) bs u mid a frames) (complete limit find Factor mid v rest f frames u s le)
 complete limit find _ _ _ _ (SpelledWithin.times bs mid rest u v a m f le) = λ frames.
     thence limit find (at frames [] Start) (at frames u After) (at frames (u ++ v) After) bs mid rest (complete limit find (Product After) bs u mid a frames)
-    (thence limit find (at frames u After) (at frames u Starred) (at frames (u ++ v) After) mid (after_blanks (drop 1 mid)) rest (passes_star limit find frames u mid m)
+    (thence limit find (at frames u After) (at frames u Starred) (at frames (u ++ v) After) mid (after_blanks (drop 1 mid)) rest
+    (passes_star limit find frames u mid m)
     (complete limit find Factor (after_blanks (drop 1 mid)) v rest f frames u Starred le))
 complete limit find _ _ _ _ (SpelledWithin.powers bs mid rest w v a p) = λ frames outer spot le.
     factor_reaches limit find frames outer w v spot bs mid rest (complete limit find Atom bs w mid a frames outer spot) p le
 complete limit find _ _ _ _ (SpelledWithin.name bs g m f) = λ frames outer spot.
     arrives limit find (at frames outer spot) bs (after_name bs) _
-    (turn_at limit find marks.Letter (at frames outer spot) bs m (marked_skip bs marks.Letter m (λ e. cc)) ∙ ap (λ (o : Option ℕ). named limit o (at frames outer spot) bs) f)
+    (turn_at limit find marks.Letter (at frames outer spot) bs m (marked_skip bs marks.Letter m (λ e. cc))
+    ∙ ap (λ (o : Option ℕ). named limit o (at frames outer spot) bs) f)
     (name_lt bs m)
 complete limit find _ _ _ _ (SpelledWithin.one bs m) = λ frames outer spot.
     arrives limit find (at frames outer spot) bs (drop 1 bs) _
@@ -199,7 +207,8 @@ complete limit find _ _ _ _ (SpelledWithin.square s t bs mid last u v m a c b d 
     (closes_at limit find t (g ∷ frames) v 93 last (no_star limit find (Product t) _ v last b) other.2 unblank.2 d ∙ r) (first_lt 93 last d))
 
 -- a product so far
-so_far_reached : (limit : ℕ) (find : Find) (spot : Spot) (frames : List Frame) (begin : List ℕ) (w : List Letter) (bs : List ℕ) → SoFar limit find spot begin w bs
+so_far_reached : (limit : ℕ) (find : Find) (spot : Spot) (frames : List Frame) (begin : List ℕ) (w : List Letter) (bs : List ℕ)
+    → SoFar limit find spot begin w bs
     → Reaches limit find (at frames [] Start) begin (at frames w spot) bs
 so_far_reached limit find Start frames begin w bs h = complete limit find (Product Start) begin w bs h frames
 so_far_reached limit find After frames begin w bs h = complete limit find (Product After) begin w bs h frames
@@ -209,16 +218,19 @@ so_far_reached limit find Starred frames begin w bs h =
     (complete limit find (Product After) begin w h.0 h.1 frames) (passes_star limit find frames w h.0 h.2))
 
 -- a bracket that is open
-opened_reached : (limit : ℕ) (find : Find) (opening : Opening) (frames : List Frame) (outer : List Letter) (spot : Spot) (place begin : List ℕ) → Opened limit find opening place begin
+opened_reached : (limit : ℕ) (find : Find) (opening : Opening) (frames : List Frame) (outer : List Letter) (spot : Spot) (place begin : List ℕ)
+    → Opened limit find opening place begin
     → Reaches limit find (at frames outer spot) place (at (record { outer = outer; start = length place; opening = opening } ∷ frames) [] Start) begin
 opened_reached limit find Round frames outer spot place begin o = rw (o.1) (opens_there limit find frames outer spot place o.0)
 opened_reached limit find Square frames outer spot place begin o = rw (o.1) (opens_square limit find frames outer spot place o.0)
 opened_reached limit find (Second u) frames outer spot place begin o =
     let f : Frame = record { outer = outer; start = length place; opening = Square } in
     let g : Frame = record { outer = outer; start = length place; opening = Second u } in
-    rw (o.5) (thence limit find (at frames outer spot) (at (f ∷ frames) [] Start) (at (g ∷ frames) [] Start) place (after_blanks (drop 1 place)) (after_blanks (drop 1 o.1))
+    rw (o.5) (thence limit find (at frames outer spot) (at (f ∷ frames) [] Start) (at (g ∷ frames) [] Start) place (after_blanks (drop 1 place))
+    (after_blanks (drop 1 o.1))
     (opens_square limit find frames outer spot place o.2)
-    (thence limit find (at (f ∷ frames) [] Start) (at (f ∷ frames) u o.0) (at (g ∷ frames) [] Start) (after_blanks (drop 1 place)) o.1 (after_blanks (drop 1 o.1))
+    (thence limit find (at (f ∷ frames) [] Start) (at (f ∷ frames) u o.0) (at (g ∷ frames) [] Start) (after_blanks (drop 1 place)) o.1
+    (after_blanks (drop 1 o.1))
     (complete limit find (Product o.0) (after_blanks (drop 1 place)) u o.1 o.3 (f ∷ frames))
     (passes_comma limit find frames outer u (length place) o.0 o.1 (no_star limit find (Product o.0) _ u o.1 o.3) o.4)))
 

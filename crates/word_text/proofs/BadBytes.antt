@@ -7,7 +7,8 @@ use Rattle.word_text.specs.Faults.{IsBad}
 use Rattle.word_text.proofs.Lexing.{skip_true, skip_le}
 
 -- a mark of none is that of an unknown byte
-chain : (l p q r s t : Bool) → (if l then Letter else if p then One else if q then Round else if r then Square else if s then Star else if t then Other else Bad) ≡ Bad → t ≡ false
+chain : (l p q r s t : Bool) → (if l then Letter else if p then One else if q then Round else if r then Square else if s then Star else if t then Other else
+    Bad) ≡ Bad → t ≡ false
 chain true p q r s t e = cc
 chain false true q r s t e = cc
 chain false false true r s t e = cc

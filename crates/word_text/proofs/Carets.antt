@@ -46,7 +46,8 @@ powers_complete : (limit : ℕ) (find : Find) (text : List ℕ) (frames : List F
 powers_complete limit find text frames outer a v spot place mid at h atom p =
     both (Makes_word find frames spot) (Atom_raised limit find a v) (Makes_powers find frames v) text place at
     (text_completes limit find text frames outer spot place h)
-    (both (Parts limit find Atom a) (Raises_behind limit a v) (Atom_raised limit find a v) place mid at (moves limit limit find Atom place a mid (omega arith) atom)
+    (both (Parts limit find Atom a) (Raises_behind limit a v) (Atom_raised limit find a v) place mid at
+    (moves limit limit find Atom place a mid (omega arith) atom)
     (behind_blanks limit a v mid at (raised_moves limit limit a v (after_blanks mid) at (omega arith) p)) (λ x y z r s. (y, r, s)))
     (λ x y z f g m u q. f (by_factor find spot y (closers frames) (factor_here limit m find frames a v u y g.0 z g.1 g.2 q)))
 
@@ -73,7 +74,8 @@ zero_power : (frames : List Frame) (v : List Letter) (bs : List ℕ) (negative :
 zero_power frames v bs negative c x =
     let u : List Letter = power_of negative 0 v in
     Raised.more v u bs (closers frames) (closers frames) negative 0 c x (omega arith)
-    (subst (λ (l : List ℕ). Raised (length u) u l u (closers frames)) (sym (halts_clear (closers frames) (halts_closers frames))) (Raised.none u (closers frames)))
+    (subst (λ (l : List ℕ). Raised (length u) u l u (closers frames)) (sym (halts_clear (closers frames) (halts_closers frames)))
+    (Raised.none u (closers frames)))
 
 -- `^`, or `^` and `-`, with the digits' place behind it
 abbrev Minus : List ℕ → List ℕ → Type 0
@@ -85,7 +87,8 @@ Before_digits find frames text here = IsSize here 0 (closers frames) → first_i
 abbrev Gapped : Find → List Frame → List ℕ → List ℕ → Type 0
 Gapped find frames text place = (q : List ℕ) × (text ≡ q ++ place) × ((cs : List ℕ) → Past is_blank cs → Before_digits find frames (q ++ cs) cs)
 
-digits_next : (find : Find) (text : List ℕ) (frames : List Frame) (v : List Letter) (at place : List ℕ) → Swap (Makes_powers find frames v) text at → first_is 94 at ≡ true
+digits_next : (find : Find) (text : List ℕ) (frames : List Frame) (v : List Letter) (at place : List ℕ) → Swap (Makes_powers find frames v) text at
+    → first_is 94 at ≡ true
     → SizePlace (after_blanks (drop 1 at)) place → Gapped find frames text place
 digits_next find text frames v at place s c (inr p) =
     subst (λ (l : List ℕ). Gapped find frames text l) (sym p.1)

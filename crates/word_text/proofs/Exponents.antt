@@ -1,5 +1,6 @@
 -- What stands behind `^`: an exponent, or the first fault.
-use Rattle.std.proofs.Common.{◌==◌, ◌≡◌, ◌⊎◌, inl, inr, ℕ, ◌<◌, ◌≤◌, Bool, true, false, List, length, drop, Some, None, Result, Ok, Err, refl, arith, nat_lt, if◌then◌else◌}
+use Rattle.std.proofs.Common.{◌==◌, ◌≡◌, ◌⊎◌, inl, inr, ℕ, ◌<◌, ◌≤◌, Bool, true, false, List, length, drop, Some, None, Result, Ok, Err, refl, arith, nat_lt}
+use Rattle.std.proofs.Common.{if◌then◌else◌}
 use Rattle.std.proofs.lemmas.Bool.Decides.{nat_tests}
 use Rattle.word_text.specs.declared.fault.Fault.{Fault}
 use Rattle.word_text.specs.declared.fault.TextKind.TheVariants.{ExponentTooLarge}
@@ -77,13 +78,15 @@ exponent_read bs = by_sign bs (first_is 45 bs) refl
 not_zero : (n : ℕ) → 0 < n → (n == 0) ≡ false
 not_zero n lt = grind (arith, nat_tests)
 
-size_again : (negative : Bool) (bs : List ℕ) (n : ℕ) (rest : List ℕ) → IsSize bs n rest → size_at negative bs ≡ Ok (record { negative = negative; size = n; rest = rest })
+size_again : (negative : Bool) (bs : List ℕ) (n : ℕ) (rest : List ℕ) → IsSize bs n rest
+    → size_at negative bs ≡ Ok (record { negative = negative; size = n; rest = rest })
 unfolding size_at
 size_again negative bs n rest h =
     let small : number 0 (digits_at bs) ≤ written = rw (← h.1) (h.2) in
     rw (not_zero (length (digits_at bs)) h.0, within_some written (number 0 (digits_at bs)) small, h.1, h.3) refl
 
-pub exponent_again : (bs : List ℕ) (negative : Bool) (n : ℕ) (rest : List ℕ) → IsExponent bs negative n rest → exponent_at bs ≡ Ok (record { negative = negative; size = n; rest = rest })
+pub exponent_again : (bs : List ℕ) (negative : Bool) (n : ℕ) (rest : List ℕ) → IsExponent bs negative n rest
+    → exponent_at bs ≡ Ok (record { negative = negative; size = n; rest = rest })
 unfolding exponent_at
 exponent_again bs true n rest h = rw (h.0) (size_again true (after_blanks (drop 1 bs)) n rest h.1)
 exponent_again bs false n rest h = rw (h.0) (size_again false bs n rest h.1)

@@ -74,7 +74,8 @@ factor_at limit find text (f ∷ fs) w spot bs h =
 not_bad : (bs : List ℕ) (m : Mark) → mark_of bs ≡ m → (m ≡ marks.Bad → ⊥) → IsBad bs → ⊥
 not_bad bs m e n h = n (sym e ∙ is_bad bs h)
 
-by_due : (find : Find) (text front bs : List ℕ) (m : Mark) → mark_of bs ≡ m → after_blanks bs ≡ bs → Refused find front bs → IsFault find text front bs (kind_due m)
+by_due : (find : Find) (text front bs : List ℕ) (m : Mark) → mark_of bs ≡ m → after_blanks bs ≡ bs → Refused find front bs
+    → IsFault find text front bs (kind_due m)
 by_due find text front bs marks.Bad e c r = (bad_is bs e c, r)
 by_due find text front bs marks.Letter e c r = (not_bad bs marks.Letter e (λ d. cc), r)
 by_due find text front bs marks.One e c r = (not_bad bs marks.One e (λ d. cc), r)
@@ -104,7 +105,8 @@ digits_first bs cs lt e = run_first is_digit bs cs lt e
 abbrev RefusesSizes : Find → List ℕ → List ℕ → Type 0
 RefusesSizes find text place = (cs : List ℕ) (e : Fault) → SameFirst place cs → NoSize cs e → IsSomeWord find (bytes_before text (length place) ++ cs) → ⊥
 
-number_fault : (find : Find) (text place : List ℕ) (e : Fault) → Splits find text place → after_blanks place ≡ place → RefusesSizes find text place → NoSize place e
+number_fault : (find : Find) (text place : List ℕ) (e : Fault) → Splits find text place → after_blanks place ≡ place → RefusesSizes find text place
+    → NoSize place e
     → FaultIs find text e
 number_fault find text place e s c r (inl z) =
     subst (FaultIs find text) (sym z.1) (at_place find text place (kind_due (mark_of place)) s

@@ -1,5 +1,6 @@
 -- Blanks, and how many bytes are left behind tokens.
-use Rattle.std.proofs.Common.{◌==◌, ◌≡◌, ◌⊎◌, inl, inr, ℕ, ◌<◌, ◌≤◌, Bool, true, false, List, [], ◌∷◌, length, drop, take_while, refl, sym, ◌∙◌, arith, length-drop}
+use Rattle.std.proofs.Common.{◌==◌, ◌≡◌, ◌⊎◌, inl, inr, ℕ, ◌<◌, ◌≤◌, Bool, true, false, List, [], ◌∷◌, length, drop, take_while, refl, sym, ◌∙◌, arith}
+use Rattle.std.proofs.Common.{length-drop}
 use Rattle.std.proofs.lemmas.Bool.Decides.{nat_tests}
 use Rattle.std.proofs.lemmas.List.Sums.{take_while-cons}
 use Rattle.word_text.specs.declared.scan.Mark.{Mark}
@@ -16,7 +17,8 @@ pub skip_false : (b : ℕ) (bs : List ℕ) → is_blank b ≡ false → after_bl
 unfolding after_blanks
 skip_false b bs e = rw (take_while-cons is_blank b bs, e) refl
 
-blanks_of : (b : ℕ) (bs : List ℕ) (t : Bool) → is_blank b ≡ t → after_blanks (after_blanks bs) ≡ after_blanks bs → after_blanks (after_blanks (b ∷ bs)) ≡ after_blanks (b ∷ bs)
+blanks_of : (b : ℕ) (bs : List ℕ) (t : Bool) → is_blank b ≡ t → after_blanks (after_blanks bs) ≡ after_blanks bs
+    → after_blanks (after_blanks (b ∷ bs)) ≡ after_blanks (b ∷ bs)
 blanks_of b bs true e h = rw (skip_true b bs e) h
 blanks_of b bs false e h = rw (skip_false b bs e) (skip_false b bs e)
 
@@ -56,7 +58,8 @@ marked_skip [] m e n = no_blanks
 marked_skip (b ∷ bs) m e n = marked_by b bs m (is_blank b) refl e n
 
 -- a byte that closes, or a comma
-pub closing : (c : ℕ) → mark_byte c ≡ marks.Other → is_blank c ≡ false → (bs : List ℕ) → first_is c bs ≡ true → (mark_of bs ≡ marks.Other) × (after_blanks bs ≡ bs)
+pub closing : (c : ℕ) → mark_byte c ≡ marks.Other → is_blank c ≡ false → (bs : List ℕ) → first_is c bs ≡ true
+    → (mark_of bs ≡ marks.Other) × (after_blanks bs ≡ bs)
 closing c m n [] e = cc
 closing c m n (b ∷ bs) e = let same = is_byte b c e in (rw same m, skip_false b bs (rw same n))
 

@@ -4,7 +4,8 @@ use Rattle.std.proofs.lemmas.List.Sums.{take_while-cons}
 use Rattle.word_text.specs.declared.scan.Mark.TheVariants.{Letter, One, Round, Square, Star, Bad, Other}
 use Rattle.word_text.specs.Scan.{is_letter, is_name_byte, mark_byte, mark_of}
 
-chain : (l p q r s t : Bool) → (if l then Letter else if p then One else if q then Round else if r then Square else if s then Star else if t then Other else Bad) ≡ Letter → l ≡ true
+chain : (l p q r s t : Bool) → (if l then Letter else if p then One else if q then Round else if r then Square else if s then Star else if t then Other else
+    Bad) ≡ Letter → l ≡ true
 chain true p q r s t e = refl
 chain false true q r s t e = cc
 chain false false true r s t e = cc

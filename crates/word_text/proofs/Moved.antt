@@ -75,12 +75,15 @@ up_to : (limit : ℕ) (find : Find) (c : ℕ) (s : Spot) (w : List Letter) (bs m
 up_to limit find c s w bs mid f e =
     both (Parts limit find (Product s) w) (Byte c) (Up_to limit find c s w) bs mid (drop 1 mid) f (byte c mid e) (λ x y z p q. (y, p, q.0, q.1))
 
-pub pair_moves : (limit : ℕ) (find : Find) (s t : Spot) (u v : List Letter) (next mid last : List ℕ) → Swap (Parts limit find (Product s) u) next mid → first_is 44 mid ≡ true
+pub pair_moves : (limit : ℕ) (find : Find) (s t : Spot) (u v : List Letter) (next mid last : List ℕ) → Swap (Parts limit find (Product s) u) next mid
+    → first_is 44 mid ≡ true
     → Swap (Parts limit find (Product t) v) (after_blanks (drop 1 mid)) last → first_is 93 last ≡ true → Swap (Pair limit find s t u v) next (drop 1 last)
 pair_moves limit find s t u v next mid last a c b d =
     let second : List ℕ = after_blanks (drop 1 mid) in
-    both (Parts limit find (Product s) u) (λ (x y : List ℕ). (first_is 44 x ≡ true) × Up_to limit find 93 t v (after_blanks (drop 1 x)) y) (Pair limit find s t u v) next mid (drop 1 last) a
-    (both (Token 44) (Up_to limit find 93 t v) (λ (x y : List ℕ). (first_is 44 x ≡ true) × Up_to limit find 93 t v (after_blanks (drop 1 x)) y) mid second (drop 1 last)
+    both (Parts limit find (Product s) u) (λ (x y : List ℕ). (first_is 44 x ≡ true)
+    × Up_to limit find 93 t v (after_blanks (drop 1 x)) y) (Pair limit find s t u v) next mid (drop 1 last) a
+    (both (Token 44) (Up_to limit find 93 t v) (λ (x y : List ℕ). (first_is 44 x ≡ true)
+    × Up_to limit find 93 t v (after_blanks (drop 1 x)) y) mid second (drop 1 last)
     (token 44 mid c) (up_to limit find 93 t v second last b d) (λ x y z p q. (p.0, subst (λ (l : List ℕ). Up_to limit find 93 t v l z) p.1 q)))
     (λ x y z p q. (y, p, q.0, q.1))
 
@@ -95,7 +98,8 @@ moves limit m find _ _ _ _ le (SpelledWithin.follows s bs mid rest u v a f short
 moves limit m find _ _ _ _ le (SpelledWithin.times bs mid rest u v a star f short) =
     let fits : length (u ++ v) ≤ m = omega (arith, le, short) in
     let next : List ℕ = after_blanks (drop 1 mid) in
-    both (Parts m find (Product After) u) (λ (x y : List ℕ). (mark_of x ≡ marks.Star) × Behind m find Factor v x y) (Parts m find (Product After) (u ++ v)) bs mid rest
+    both (Parts m find (Product After) u) (λ (x y : List ℕ). (mark_of x ≡ marks.Star)
+    × Behind m find Factor v x y) (Parts m find (Product After) (u ++ v)) bs mid rest
     (moves limit m find (Product After) bs u mid le a)
     (both (Marked marks.Star) (Parts m find Factor v) (λ (x y : List ℕ). (mark_of x ≡ marks.Star) × Behind m find Factor v x y) mid next rest
     (marked marks.Star mid star (λ e. cc)) (moves limit m find Factor next v rest le f)
@@ -139,7 +143,8 @@ raised_wider limit m w v bs rest le h = unmoved (Raises m w v) bs rest (raised_m
 abbrev pub So_far : ℕ → Find → Spot → List Letter → List ℕ → List ℕ → Type 0
 So_far limit find spot w begin place = SoFar limit find spot begin w place
 
-pub so_far_moves : (limit m : ℕ) (find : Find) (spot : Spot) (begin : List ℕ) (w : List Letter) (place : List ℕ) → limit ≤ m → SoFar limit find spot begin w place
+pub so_far_moves : (limit m : ℕ) (find : Find) (spot : Spot) (begin : List ℕ) (w : List Letter) (place : List ℕ) → limit ≤ m
+    → SoFar limit find spot begin w place
     → Swap (So_far m find spot w) begin place
 so_far_moves limit m find Start begin w place le h = moves limit m find (Product Start) begin w place le h
 so_far_moves limit m find After begin w place le h = moves limit m find (Product After) begin w place le h
@@ -148,7 +153,8 @@ so_far_moves limit m find Starred begin w place le h =
     (both (Parts m find (Product After) w) (Marked marks.Star) (So_far m find Starred w) begin h.0 (after_blanks (drop 1 h.0))
     (moves limit m find (Product After) begin w h.0 le h.1) (marked marks.Star h.0 h.2 (λ e. cc)) (λ x y z p q. (y, p, q.0, q.1)))
 
-pub so_far_wider : (limit m : ℕ) (find : Find) (spot : Spot) (begin : List ℕ) (w : List Letter) (place : List ℕ) → limit ≤ m → SoFar limit find spot begin w place
+pub so_far_wider : (limit m : ℕ) (find : Find) (spot : Spot) (begin : List ℕ) (w : List Letter) (place : List ℕ) → limit ≤ m
+    → SoFar limit find spot begin w place
     → SoFar m find spot begin w place
 so_far_wider limit m find spot begin w place le h = unmoved (So_far m find spot w) begin place (so_far_moves limit m find spot begin w place le h)
 
@@ -168,7 +174,8 @@ opened_moves limit m find Square place begin le o =
 opened_moves limit m find (Second u) place begin le o =
     let next : List ℕ = after_blanks (drop 1 place) in
     subst (λ (l : List ℕ). Swap (Opens m find (Second u)) place l) (sym o.5)
-    (both (Marked marks.Square) (To_comma m find o.0 u) (Opens m find (Second u)) place next (after_blanks (drop 1 o.1)) (marked marks.Square place o.2 (λ e. cc))
+    (both (Marked marks.Square) (To_comma m find o.0 u) (Opens m find (Second u)) place next (after_blanks (drop 1 o.1))
+    (marked marks.Square place o.2 (λ e. cc))
     (both (Parts m find (Product o.0) u) (Token 44) (To_comma m find o.0 u) next o.1 (after_blanks (drop 1 o.1))
     (moves limit m find (Product o.0) next u o.1 le o.3) (token 44 o.1 o.4) (λ x y z p q. (y, p, q.0, q.1)))
     (λ x y z p q. (o.0, q.0, p.0, subst (λ (l : List ℕ). SpelledWithin m find (Product o.0) l u q.0) p.1 q.1, q.2, q.3)))

@@ -3,7 +3,8 @@ use Rattle.std.proofs.lemmas.List.Folds.{length-prefix_len}
 use Rattle.std.specs.List.{prefix_len}
 use Rattle.std.proofs.lemmas.List.{drop_all}
 use Rattle.std.proofs.lemmas.Bool.Decides.{nat_tests}
-use Rattle.std.proofs.Common.{get_or-take, take_while, IsTrue, ◌≡◌, ℕ, ◌+◌, ◌-◌, ◌*◌, ◌<◌, ◌≤◌, List, [], ◌∷◌, length, drop, get_or, Some, None, refl, ◌∙◌, drop-cons, add-one, arith}
+use Rattle.std.proofs.Common.{get_or-take, take_while, IsTrue, ◌≡◌, ℕ, ◌+◌, ◌-◌, ◌*◌, ◌<◌, ◌≤◌, List, [], ◌∷◌, length, drop, get_or, Some, None, refl, ◌∙◌}
+use Rattle.std.proofs.Common.{drop-cons, add-one, arith}
 use Rattle.word_text.specs.Scan.{number, within, is_digit}
 
 -- more digits never make a number smaller

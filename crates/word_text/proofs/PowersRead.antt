@@ -49,7 +49,8 @@ by_length limit n start w bs mid negative size false t c x next =
 
 by_exponent : (limit n start : ℕ) (w : List Letter) (bs : List ℕ) (r : Result Exponent Fault) → first_is 94 bs ≡ true
     → ExponentRead (after_blanks (drop 1 bs)) r
-    → ((u : List Letter) (mid : List ℕ) → length mid ≤ length (after_blanks (drop 1 bs)) → PowersRead limit start u (after_blanks mid) (powers_from limit n start u (after_blanks mid)))
+    → ((u : List Letter) (mid : List ℕ) → length mid ≤ length (after_blanks (drop 1 bs))
+    → PowersRead limit start u (after_blanks mid) (powers_from limit n start u (after_blanks mid)))
     → PowersRead limit start w bs (r >>= λ k. (raised limit start k.negative k.size w >>= λ v. powers_from limit n start v (after_blanks k.rest)))
 by_exponent limit n start w bs _ c (ExponentRead.exponent negative size mid x) next =
     by_length limit n start w bs mid negative size (nat_lt limit (length (power_of negative size w))) refl c x
@@ -57,9 +58,11 @@ by_exponent limit n start w bs _ c (ExponentRead.exponent negative size mid x) n
 by_exponent limit n start w bs _ c (ExponentRead.none e x) next = PowersRead.no_exponent w bs e (Raised.none w bs) c x
 
 by_caret : (limit n start : ℕ) (w : List Letter) (bs : List ℕ) (t : Bool) → first_is 94 bs ≡ t
-    → ((u : List Letter) (mid : List ℕ) → length (after_blanks mid) < length bs → PowersRead limit start u (after_blanks mid) (powers_from limit n start u (after_blanks mid)))
+    → ((u : List Letter) (mid : List ℕ) → length (after_blanks mid) < length bs
+    → PowersRead limit start u (after_blanks mid) (powers_from limit n start u (after_blanks mid)))
     → PowersRead limit start w bs
-    (if t then (exponent_at (after_blanks (drop 1 bs)) >>= λ k. (raised limit start k.negative k.size w >>= λ v. powers_from limit n start v (after_blanks k.rest))) else Ok (w, bs))
+    (if t then (exponent_at (after_blanks (drop 1 bs)) >>= λ k. (raised limit start k.negative k.size w >>=
+    λ v. powers_from limit n start v (after_blanks k.rest))) else Ok (w, bs))
 by_caret limit n start w bs true t next =
     by_exponent limit n start w bs (exponent_at (after_blanks (drop 1 bs))) t (exponent_read (after_blanks (drop 1 bs)))
     (λ u mid le. next u mid (omega (arith, skip_le mid, skip_le (drop 1 bs), first_lt 94 bs t)))
@@ -113,7 +116,8 @@ long_power limit start zero v at mid negative n lt t x long = absurd (omega arit
 long_power limit start (suc m) v at mid negative n lt t x long =
     rw (t, exponent_again (after_blanks (drop 1 at)) negative n mid x, made_long limit start (power_of negative n v) long) refl
 
-pub powers_again : (limit start : ℕ) (w v : List Letter) (bs rest : List ℕ) → PowersWithin limit w (after_blanks bs) v rest → powers_within limit start w bs ≡ Ok (v, rest)
+pub powers_again : (limit start : ℕ) (w v : List Letter) (bs rest : List ℕ) → PowersWithin limit w (after_blanks bs) v rest
+    → powers_within limit start w bs ≡ Ok (v, rest)
 unfolding powers_within
 powers_again limit start w v bs rest p =
     let o = onward limit start (suc (length (after_blanks bs))) w v (after_blanks bs) rest p.0 (omega arith) in
@@ -126,7 +130,8 @@ powers_fault limit start w v bs at e p t x =
     let o = onward limit start (suc (length (after_blanks bs))) w v (after_blanks bs) at p (omega arith) in
     o.2 ∙ stopped limit start o.0 v at e o.1 t x
 
-pub powers_long : (limit start : ℕ) (w v : List Letter) (bs at mid : List ℕ) (negative : Bool) (n : ℕ) → Raised limit w (after_blanks bs) v at → first_is 94 at ≡ true
+pub powers_long : (limit start : ℕ) (w v : List Letter) (bs at mid : List ℕ) (negative : Bool) (n : ℕ) → Raised limit w (after_blanks bs) v at
+    → first_is 94 at ≡ true
     → IsExponent (after_blanks (drop 1 at)) negative n mid → limit < length (power_of negative n v)
     → powers_within limit start w bs ≡ Err (record { kind = WordTooLong; left = start })
 unfolding powers_within

@@ -1,5 +1,6 @@
 -- The words of a straight-line program.
-use Rattle.std.proofs.Common.{◌≡◌, ℕ, zero, suc, ◌+◌, ◌-◌, ◌<◌, ◌≤◌, List, [], ◌∷◌, ◌++◌, length, get_or, refl, sym, subst, ◌∙◌, ap, arith, add-one, add-zero, length-append, append_assoc}
+use Rattle.std.proofs.Common.{◌≡◌, ℕ, zero, suc, ◌+◌, ◌-◌, ◌<◌, ◌≤◌, List, [], ◌∷◌, ◌++◌, length, get_or, refl, sym, subst, ◌∙◌, ap, arith, add-one, add-zero}
+use Rattle.std.proofs.Common.{length-append, append_assoc}
 use Rattle.std.proofs.lemmas.List.{get_or_append_left, get_or_at, append-nil}
 use Rattle.free_words.specs.declared.letter.Letter.{Letter}
 use Rattle.word_text.specs.declared.program.Line.{Line}
@@ -97,4 +98,8 @@ pub added : (es new : List Entry) (e : Entry) → new ≡ es ++ e ∷ [] → Kee
 added es new e same =
     let ws : List (List Letter) = words_from [] es in
     let n : length ws + 1 ≡ length (es ++ e ∷ []) = omega (arith, length-words [] es, length-append es (e ∷ [])) in
-    rw (same, words_push [] es e) (keeps_push ws (made ws e.line), omega (arith, length-append ws (made ws e.line ∷ []), n), rw (← n) (word_of_last ws (made ws e.line)))
+    rw (same, words_push [] es e) (
+      keeps_push ws (made ws e.line),
+      omega (arith, length-append ws (made ws e.line ∷ []), n),
+      rw (← n) (word_of_last ws (made ws e.line)),
+    )

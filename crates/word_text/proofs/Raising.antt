@@ -26,7 +26,8 @@ no_exponent limit start whole w bs errors.NoMemory f e g = tt
 no_exponent limit start whole w bs (errors.Text fault) f e (zero, short, g) = absurd (omega arith)
 no_exponent limit start whole w bs (errors.Text fault) f e (suc n, short, g) = g ∙ rw (f, e) refl
 
-pub too_long : (limit start : ℕ) (whole : Result (List Letter × List ℕ) Fault) (w : List Letter) (bs rest : List ℕ) (negative : Bool) (size : ℕ) (error : ReadError)
+pub too_long : (limit start : ℕ) (whole : Result (List Letter × List ℕ) Fault) (w : List Letter) (bs rest : List ℕ) (negative : Bool) (size : ℕ)
+    (error : ReadError)
     → first_is 94 bs ≡ true → exponent_at (after_blanks (drop 1 bs)) ≡ Ok (record { negative = negative; size = size; rest = rest })
     → Fails error (raised limit start negative size w) → Going limit start whole w bs → Fails error whole
 unfolding powers_from

@@ -21,7 +21,8 @@ pub data HeadRead (limit : ℕ) (find : Find) (origin : List ℕ) : Result (List
   stops : (e : Fault) → Stops limit find origin e → HeadRead limit find origin (Err e)
 
 turned : (limit n : ℕ) (find : Find) (origin bs : List ℕ) (r : Result Turned Fault) → Turns limit find origin bs r
-    → ((frames : List Frame) (w : List Letter) (spot : Spot) (rest : List ℕ) → Inside limit find origin frames w spot (after_blanks rest) → length rest < length bs
+    → ((frames : List Frame) (w : List Letter) (spot : Spot) (rest : List ℕ) → Inside limit find origin frames w spot (after_blanks rest)
+    → length rest < length bs
     → HeadRead limit find origin (word_from limit n find (record { frames = frames; product = w; spot = spot }) rest))
     → HeadRead limit find origin (r >>= λ t. if t.ended then Ok (t.state.product, t.rest) else word_from limit n find t.state t.rest)
 turned limit n find origin bs _ (Turns.on frames w spot rest h lt) next = next frames w spot rest h lt
@@ -49,7 +50,8 @@ pub data TextRead (limit : ℕ) (find : Find) (text : List ℕ) : Result (List L
 abbrev pub Whole : ℕ → Find → List ℕ → List Letter → List ℕ → Type 0
 Whole limit find begin w rest = (s : Spot) × SpelledWithin limit find (Product s) begin w rest
 
-pub product_of : (limit : ℕ) (find : Find) (spot : Spot) (begin : List ℕ) (w : List Letter) (rest : List ℕ) → SoFar limit find spot begin w rest → CanEnd spot rest
+pub product_of : (limit : ℕ) (find : Find) (spot : Spot) (begin : List ℕ) (w : List Letter) (rest : List ℕ) → SoFar limit find spot begin w rest
+    → CanEnd spot rest
     → Whole limit find begin w rest
 product_of limit find Start begin w rest h can = (Start, h)
 product_of limit find After begin w rest h can = (After, h)
@@ -67,10 +69,12 @@ empty_is (x ∷ xs) e = absurd (grind (arith, nat_tests))
 ended : (limit : ℕ) (find : Find) (text : List ℕ) (w : List Letter) (spot : Spot) (rest : List ℕ) (b : Bool) → (length rest == 0) ≡ b
     → SoFar limit find spot (after_blanks text) w rest → CanEnd spot rest → TextRead limit find text (if b then Ok w else Err (due rest))
 ended limit find text w spot rest true e h can =
-    TextRead.word w (subst (λ (l : List ℕ). Whole limit find (after_blanks text) w l) (empty_is rest e) (product_of limit find spot (after_blanks text) w rest h can))
+    TextRead.word w (subst (λ (l : List ℕ). Whole limit find (after_blanks text) w l) (empty_is rest e)
+    (product_of limit find spot (after_blanks text) w rest h can))
 ended limit find text w spot rest false e h can = TextRead.stops (due rest) (Stops.blocked [] w spot rest h (blocked_end spot rest can e))
 
-by_head : (limit : ℕ) (find : Find) (text : List ℕ) (r : Result (List Letter × List ℕ) Fault) → HeadRead limit find (after_blanks text) r → TextRead limit find text (whole r)
+by_head : (limit : ℕ) (find : Find) (text : List ℕ) (r : Result (List Letter × List ℕ) Fault) → HeadRead limit find (after_blanks text) r
+    → TextRead limit find text (whole r)
 by_head limit find text _ (HeadRead.head w spot rest h can) = ended limit find text w spot rest (length rest == 0) refl h can
 by_head limit find text _ (HeadRead.stops e h) = TextRead.stops e h
 
@@ -79,7 +83,8 @@ unfolding text_within
 text_read limit find text = by_head limit find text (word_within limit find text) (head_read limit find text)
 
 -- what is read at the head of the bytes is a product of the grammar
-head_word : (limit : ℕ) (find : Find) (origin : List ℕ) (r : Result (List Letter × List ℕ) Fault) (w : List Letter) (rest : List ℕ) → HeadRead limit find origin r
+head_word : (limit : ℕ) (find : Find) (origin : List ℕ) (r : Result (List Letter × List ℕ) Fault) (w : List Letter) (rest : List ℕ)
+    → HeadRead limit find origin r
     → r ≡ Ok (w, rest) → Whole limit find origin w rest
 head_word limit find origin _ w rest (HeadRead.head v spot bs h can) e =
     let same : ◌≡◌ {A = List Letter × List ℕ} (v, bs) (w, rest) = cc in
@@ -94,7 +99,8 @@ pub word_spelled : (find : Find) (bs : List ℕ) (w : List Letter) (rest : List 
 word_spelled find bs w rest e = word_spelled_within written find bs w rest e
 
 -- what is read of a whole text is a word of the grammar
-text_word : (limit : ℕ) (find : Find) (text : List ℕ) (r : Result (List Letter) Fault) (w : List Letter) → TextRead limit find text r → r ≡ Ok w → IsWordWithin limit find text w
+text_word : (limit : ℕ) (find : Find) (text : List ℕ) (r : Result (List Letter) Fault) (w : List Letter) → TextRead limit find text r → r ≡ Ok w
+    → IsWordWithin limit find text w
 text_word limit find text _ w (TextRead.word v h) e =
     let same : v ≡ w = cc in
     subst (λ (x : List Letter). IsWordWithin limit find text x) same h
@@ -107,7 +113,8 @@ pub text_spelled : (find : Find) (text : List ℕ) (w : List Letter) → word_te
 text_spelled find text w e = text_spelled_within written find text w e
 
 -- where a reading fails it stops
-text_stop : (limit : ℕ) (find : Find) (text : List ℕ) (r : Result (List Letter) Fault) (e : Fault) → TextRead limit find text r → r ≡ Err e → Stops limit find (after_blanks text) e
+text_stop : (limit : ℕ) (find : Find) (text : List ℕ) (r : Result (List Letter) Fault) (e : Fault) → TextRead limit find text r → r ≡ Err e
+    → Stops limit find (after_blanks text) e
 text_stop limit find text _ e (TextRead.word v h) q = cc
 text_stop limit find text _ e (TextRead.stops d h) q =
     let same : d ≡ e = cc in

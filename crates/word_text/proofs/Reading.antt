@@ -9,7 +9,8 @@ use Rattle.word_text.specs.Grammar.{IsWord}
 use Rattle.word_text.proofs.Reached.{text_spelled}
 use Rattle.word_text.proofs.Again.{text_again}
 
-pub is_found : (find : Find) (text : List ℕ) (result : Result (List Letter) ReadFault) → ReadsText text (word_text find text) result → IfOk result (λ w. IsWord find text w)
+pub is_found : (find : Find) (text : List ℕ) (result : Result (List Letter) ReadFault) → ReadsText text (word_text find text) result
+    → IfOk result (λ w. IsWord find text w)
 is_found find text (Ok w) e = text_spelled find text w e
 is_found find text (Err faults.NoMemory) e = tt
 is_found find text (Err (faults.Text f)) e = tt

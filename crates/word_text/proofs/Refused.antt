@@ -1,5 +1,6 @@
 -- What no word goes on with.
-use Rattle.std.proofs.Common.{◌==◌, ◌≡◌, ◌⊎◌, inl, inr, ℕ, zero, suc, ◌+◌, ◌<◌, ◌≤◌, Bool, true, false, List, [], ◌∷◌, ◌++◌, length, drop, take_while, Option, None, Result, Ok, Err, refl, sym, ◌∙◌, ap, subst, arith}
+use Rattle.std.proofs.Common.{◌==◌, ◌≡◌, ◌⊎◌, inl, inr, ℕ, zero, suc, ◌+◌, ◌<◌, ◌≤◌, Bool, true, false, List, [], ◌∷◌, ◌++◌, length, drop, take_while, Option}
+use Rattle.std.proofs.Common.{None, Result, Ok, Err, refl, sym, ◌∙◌, ap, subst, arith}
 use Rattle.std.proofs.lemmas.Bool.Decides.{nat_tests}
 use Rattle.std.proofs.lemmas.List.{append_assoc, append-nil}
 use Rattle.free_words.specs.declared.letter.Letter.{Letter}
@@ -172,7 +173,8 @@ same_fits _ _ (SameFirst.some b bs cs) = Fits.alike b bs cs
 some_left : (b : ℕ) (bs : List ℕ) → (length (b ∷ bs) == 0) ≡ false
 some_left b bs = grind (arith, nat_tests)
 
-goes_on_same : (frames gs : List Frame) (b : ℕ) (bs cs : List ℕ) → SameOpenings frames gs → goes_on_with frames (b ∷ bs) ≡ false → goes_on_with gs (b ∷ cs) ≡ false
+goes_on_same : (frames gs : List Frame) (b : ℕ) (bs cs : List ℕ) → SameOpenings frames gs → goes_on_with frames (b ∷ bs) ≡ false
+    → goes_on_with gs (b ∷ cs) ≡ false
 goes_on_same [] [] b bs cs o e = some_left b cs
 goes_on_same (f ∷ fs) (g ∷ gs) b bs cs o e = subst (λ (x : Opening). first_is (closer x) (b ∷ cs) ≡ false) o e
 goes_on_same [] (g ∷ gs) b bs cs o e = absurd o
@@ -217,7 +219,8 @@ refused_by find front (b ∷ bs) f =
 same_byte : (b c : ℕ) (bs cs : List ℕ) → c ≡ b → SameFirst (b ∷ bs) (c ∷ cs)
 same_byte b c bs cs e = subst (λ (d : ℕ). SameFirst (b ∷ bs) (d ∷ cs)) (sym e) (SameFirst.some b bs cs)
 
-heads : (p : ℕ → Bool) (b c : ℕ) (bs cs : List ℕ) (t u : Bool) → p b ≡ t → p c ≡ u → 0 < length (take_while p (b ∷ bs)) → take_while p (c ∷ cs) ≡ take_while p (b ∷ bs) → c ≡ b
+heads : (p : ℕ → Bool) (b c : ℕ) (bs cs : List ℕ) (t u : Bool) → p b ≡ t → p c ≡ u → 0 < length (take_while p (b ∷ bs))
+    → take_while p (c ∷ cs) ≡ take_while p (b ∷ bs) → c ≡ b
 heads p b c bs cs true true e f lt g =
     let same : c ∷ take_while p cs ≡ b ∷ take_while p bs = sym (taken p c cs f) ∙ (g ∙ taken p b bs e) in
     cc

@@ -31,7 +31,8 @@ abbrev too_long : ℕ → Fault
 too_long start = record { kind = WordTooLong; left = start }
 
 -- a factor whose end fails
-no_word_factor : (limit : ℕ) (find : Find) (text : List ℕ) (frames : List Frame) (outer a : List Letter) (spot : Spot) (place mid : List ℕ) (e : Fault) (word : List Letter)
+no_word_factor : (limit : ℕ) (find : Find) (text : List ℕ) (frames : List Frame) (outer a : List Letter) (spot : Spot) (place mid : List ℕ) (e : Fault)
+    (word : List Letter)
     → Inside limit find (after_blanks text) frames outer spot place → SpelledWithin limit find Atom place a mid
     → factor_ends limit frames outer (length place) a mid ≡ Err e → IsWordWithin limit find text word → ⊥
 no_word_factor limit find text frames outer a spot place mid e word h atom ends is =
@@ -53,7 +54,8 @@ AtPower limit find a v negative n text last = (caret : List ℕ) × AtCaret limi
 abbrev Caret_exponent : Bool → ℕ → List ℕ → List ℕ → Type 0
 Caret_exponent negative n caret last = (first_is 94 caret ≡ true) × IsExponent (after_blanks (drop 1 caret)) negative n last
 
-power_moves : (limit : ℕ) (find : Find) (text : List ℕ) (frames : List Frame) (outer a v : List Letter) (spot : Spot) (place mid caret last : List ℕ) (negative : Bool) (n : ℕ)
+power_moves : (limit : ℕ) (find : Find) (text : List ℕ) (frames : List Frame) (outer a v : List Letter) (spot : Spot) (place mid caret last : List ℕ)
+    (negative : Bool) (n : ℕ)
     → Inside limit find (after_blanks text) frames outer spot place → SpelledWithin limit find Atom place a mid → Raised limit a (after_blanks mid) v caret
     → first_is 94 caret ≡ true → IsExponent (after_blanks (drop 1 caret)) negative n last → Swap (AtPower limit find a v negative n) text last
 power_moves limit find text frames outer a v spot place mid caret last negative n h atom p c x =
@@ -66,13 +68,15 @@ power_moves limit find text frames outer a v spot place mid caret last negative 
 
 -- no word within the limit begins as the text does, up to some place and its first byte
 abbrev NoWord : ℕ → Find → List ℕ → List ℕ → Type 0
-NoWord limit find text rest = (cs : List ℕ) → SameFirst rest cs → (word : List Letter) → IsWordWithin limit find (bytes_before text (length rest) ++ cs) word → ⊥
+NoWord limit find text rest = (cs : List ℕ) → SameFirst rest cs → (word : List Letter)
+    → IsWordWithin limit find (bytes_before text (length rest) ++ cs) word → ⊥
 
 there : (limit : ℕ) (find : Find) (text q rest cs : List ℕ) (word : List Letter) → text ≡ q ++ rest
     → IsWordWithin limit find (bytes_before text (length rest) ++ cs) word → IsWordWithin limit find (q ++ cs) word
 there limit find text q rest cs word e is = subst (λ (l : List ℕ). IsWordWithin limit find (l ++ cs) word) (before_is text q rest (length rest) e refl) is
 
-pub refuses_power : (limit : ℕ) (find : Find) (text : List ℕ) (frames : List Frame) (outer a v : List Letter) (spot : Spot) (place mid caret last : List ℕ) (negative : Bool) (n : ℕ)
+pub refuses_power : (limit : ℕ) (find : Find) (text : List ℕ) (frames : List Frame) (outer a v : List Letter) (spot : Spot) (place mid caret last : List ℕ)
+    (negative : Bool) (n : ℕ)
     → Inside limit find (after_blanks text) frames outer spot place → SpelledWithin limit find Atom place a mid → Raised limit a (after_blanks mid) v caret
     → first_is 94 caret ≡ true → IsExponent (after_blanks (drop 1 caret)) negative n last → limit < length (power_of negative n v)
     → NoWord limit find text last
@@ -85,9 +89,11 @@ refuses_power limit find text frames outer a v spot place mid caret last negativ
 
 -- by the product with it
 abbrev AtFactor : ℕ → Find → List Frame → List Letter → Spot → List Letter → List ℕ → List ℕ → Type 0
-AtFactor limit find frames outer spot v text rest = (place : List ℕ) × TextInside limit find frames outer spot text place × SpelledWithin limit find Factor place v rest
+AtFactor limit find frames outer spot v text rest = (place : List ℕ) × TextInside limit find frames outer spot text place
+    × SpelledWithin limit find Factor place v rest
 
-no_word_product : (limit : ℕ) (find : Find) (text : List ℕ) (frames : List Frame) (outer v : List Letter) (spot : Spot) (place rest : List ℕ) (word : List Letter)
+no_word_product : (limit : ℕ) (find : Find) (text : List ℕ) (frames : List Frame) (outer v : List Letter) (spot : Spot) (place rest : List ℕ)
+    (word : List Letter)
     → Inside limit find (after_blanks text) frames outer spot place → SpelledWithin limit find Factor place v rest → limit < length (outer ++ v)
     → IsWordWithin limit find text word → ⊥
 no_word_product limit find text frames outer _ spot _ _ word h (SpelledWithin.powers place mid rest a v atom p) long is =
@@ -112,11 +118,13 @@ so_far limit find Start begin w rest h = h
 so_far limit find After begin w rest h = h
 so_far limit find Starred begin w rest h = absurd (no_star limit find (Product Starred) begin w rest h)
 
-commutator_shuts : (limit : ℕ) (frames : List Frame) (outer u v : List Letter) (start : ℕ) (bs : List ℕ) → first_is 93 bs ≡ true → limit < length (commutator u v)
+commutator_shuts : (limit : ℕ) (frames : List Frame) (outer u v : List Letter) (start : ℕ) (bs : List ℕ) → first_is 93 bs ≡ true
+    → limit < length (commutator u v)
     → shuts limit (Second u) frames outer start v bs ≡ Err (too_long start)
 commutator_shuts limit frames outer u v start bs c long = rw (c, made_long limit start (commutator u v) long) refl
 
-no_word_commutator : (limit : ℕ) (find : Find) (text : List ℕ) (frames : List Frame) (outer u v : List Letter) (spot s t : Spot) (place mid last : List ℕ) (word : List Letter)
+no_word_commutator : (limit : ℕ) (find : Find) (text : List ℕ) (frames : List Frame) (outer u v : List Letter) (spot s t : Spot) (place mid last : List ℕ)
+    (word : List Letter)
     → Inside limit find (after_blanks text) frames outer spot place → mark_of place ≡ marks.Square
     → SpelledWithin limit find (Product s) (after_blanks (drop 1 place)) u mid → first_is 44 mid ≡ true
     → SpelledWithin limit find (Product t) (after_blanks (drop 1 mid)) v last → first_is 93 last ≡ true → limit < length (commutator u v)
@@ -124,7 +132,15 @@ no_word_commutator : (limit : ℕ) (find : Find) (text : List ℕ) (frames : Lis
 no_word_commutator limit find text frames outer u v spot s t place mid last word h m a c b d long is =
     let g : Frame = record { outer = outer; start = length place; opening = Second u } in
     let next : List ℕ = after_blanks (drop 1 mid) in
-    let x = read_through limit find text (g ∷ frames) v t last word (place, next, spot, h, (s, mid, m, a, c, refl), so_far limit find t next v last b, refl) is in
+    let x = read_through limit find text (g ∷ frames) v t last word (
+      place,
+      next,
+      spot,
+      h,
+      (s, mid, m, a, c, refl),
+      so_far limit find t next v last b,
+      refl,
+    ) is in
     let e : turn limit find (at (g ∷ frames) v t) last ≡ Err (too_long (length place)) =
     closes_at limit find t (g ∷ frames) v 93 last (no_star limit find (Product t) next v last b) other.2 unblank.2 d
     ∙ commutator_shuts limit frames outer u v (length place) last d long in
@@ -165,7 +181,8 @@ refuses_commutator limit find text frames outer u v spot s t place mid last h m 
     no_word_commutator limit find (x.0 ++ cs) y.1.0 outer u v spot s t y.0 p.0 p.3.0 word y.1.1 y.2 p.1 p.2 p.3.1 p.3.2 long
     (there limit find text x.0 (drop 1 last) cs word x.1 is)
 
-pub refused_within : (limit : ℕ) (find : Find) (text rest : List ℕ) → NoWord limit find text rest → RefusedWithin limit find (bytes_before text (length rest)) rest
+pub refused_within : (limit : ℕ) (find : Find) (text rest : List ℕ) → NoWord limit find text rest
+    → RefusedWithin limit find (bytes_before text (length rest)) rest
 refused_within limit find text [] f =
     λ word is. f [] SameFirst.none word (subst (λ (l : List ℕ). IsWordWithin limit find l word) (sym (append-nil (bytes_before text 0))) is)
 refused_within limit find text (b ∷ bs) f = λ more word is. f (b ∷ more) (SameFirst.some b bs more) word is

@@ -1,5 +1,6 @@
 -- What no word goes on with behind `^`.
-use Rattle.std.proofs.Common.{◌≡◌, inl, inr, ℕ, ◌+◌, ◌<◌, ◌≤◌, Bool, true, false, List, ◌∷◌, ◌++◌, length, drop, take_while, Err, refl, sym, ◌∙◌, ap, subst, arith}
+use Rattle.std.proofs.Common.{◌≡◌, inl, inr, ℕ, ◌+◌, ◌<◌, ◌≤◌, Bool, true, false, List, ◌∷◌, ◌++◌, length, drop, take_while, Err, refl, sym, ◌∙◌, ap, subst}
+use Rattle.std.proofs.Common.{arith}
 use Rattle.free_words.specs.declared.letter.Letter.{Letter}
 use Rattle.word_text.specs.declared.fault.Fault.{Fault}
 use Rattle.word_text.specs.declared.fault.TextKind.TheVariants.{ExponentTooLarge}
@@ -20,12 +21,14 @@ use Rattle.word_text.proofs.Ends.{before_is}
 use Rattle.word_text.proofs.Refused.{TextInside, text_moves, read_through, not_read, SameFirst, longer}
 
 -- where an exponent has to stand and none does, no word goes on
-no_exponent_ends : (limit : ℕ) (frames : List Frame) (outer : List Letter) (start : ℕ) (a v : List Letter) (mid at : List ℕ) (e : Fault) → Raised limit a (after_blanks mid) v at
+no_exponent_ends : (limit : ℕ) (frames : List Frame) (outer : List Letter) (start : ℕ) (a v : List Letter) (mid at : List ℕ) (e : Fault)
+    → Raised limit a (after_blanks mid) v at
     → first_is 94 at ≡ true → NoExponent (after_blanks (drop 1 at)) e → factor_ends limit frames outer start a mid ≡ Err e
 unfolding factor_ends
 no_exponent_ends limit frames outer start a v mid at e p c x = rw (powers_fault limit start a v mid at e p c x) refl
 
-no_word_exponent : (limit : ℕ) (find : Find) (text : List ℕ) (frames : List Frame) (outer a v : List Letter) (spot : Spot) (place mid here : List ℕ) (e : Fault) (word : List Letter)
+no_word_exponent : (limit : ℕ) (find : Find) (text : List ℕ) (frames : List Frame) (outer a v : List Letter) (spot : Spot) (place mid here : List ℕ) (e : Fault)
+    (word : List Letter)
     → Inside limit find (after_blanks text) frames outer spot place → SpelledWithin limit find Atom place a mid → Raised limit a (after_blanks mid) v here
     → first_is 94 here ≡ true → NoExponent (after_blanks (drop 1 here)) e → IsWordWithin limit find text word → ⊥
 no_word_exponent limit find text frames outer a v spot place mid here e word h atom p c none is =
@@ -42,7 +45,8 @@ AtCaret limit find a v text here = (frames : List Frame) × (outer : List Letter
 abbrev Atom_raised : ℕ → Find → List Letter → List Letter → List ℕ → List ℕ → Type 0
 Atom_raised limit find a v place here = (mid : List ℕ) × SpelledWithin limit find Atom place a mid × Raised limit a (after_blanks mid) v here
 
-pub caret_moves : (limit m : ℕ) (find : Find) (text : List ℕ) (frames : List Frame) (outer a v : List Letter) (spot : Spot) (place mid here : List ℕ) → limit ≤ m
+pub caret_moves : (limit m : ℕ) (find : Find) (text : List ℕ) (frames : List Frame) (outer a v : List Letter) (spot : Spot)
+    (place mid here : List ℕ) → limit ≤ m
     → Inside limit find (after_blanks text) frames outer spot place → SpelledWithin limit find Atom place a mid → Raised limit a (after_blanks mid) v here
     → Swap (AtCaret m find a v) text here
 caret_moves limit m find text frames outer a v spot place mid here le h atom p =
@@ -54,7 +58,8 @@ caret_moves limit m find text frames outer a v spot place mid here le h atom p =
 
 -- the place of the digits behind it
 abbrev AtDigits : ℕ → Find → List Letter → List Letter → List ℕ → List ℕ → Type 0
-AtDigits limit find a v text place = (here : List ℕ) × AtCaret limit find a v text here × (first_is 94 here ≡ true) × SizePlace (after_blanks (drop 1 here)) place
+AtDigits limit find a v text place = (here : List ℕ) × AtCaret limit find a v text here × (first_is 94 here ≡ true)
+    × SizePlace (after_blanks (drop 1 here)) place
 
 abbrev WithoutMinus : ℕ → Find → List Letter → List Letter → List ℕ → List ℕ → Type 0
 WithoutMinus limit find a v text place = first_is 45 place ≡ false → AtDigits limit find a v text place
@@ -73,7 +78,8 @@ same_minus : (bs cs : List ℕ) → SameFirst bs cs → first_is 45 bs ≡ false
 same_minus _ _ SameFirst.none h = h
 same_minus _ _ (SameFirst.some b bs cs) h = h
 
-digits_move : (limit : ℕ) (find : Find) (text : List ℕ) (a v : List Letter) (here place : List ℕ) → Swap (AtCaret limit find a v) text here → first_is 94 here ≡ true
+digits_move : (limit : ℕ) (find : Find) (text : List ℕ) (a v : List Letter) (here place : List ℕ) → Swap (AtCaret limit find a v) text here
+    → first_is 94 here ≡ true
     → SizePlace (after_blanks (drop 1 here)) place → Moves_digits limit find a v text place
 digits_move limit find text a v here place s c (inr p) =
     let next : List ℕ = after_blanks (drop 1 here) in

@@ -1,5 +1,6 @@
 -- Writing out the words of a straight-line program, task after task.
-use Rattle.std.proofs.Common.{◌≡◌, ℕ, zero, suc, ◌+◌, ◌-◌, ◌*◌, ◌^◌, ◌<◌, ◌≤◌, Bool, true, false, not, List, [], ◌∷◌, ◌++◌, replicate, refl, sym, ◌∙◌, subst, append_assoc, arith, if◌then◌else◌}
+use Rattle.std.proofs.Common.{◌≡◌, ℕ, zero, suc, ◌+◌, ◌-◌, ◌*◌, ◌^◌, ◌<◌, ◌≤◌, Bool, true, false, not, List, [], ◌∷◌, ◌++◌, replicate, refl, sym, ◌∙◌, subst}
+use Rattle.std.proofs.Common.{append_assoc, arith, if◌then◌else◌}
 use Rattle.std.proofs.Math.Nat.{pow-le-pow_right, pow-succ', pow-zero, mul-le-mul_left, mul-le-mul_right}
 use Rattle.std.proofs.lemmas.List.{append-nil}
 use Rattle.free_words.specs.declared.letter.Letter.{Letter}
@@ -17,7 +18,8 @@ told-append : (ws : List (List Letter)) (ts us : List Task) → told ws (ts ++ u
 told-append ws [] us = refl
 told-append ws (t ∷ ts) us = rw (told-append ws ts us) (sym (append_assoc (signed t.inverted (word_of ws t.word)) (told ws ts) (told ws us)))
 
-told-replicate : (ws : List (List Letter)) (n word : ℕ) (inverted : Bool) → told ws (replicate n (task word inverted)) ≡ copies n (signed inverted (word_of ws word))
+told-replicate : (ws : List (List Letter)) (n word : ℕ) (inverted : Bool) → told ws (replicate n (task word inverted))
+    ≡ copies n (signed inverted (word_of ws word))
 told-replicate ws zero word inverted = refl
 told-replicate ws (suc n) word inverted =
     rw (told-replicate ws n word inverted) (copies_front n (signed inverted (word_of ws word)))
@@ -34,7 +36,8 @@ inverse_commutator u v =
     rw (inverse-append (u ++ v ++ inverse u) (inverse v), inverse-append (u ++ v) (inverse u), inverse-append u v, inverse-inverse u, inverse-inverse v) refl
 
 -- the parts of a line's word make it
-parts_made : (ws : List (List Letter)) (inverted : Bool) (line : Line) → letters_now inverted line ++ told ws (parts inverted line) ≡ signed inverted (made ws line)
+parts_made : (ws : List (List Letter)) (inverted : Bool) (line : Line) → letters_now inverted line ++ told ws (parts inverted line)
+    ≡ signed inverted (made ws line)
 parts_made ws true (lines.Letter l) = refl
 parts_made ws false (lines.Letter l) = refl
 parts_made ws true (lines.Product u v) = simp (append-nil, inverse-append)
@@ -77,7 +80,8 @@ four_below m a b i lt la lb =
     omega arith
 
 pub lighter : (inverted : Bool) (line : Line) (i : ℕ) → Speaks i line → load (parts inverted line) < 4294967296 ^ suc i
-lighter inverted (lines.Letter l) i h = let p : 0 * 4294967296 ^ 0 < 4294967296 ^ suc i = below_next 4294967296 0 0 i (omega arith) (omega arith) (omega arith) in omega arith
+lighter inverted (lines.Letter l) i h = let p : 0 * 4294967296 ^ 0 < 4294967296 ^ suc i = below_next 4294967296 0 0 i (omega arith) (omega arith) (omega arith)
+    in omega arith
 lighter true (lines.Product u v) i h = let p = four_below 4294967296 u v i (omega arith) h.0 h.1 in omega (arith, p)
 lighter false (lines.Product u v) i h = let p = four_below 4294967296 u v i (omega arith) h.0 h.1 in omega (arith, p)
 lighter inverted (lines.Power base raise) i h =

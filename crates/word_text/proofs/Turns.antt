@@ -1,5 +1,6 @@
 -- What a turn leads to, by the bytes alone.
-use Rattle.std.proofs.Common.{◌≡◌, ℕ, ◌<◌, ◌≤◌, Bool, true, false, List, [], ◌∷◌, ◌++◌, length, drop, Option, Some, None, Result, Ok, Err, refl, arith, nat_lt, if◌then◌else◌}
+use Rattle.std.proofs.Common.{◌≡◌, ℕ, ◌<◌, ◌≤◌, Bool, true, false, List, [], ◌∷◌, ◌++◌, length, drop, Option, Some, None, Result, Ok, Err, refl, arith, nat_lt}
+use Rattle.std.proofs.Common.{if◌then◌else◌}
 use Rattle.std.proofs.lemmas.Bool.Decides.{nat_tests}
 use Rattle.free_words.specs.declared.letter.Letter.{Letter}
 use Rattle.free_words.specs.Words.{commutator}
@@ -11,7 +12,8 @@ use Rattle.word_text.specs.declared.machine.Spot.{Spot}
 use Rattle.word_text.specs.declared.machine.Spot.TheVariants.{Start, After, Starred}
 use Rattle.word_text.specs.Scan.{◌>>=◌, first_is, after_blanks, name_at, after_name, mark_of, due}
 use Rattle.word_text.specs.Powers.{powers_within, within_limit}
-use Rattle.word_text.specs.Machine.{Opening, Round, Square, Second, Frame, Reading, Turned, Find, goes_on, factor_ends, opens, shuts, closes, stands_no_factor, starred, named, turn_on, turn}
+use Rattle.word_text.specs.Machine.{Opening, Round, Square, Second, Frame, Reading, Turned, Find, goes_on, factor_ends, opens, shuts, closes, stands_no_factor}
+use Rattle.word_text.specs.Machine.{starred, named, turn_on, turn}
 use Rattle.word_text.specs.Grammar.{Product, Factor, Atom, SpelledWithin}
 use Rattle.word_text.specs.Fronts.{SoFar}
 use Rattle.word_text.proofs.Lexing.{blanks_once, skip_le, name_lt, mark_some, first_lt}
@@ -92,18 +94,22 @@ abbrev Whole : ℕ → Find → List ℕ → List Letter → List ℕ → Type 0
 Whole limit find begin w bs = (s : Spot) × SpelledWithin limit find (Product s) begin w bs
 
 -- the commutator of a square bracket, within the limit or past it
-commutator_turn : (limit : ℕ) (find : Find) (origin : List ℕ) (frames : List Frame) (outer u w : List Letter) (start : ℕ) (bs place begin : List ℕ) (before : Spot) (t : Bool)
+commutator_turn : (limit : ℕ) (find : Find) (origin : List ℕ) (frames : List Frame) (outer u w : List Letter) (start : ℕ) (bs place begin : List ℕ)
+    (before : Spot) (t : Bool)
     → nat_lt limit (length (commutator u w)) ≡ t → Inside limit find origin frames outer before place → Opened limit find (Second u) place begin
     → Whole limit find begin w bs → first_is 93 bs ≡ true → start ≡ length place
-    → Turns limit find origin bs ((if t then Err (record { kind = WordTooLong; left = start }) else Ok (commutator u w)) >>= λ c. factor_ends limit frames outer start c (drop 1 bs))
+    → Turns limit find origin bs ((if t then Err (record { kind = WordTooLong; left = start }) else Ok (commutator u w)) >>=
+    λ c. factor_ends limit frames outer start c (drop 1 bs))
 commutator_turn limit find origin frames outer u w start bs place begin before true t h o p c s =
-    rw s (Turns.stops _ (Stops.long_commutator frames outer before o.0 p.0 place o.1 bs u w h o.2 o.3 o.4 (rw (← o.5) p.1) c (past limit (length (commutator u w)) t)))
+    rw s (Turns.stops _ (Stops.long_commutator frames outer before o.0 p.0 place o.1 bs u w h o.2 o.3 o.4 (rw (← o.5) p.1) c
+    (past limit (length (commutator u w)) t)))
 commutator_turn limit find origin frames outer u w start bs place begin before false t h o p c s =
     factor_turn limit find origin bs frames outer (commutator u w) before place (drop 1 bs) start h
     (SpelledWithin.square o.0 p.0 place o.1 bs u w o.2 o.3 o.4 (rw (← o.5) p.1) c (not_past limit (length (commutator u w)) t)) s (first_lt 93 bs c)
 
 -- the innermost bracket goes on, or the byte that is due isn't there
-shut_round : (limit : ℕ) (find : Find) (origin : List ℕ) (frames : List Frame) (outer w : List Letter) (start : ℕ) (bs place begin : List ℕ) (before : Spot) (b : Bool)
+shut_round : (limit : ℕ) (find : Find) (origin : List ℕ) (frames : List Frame) (outer w : List Letter) (start : ℕ) (bs place begin : List ℕ)
+    (before : Spot) (b : Bool)
     → first_is 41 bs ≡ b → (b ≡ false → Stops limit find origin (due bs)) → Inside limit find origin frames outer before place
     → Opened limit find Round place begin → Whole limit find begin w bs → start ≡ length place
     → Turns limit find origin bs (if b then factor_ends limit frames outer start w (drop 1 bs) else Err (due bs))
@@ -112,7 +118,8 @@ shut_round limit find origin frames outer w start bs place begin before true c b
     (SpelledWithin.round p.0 place bs w o.0 (rw (← o.1) p.1) c) s (first_lt 41 bs c)
 shut_round limit find origin frames outer w start bs place begin before false c block h o p s = Turns.stops (due bs) (block refl)
 
-pass_comma : (limit : ℕ) (find : Find) (origin : List ℕ) (frames : List Frame) (outer w : List Letter) (start : ℕ) (bs place begin : List ℕ) (before : Spot) (b : Bool)
+pass_comma : (limit : ℕ) (find : Find) (origin : List ℕ) (frames : List Frame) (outer w : List Letter) (start : ℕ) (bs place begin : List ℕ)
+    (before : Spot) (b : Bool)
     → first_is 44 bs ≡ b → (b ≡ false → Stops limit find origin (due bs)) → Inside limit find origin frames outer before place
     → Opened limit find Square place begin → Whole limit find begin w bs → start ≡ length place
     → Turns limit find origin bs
@@ -123,7 +130,8 @@ pass_comma limit find origin frames outer w start bs place begin before true c b
     (place, next, before, h, (p.0, bs, o.0, rw (← o.1) p.1, c, refl), SpelledWithin.nothing next, s) (first_lt 44 bs c)
 pass_comma limit find origin frames outer w start bs place begin before false c block h o p s = Turns.stops (due bs) (block refl)
 
-shut_square : (limit : ℕ) (find : Find) (origin : List ℕ) (frames : List Frame) (outer u w : List Letter) (start : ℕ) (bs place begin : List ℕ) (before : Spot) (b : Bool)
+shut_square : (limit : ℕ) (find : Find) (origin : List ℕ) (frames : List Frame) (outer u w : List Letter) (start : ℕ) (bs place begin : List ℕ)
+    (before : Spot) (b : Bool)
     → first_is 93 bs ≡ b → (b ≡ false → Stops limit find origin (due bs)) → Inside limit find origin frames outer before place
     → Opened limit find (Second u) place begin → Whole limit find begin w bs → start ≡ length place
     → Turns limit find origin bs
@@ -132,7 +140,8 @@ shut_square limit find origin frames outer u w start bs place begin before true 
     commutator_turn limit find origin frames outer u w start bs place begin before (nat_lt limit (length (commutator u w))) refl h o p c s
 shut_square limit find origin frames outer u w start bs place begin before false c block h o p s = Turns.stops (due bs) (block refl)
 
-shuts_turn : (limit : ℕ) (find : Find) (origin : List ℕ) (opening : Opening) (frames : List Frame) (outer w : List Letter) (start : ℕ) (bs place begin : List ℕ) (before : Spot)
+shuts_turn : (limit : ℕ) (find : Find) (origin : List ℕ) (opening : Opening) (frames : List Frame) (outer w : List Letter) (start : ℕ) (bs place begin : List ℕ)
+    (before : Spot)
     → (first_is (closer opening) bs ≡ false → Stops limit find origin (due bs)) → Inside limit find origin frames outer before place
     → Opened limit find opening place begin → Whole limit find begin w bs → start ≡ length place
     → Turns limit find origin bs (shuts limit opening frames outer start w bs)
@@ -190,7 +199,8 @@ on_mark : (limit : ℕ) (find : Find) (origin : List ℕ) (s : Reading) (bs : Li
     → Inside limit find origin s.frames s.product s.spot bs → Turns limit find origin bs (turn_on limit find mark s bs)
 on_mark limit find origin s bs marks.Letter m h = named_turn limit find origin s bs (find (name_at bs)) m refl h
 on_mark limit find origin s bs marks.One m h =
-    factor_turn limit find origin bs s.frames s.product [] s.spot bs (drop 1 bs) (length bs) h (SpelledWithin.one bs m) refl (mark_some bs marks.One m (λ e. cc))
+    factor_turn limit find origin bs s.frames s.product [] s.spot bs (drop 1 bs) (length bs) h (SpelledWithin.one bs m) refl
+    (mark_some bs marks.One m (λ e. cc))
 on_mark limit find origin s bs marks.Round m h = opens_turn limit find origin Round s bs h (m, refl) (mark_some bs marks.Round m (λ e. cc))
 on_mark limit find origin s bs marks.Square m h = opens_turn limit find origin Square s bs h (m, refl) (mark_some bs marks.Square m (λ e. cc))
 on_mark limit find origin s bs marks.Star m h = starred_turn limit find origin s.frames s.product s.spot bs h m

@@ -28,7 +28,8 @@ abbrev pub NameRefused : Find → List ℕ → List ℕ → Type 0
 NameRefused find front place = (rest : List ℕ) → name_at rest ≡ name_at place → IsSomeWord find (front ++ rest) → ⊥
 
 abbrev pub NumberRefused : Find → List ℕ → List ℕ → Type 0
-NumberRefused find front place = (rest : List ℕ) → digits_at rest ≡ digits_at place → IsSomeWord find (front ++ rest) → ⊥
+NumberRefused find front place = (rest : List ℕ) → digits_at rest ≡ digits_at place
+    → IsSomeWord find (front ++ rest) → ⊥
 
 -- the bytes before the last `left` ones, and these
 abbrev pub bytes_before : List ℕ → ℕ → List ℕ
@@ -37,14 +38,17 @@ bytes_before text left = take (length text - left) text
 abbrev pub bytes_from : List ℕ → ℕ → List ℕ
 bytes_from text left = drop (length text - left) text
 
--- With the next byte the bytes begin no word of at most `limit` letters, its parts included; or they end here, and are none.
+-- With the next byte the bytes begin no word of at most `limit` letters, its parts included; or they end here, and are
+-- none.
 abbrev pub RefusedWithin : ℕ → Find → List ℕ → List ℕ → Type 0
 RefusedWithin limit find front [] = (w : List Letter) → IsWordWithin limit find front w → ⊥
-RefusedWithin limit find front (b ∷ bs) = (rest : List ℕ) (w : List Letter) → IsWordWithin limit find (front ++ (b ∷ rest)) w → ⊥
+RefusedWithin limit find front (b ∷ bs) = (rest : List ℕ) (w : List Letter)
+    → IsWordWithin limit find (front ++ (b ∷ rest)) w → ⊥
 
 -- A factor that may stand at a place passes the limit, and no word within it begins as the text does, up to there.
 abbrev pub TooLongAt : ℕ → Find → List ℕ → List ℕ → Type 0
-TooLongAt limit find text place = (u : List Letter) × (rest : List ℕ) × FactorAt limit find text u place × Passes limit find u place rest
+TooLongAt limit find text place = (u : List Letter) × (rest : List ℕ) × FactorAt limit find text u place
+    × Passes limit find u place rest
     × RefusedWithin limit find (bytes_before text (length rest)) rest
 
 -- a byte that is in no token, and no blank
@@ -56,8 +60,10 @@ IsBad (b ∷ bs) = (is_known b ≡ false) × (is_blank b ≡ false)
 abbrev pub IsFault : Find → List ℕ → List ℕ → List ℕ → TextKind → Type 0
 IsFault find text front place kinds.BadByte = IsBad place × Refused find front place
 IsFault find text front place kinds.Expected = (IsBad place → ⊥) × Refused find front place
-IsFault find text front place kinds.UnknownName = (mark_of place ≡ marks.Letter) × (find (name_at place) ≡ None) × NameRefused find front place
-IsFault find text front place kinds.ExponentTooLarge = (written < number 0 (digits_at place)) × NumberRefused find front place
+IsFault find text front place kinds.UnknownName = (mark_of place ≡ marks.Letter) × (find (name_at place) ≡ None)
+    × NameRefused find front place
+IsFault find text front place kinds.ExponentTooLarge = (written < number 0 (digits_at place))
+    × NumberRefused find front place
 IsFault find text front place kinds.WordTooLong = TooLongAt written find text place
 IsFault find text front place kinds.TooManyNames = ⊥
 IsFault find text front place kinds.RepeatedName = ⊥

@@ -1,5 +1,5 @@
--- The grammar of words between bytes and letters, apart from any reader. A part stands at bytes, has a value, and leaves
--- the bytes after it. Every part begins behind blanks. Each word in it has at most `limit` letters.
+-- The grammar of words between bytes and letters, apart from any reader. A part stands at bytes, has a value, and
+-- leaves the bytes after it. Every part begins behind blanks. Each word in it has at most `limit` letters.
 use Rattle.std.specs.Prelude.{◌≡◌, ℕ, ◌<◌, ◌≤◌, Bool, true, false, List, [], ◌∷◌, ◌++◌, length, drop, Some}
 use Rattle.free_words.specs.declared.letter.Letter.{Letter}
 use Rattle.free_words.specs.Words.{commutator}
@@ -12,7 +12,8 @@ use Rattle.word_text.specs.Machine.{Find}
 
 -- digits of a number that an exponent may have
 abbrev pub IsSize : List ℕ → ℕ → List ℕ → Type 0
-IsSize bs n rest = (0 < length (digits_at bs)) × (n ≡ number 0 (digits_at bs)) × (n ≤ written) × (rest ≡ after_digits bs)
+IsSize bs n rest = (0 < length (digits_at bs)) × (n ≡ number 0 (digits_at bs)) × (n ≤ written)
+    × (rest ≡ after_digits bs)
 
 -- digits, or `-` and digits
 abbrev pub IsExponent : List ℕ → Bool → ℕ → List ℕ → Type 0
@@ -39,8 +40,10 @@ pub data Part : Type 0 where
 pub data SpelledWithin (limit : ℕ) (find : Find) : Part → List ℕ → List Letter → List ℕ → Type 0 where
   nothing : (bs : List ℕ) → SpelledWithin limit find (Product Start) bs [] bs
   follows : (s : Spot) (bs mid rest : List ℕ) (u v : List Letter) → SpelledWithin limit find (Product s) bs u mid
-      → SpelledWithin limit find Factor mid v rest → length (u ++ v) ≤ limit → SpelledWithin limit find (Product After) bs (u ++ v) rest
-  times : (bs mid rest : List ℕ) (u v : List Letter) → SpelledWithin limit find (Product After) bs u mid → mark_of mid ≡ marks.Star
+      → SpelledWithin limit find Factor mid v rest → length (u ++ v) ≤ limit
+      → SpelledWithin limit find (Product After) bs (u ++ v) rest
+  times : (bs mid rest : List ℕ) (u v : List Letter) → SpelledWithin limit find (Product After) bs u mid
+      → mark_of mid ≡ marks.Star
       → SpelledWithin limit find Factor (after_blanks (drop 1 mid)) v rest → length (u ++ v) ≤ limit
       → SpelledWithin limit find (Product After) bs (u ++ v) rest
   powers : (bs mid rest : List ℕ) (w v : List Letter) → SpelledWithin limit find Atom bs w mid

@@ -1,7 +1,8 @@
--- Reading a word from left to right, with the brackets that are open at a place. Each word that is made has at most `limit`
--- letters.
+-- Reading a word from left to right, with the brackets that are open at a place. Each word that is made has at most
+-- `limit` letters.
 use Rattle.std.specs.Str.{bytes_eq}
-use Rattle.std.specs.Prelude.{position, ℕ, zero, suc, Bool, true, false, List, [], ◌∷◌, ◌++◌, length, drop, Option, Some, None, Result, Ok, Err, if◌then◌else◌}
+use Rattle.std.specs.Prelude.{position, ℕ, zero, suc, Bool, true, false, List, [], ◌∷◌, ◌++◌, length, drop, Option}
+use Rattle.std.specs.Prelude.{Some, None, Result, Ok, Err, if◌then◌else◌}
 use Rattle.free_words.specs.declared.letter.Letter.{Letter}
 use Rattle.free_words.specs.Words.{commutator}
 use Rattle.word_text.specs.declared.fault.Fault.{Fault}
@@ -46,24 +47,39 @@ abbrev pub finding : List (List ℕ) → Find
 finding names name = position (λ n. bytes_eq n name) names
 
 abbrev pub goes_on : List Frame → List Letter → Spot → List ℕ → Result Turned Fault
-goes_on frames product spot bs = Ok (record { state = record { frames = frames; product = product; spot = spot }; ended = false; rest = bs })
+goes_on frames product spot bs = Ok (record {
+  state = record { frames = frames; product = product; spot = spot };
+  ended = false;
+  rest = bs;
+})
 
 -- an atom has been read: its powers, and the product with the factor
 unfoldable pub factor_ends : ℕ → List Frame → List Letter → ℕ → List Letter → List ℕ → Result Turned Fault
 factor_ends limit frames outer start atom bs =
-    powers_within limit start atom bs >>= λ x. (within_limit limit start (outer ++ x.0) >>= λ p. goes_on frames p After x.1)
+    powers_within limit start atom bs >>= λ x. (within_limit limit start (outer ++ x.0) >>=
+    λ p. goes_on frames p After x.1)
 
 -- a bracket opens here
 abbrev pub opens : Opening → Reading → List ℕ → Result Turned Fault
-opens opening s bs = goes_on (record { outer = s.product; start = length bs; opening = opening } ∷ s.frames) [] Start (drop 1 bs)
+opens opening s bs = goes_on (record {
+  outer = s.product;
+  start = length bs;
+  opening = opening;
+} ∷ s.frames) [] Start (drop 1 bs)
 
 -- the product inside a bracket is read, and its next byte has to close the bracket
 abbrev pub shuts : ℕ → Opening → List Frame → List Letter → ℕ → List Letter → List ℕ → Result Turned Fault
-shuts limit Round frames outer start w bs = if first_is 41 bs then factor_ends limit frames outer start w (drop 1 bs) else Err (due bs)
+shuts limit Round frames outer start w bs = if first_is 41 bs then factor_ends limit frames outer start w (drop 1 bs)
+    else Err (due bs)
 shuts limit Square frames outer start w bs =
-    if first_is 44 bs then goes_on (record { outer = outer; start = start; opening = Second w } ∷ frames) [] Start (drop 1 bs) else Err (due bs)
+    if first_is 44 bs then goes_on (record {
+      outer = outer;
+      start = start;
+      opening = Second w;
+    } ∷ frames) [] Start (drop 1 bs) else Err (due bs)
 shuts limit (Second u) frames outer start w bs =
-    if first_is 93 bs then (within_limit limit start (commutator u w) >>= λ c. factor_ends limit frames outer start c (drop 1 bs)) else Err (due bs)
+    if first_is 93 bs then (within_limit limit start (commutator u w) >>=
+    λ c. factor_ends limit frames outer start c (drop 1 bs)) else Err (due bs)
 
 -- no factor stands here: the word ends, or the innermost bracket has to go on
 abbrev pub closes : ℕ → List Frame → Reading → List ℕ → Result Turned Fault
@@ -83,7 +99,10 @@ starred limit Starred s bs = Err (due bs)
 
 abbrev pub named : ℕ → Option ℕ → Reading → List ℕ → Result Turned Fault
 named limit None s bs = Err (record { kind = UnknownName; left = length bs })
-named limit (Some g) s bs = factor_ends limit s.frames s.product (length bs) (record { g = g; inv = false } ∷ []) (after_name bs)
+named limit (Some g) s bs = factor_ends limit s.frames s.product (length bs) (record {
+  g = g;
+  inv = false;
+} ∷ []) (after_name bs)
 
 abbrev pub turn_on : ℕ → Find → Mark → Reading → List ℕ → Result Turned Fault
 turn_on limit find marks.Letter s bs = named limit (find (name_at bs)) s bs
@@ -102,7 +121,8 @@ turn limit find s bs = turn_on limit find (mark_of (after_blanks bs)) s (after_b
 unfoldable pub word_from : ℕ → ℕ → Find → Reading → List ℕ → Result (List Letter × List ℕ) Fault
 word_from limit zero find s bs = Err (due bs)
 word_from limit (suc n) find s bs =
-    turn limit find s bs >>= λ t. if t.ended then Ok (t.state.product, t.rest) else word_from limit n find t.state t.rest
+    turn limit find s bs >>= λ t. if t.ended then Ok (t.state.product, t.rest) else word_from limit n find
+    t.state t.rest
 
 abbrev pub fresh : Reading
 fresh = record { frames = []; product = []; spot = Start }

@@ -1,5 +1,6 @@
 -- Tokens at the head of a text, which is a list of bytes.
-use Rattle.std.specs.Prelude.{◌≡◌, ℕ, ◌+◌, ◌-◌, ◌*◌, Bool, false, ◌&&◌, ◌||◌, nat_le, nat_lt, ◌==◌, List, [], ◌∷◌, length, drop, take_while, Option, Some, None, Result, Ok, Err, if◌then◌else◌}
+use Rattle.std.specs.Prelude.{◌≡◌, ℕ, ◌+◌, ◌-◌, ◌*◌, Bool, false, ◌&&◌, ◌||◌, nat_le, nat_lt, ◌==◌, List, [], ◌∷◌}
+use Rattle.std.specs.Prelude.{length, drop, take_while, Option, Some, None, Result, Ok, Err, if◌then◌else◌}
 use Rattle.word_text.specs.declared.fault.TextKind.{TextKind}
 use Rattle.word_text.specs.declared.fault.TextKind.TheVariants.{BadByte, Expected}
 use Rattle.word_text.specs.declared.fault.Fault.{Fault}

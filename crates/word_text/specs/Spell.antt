@@ -31,7 +31,8 @@ abbrev pub parts : Bool → Line → List Task
 parts inverted (lines.Letter l) = []
 parts false (lines.Product u v) = task u false ∷ task v false ∷ []
 parts true (lines.Product u v) = task v true ∷ task u true ∷ []
-parts inverted (lines.Power base raise) = replicate raise.times (task base (if raise.negative then not inverted else inverted))
+parts inverted (lines.Power base raise) =
+    replicate raise.times (task base (if raise.negative then not inverted else inverted))
 parts false (lines.Commutator u v) = task u false ∷ task v false ∷ task u true ∷ task v true ∷ []
 parts true (lines.Commutator u v) = task v false ∷ task u false ∷ task v true ∷ task u true ∷ []
 

@@ -124,7 +124,10 @@ impl Draft {
     /// A power of the atom joins the product.
     pub fn join(&mut self, raise: Raise) -> Result<(), AllocError>
         requires { length self.old.product + raise.times * length self.old.atom ≤ 16384 }
-        ensures { OnOk result (self.new ≡ record self.old { product = self.old.product ++ power_of raise.negative raise.times self.old.atom }) }
+        ensures { OnOk result (self.new ≡ record self.old {
+          product =
+              self.old.product ++ power_of raise.negative raise.times self.old.atom;
+        }) }
     {
         let factor = self.program.power(self.atom_at, raise)?;
         self.product_at = self.program.product(self.product_at, factor)?;
@@ -133,7 +136,11 @@ impl Draft {
 
     /// A round bracket opens: the product so far waits before it.
     pub fn open_round(&mut self, start: usize) -> Result<(), AllocError>
-        ensures { OnOk result (self.new ≡ record self.old { frames = record { outer = self.old.product; start = start; opening = Round } ∷ self.old.frames; product = [] }) }
+        ensures { OnOk result (self.new ≡ record self.old {
+          frames =
+              record { outer = self.old.product; start = start; opening = Round } ∷ self.old.frames;
+          product = [];
+        }) }
     {
         self.brackets.push_front(Bracket {
             outer: self.product_at,
@@ -146,7 +153,11 @@ impl Draft {
 
     /// A square bracket opens: the product so far waits before it.
     pub fn open_square(&mut self, start: usize) -> Result<(), AllocError>
-        ensures { OnOk result (self.new ≡ record self.old { frames = record { outer = self.old.product; start = start; opening = Square } ∷ self.old.frames; product = [] }) }
+        ensures { OnOk result (self.new ≡ record self.old {
+          frames =
+              record { outer = self.old.product; start = start; opening = Square } ∷ self.old.frames;
+          product = [];
+        }) }
     {
         self.brackets.push_front(Bracket {
             outer: self.product_at,
@@ -169,11 +180,15 @@ impl Draft {
         self.product_at = 0;
     }
 
-    /// The end of a round bracket: its word is the atom, and the product is the one before it. Answers how many bytes are
-    /// left from the bracket on.
+    /// The end of a round bracket: its word is the atom, and the product is the one before it. Answers how many bytes
+    /// are left from the bracket on.
     pub fn close_round(&mut self) -> usize
         requires { awaited_in self.old.frames ≡ Some Awaited.Parenthesis }
-        ensures draft { self.new ≡ record { frames = around self.old.frames; product = (innermost self.old.frames).outer; atom = self.old.product } }
+        ensures draft { self.new ≡ record {
+          frames = around self.old.frames;
+          product = (innermost self.old.frames).outer;
+          atom = self.old.product;
+        } }
         ensures start { result ≡ (innermost self.old.frames).start }
     {
         let bracket = self.brackets.pop_front().unwrap();
@@ -190,11 +205,12 @@ impl Draft {
         (first as u64 + self.letters() as u64) * 2
     }
 
-    /// The end of a square bracket: the commutator of its words is the atom, and the product is the one before it. Answers
-    /// how many bytes are left from the bracket on.
+    /// The end of a square bracket: the commutator of its words is the atom, and the product is the one before it.
+    /// Answers how many bytes are left from the bracket on.
     pub fn close_square(&mut self) -> Result<usize, AllocError>
         requires second { awaited_in self.old.frames ≡ Some Awaited.Bracket }
-        requires within { length (commutator (first_word (innermost self.old.frames).opening) self.old.product) ≤ 16384 }
+        requires within { length (commutator (first_word (innermost self.old.frames).opening)
+            self.old.product) ≤ 16384 }
         ensures draft { OnOk result (self.new ≡ record {
           frames = around self.old.frames;
           product = (innermost self.old.frames).outer;

@@ -23,17 +23,18 @@ pub fn spelled_is_read()
     ensures { (find : Find) (text : List ℕ) (w : List Letter) → IsWord find text w → word_text find text ≡ Ok w }
 {}
 
-/// What stands before the first fault is the front of a word: with some bytes behind it, it is a word of the grammar, of some
-/// length.
+/// What stands before the first fault is the front of a word: with some bytes behind it, it is a word of the grammar,
+/// of some length.
 #[tactic(auto, using(crate::proofs::FirstFault::before_fault))]
 pub fn before_a_fault_is_a_front()
-    ensures { (find : Find) (text : List ℕ) (e : Fault) → word_text find text ≡ Err e → (e.left ≤ length text) × IsFront find (bytes_before text e.left) }
+    ensures { (find : Find) (text : List ℕ) (e : Fault) → word_text find text ≡ Err e
+        → (e.left ≤ length text) × IsFront find (bytes_before text e.left) }
 {}
 
-/// What stands at the first fault is why no word goes on there. With the byte of `BadByte` or `Expected`, or at the end of
-/// the text, what was read is the front of no word of any length; with the whole name of `UnknownName` or the whole number of
-/// `ExponentTooLarge` none goes on; the factor of `WordTooLong` passes the limit, and no word within the limit begins as the
-/// text does up to where that is met.
+/// What stands at the first fault is why no word goes on there. With the byte of `BadByte` or `Expected`, or at the end
+/// of the text, what was read is the front of no word of any length; with the whole name of `UnknownName` or the whole
+/// number of `ExponentTooLarge` none goes on; the factor of `WordTooLong` passes the limit, and no word within the
+/// limit begins as the text does up to where that is met.
 #[tactic(auto, using(crate::proofs::FirstFault::first_fault))]
 pub fn at_a_fault_no_word_goes_on()
     ensures { (find : Find) (text : List ℕ) (e : Fault) → word_text find text ≡ Err e
@@ -48,7 +49,8 @@ pub fn head_fault_is_first()
 
 /// The letters of a word of the grammar are generators that its names gave.
 pub fn spelled_is_over()
-    ensures { (n : ℕ) (find : Find) (text : List ℕ) (w : List Letter) → ((name : List ℕ) (g : ℕ) → find name ≡ Some g → g < n)
+    ensures { (n : ℕ) (find : Find) (text : List ℕ) (w : List Letter)
+        → ((name : List ℕ) (g : ℕ) → find name ≡ Some g → g < n)
         → IsWord find text w → IsOver n w }
 {}
 
@@ -61,14 +63,16 @@ pub fn spelled_is_short()
 /// The letters of a word that stands at the head of a text are generators that its names gave.
 #[tactic(auto, using(crate::proofs::Letters::read_over))]
 pub fn head_is_over()
-    ensures { (n : ℕ) (find : Find) (text : List ℕ) (w : List Letter) (rest : List ℕ) → ((name : List ℕ) (g : ℕ) → find name ≡ Some g → g < n)
+    ensures { (n : ℕ) (find : Find) (text : List ℕ) (w : List Letter) (rest : List ℕ)
+        → ((name : List ℕ) (g : ℕ) → find name ≡ Some g → g < n)
         → word_at find text ≡ Ok (w, rest) → IsOver n w }
 {}
 
 /// A word that stands at the head of a text has no more letters than a written word may have.
 #[tactic(auto, using(crate::proofs::Letters::read_short))]
 pub fn head_is_short()
-    ensures { (find : Find) (text : List ℕ) (w : List Letter) (rest : List ℕ) → word_at find text ≡ Ok (w, rest) → length w ≤ written }
+    ensures { (find : Find) (text : List ℕ) (w : List Letter) (rest : List ℕ) → word_at find text ≡ Ok (w, rest)
+        → length w ≤ written }
 {}
 
 /// What follows a word at the head of a text is an end of the text.
@@ -81,7 +85,8 @@ pub fn rest_is_an_end()
 /// What follows a word at the head of a text begins behind blanks.
 #[tactic(auto, using(crate::proofs::Tails::word_clear))]
 pub fn rest_is_behind_blanks()
-    ensures { (find : Find) (text : List ℕ) (w : List Letter) (rest : List ℕ) → word_at find text ≡ Ok (w, rest) → after_blanks rest ≡ rest }
+    ensures { (find : Find) (text : List ℕ) (w : List Letter) (rest : List ℕ) → word_at find text ≡ Ok (w, rest)
+        → after_blanks rest ≡ rest }
 {}
 
 /// The number of a name is that of the first of the names that is the same.

@@ -1,12 +1,14 @@
 //! Words, read from left to right: the brackets that are open are a list, so that their depth takes no stack.
 
-ghost use Rattle.std.specs.Prelude.{◌≡◌, ◌≤◌, ◌<◌, ◌++◌, ◌∷◌, [], ℕ, List, Some, length, false, IfOk, map, position, string_bytes};
+ghost use Rattle.std.specs.Prelude.{◌≡◌, ◌≤◌, ◌<◌, ◌++◌, ◌∷◌, [], ℕ, List, Some, length, false, IfOk, map, position};
+ghost use Rattle.std.specs.Prelude.{string_bytes};
 ghost use Rattle.std.specs.Str.{bytes_eq};
 ghost use Rattle.free_words.specs.declared.letter.Letter.{Letter};
 ghost use Rattle.word_text.specs.Scan.{Gives, name_at, mark_of};
 ghost use Rattle.word_text.specs.Powers.{written};
 ghost use Rattle.word_text.specs.Draft.{awaited_in};
-ghost use Rattle.word_text.specs.Machine.{Round, Square, Reading, factor_ends, opens, closes, stands_no_factor, starred, named, turn_on, turn, word_at, fresh, finding};
+ghost use Rattle.word_text.specs.Machine.{Round, Square, Reading, factor_ends, opens, closes, stands_no_factor};
+ghost use Rattle.word_text.specs.Machine.{starred, named, turn_on, turn, word_at, fresh, finding};
 ghost use Rattle.word_text.specs.State.{reading};
 
 use crate::draft::{Awaited, Draft};
@@ -92,7 +94,11 @@ impl State {
     // A round bracket opens here.
     fn opens_round<'a>(&mut self, text: &'a [u8]) -> Result<(bool, &'a [u8]), ReadError>
         requires { 0 < length text.now }
-        ensures exact { Gives (λ x. record { state = reading self.new; ended = x.0; rest = x.1.now }) result (opens Round (reading self.old) text.now) }
+        ensures exact { Gives (λ x. record {
+          state = reading self.new;
+          ended = x.0;
+          rest = x.1.now;
+        }) result (opens Round (reading self.old) text.now) }
         ensures shorter { IfOk result (λ x. x.0 ≡ false → length x.1.now < length text.now) }
     {
         self.draft.open_round(text.len())?;
@@ -103,7 +109,11 @@ impl State {
     // A square bracket opens here.
     fn opens_square<'a>(&mut self, text: &'a [u8]) -> Result<(bool, &'a [u8]), ReadError>
         requires { 0 < length text.now }
-        ensures exact { Gives (λ x. record { state = reading self.new; ended = x.0; rest = x.1.now }) result (opens Square (reading self.old) text.now) }
+        ensures exact { Gives (λ x. record {
+          state = reading self.new;
+          ended = x.0;
+          rest = x.1.now;
+        }) result (opens Square (reading self.old) text.now) }
         ensures shorter { IfOk result (λ x. x.0 ≡ false → length x.1.now < length text.now) }
     {
         self.draft.open_square(text.len())?;

@@ -13,7 +13,11 @@ use free_words::WRITTEN;
 // A number that an exponent may have.
 #[tactic(auto, unfolding(crate::specs::Powers::size_at))]
 fn size(negative: bool, text: &[u8]) -> Result<(Raise, &[u8]), Fault>
-    ensures exact { Tells (λ x. record { negative = x.0.negative; size = x.0.times; rest = x.1.now }) result (size_at negative text.now) }
+    ensures exact { Tells (λ x. record {
+      negative = x.0.negative;
+      size = x.0.times;
+      rest = x.1.now;
+    }) result (size_at negative text.now) }
     ensures small { IfOk result (λ x. x.0.times ≤ 16384) }
     ensures shorter { IfOk result (λ x. length x.1.now ≤ length text.now) }
 {
@@ -33,7 +37,11 @@ fn size(negative: bool, text: &[u8]) -> Result<(Raise, &[u8]), Fault>
 // What stands behind `^`.
 #[tactic(auto, unfolding(crate::specs::Powers::exponent_at))]
 fn exponent(text: &[u8]) -> Result<(Raise, &[u8]), Fault>
-    ensures exact { Tells (λ x. record { negative = x.0.negative; size = x.0.times; rest = x.1.now }) result (exponent_at text.now) }
+    ensures exact { Tells (λ x. record {
+      negative = x.0.negative;
+      size = x.0.times;
+      rest = x.1.now;
+    }) result (exponent_at text.now) }
     ensures small { IfOk result (λ x. x.0.times ≤ 16384) }
     ensures shorter { IfOk result (λ x. length x.1.now ≤ length text.now) }
 {
@@ -68,7 +76,8 @@ fn raise_more(letters: u32, so_far: Raise, next: Raise, start: usize) -> Result<
 /// What the powers that stand here make of an atom of so many letters, and what follows them. The powers cost as many
 /// steps as they have bytes: the atom is raised once, at their end.
 pub fn powers(letters: u32, start: usize, text: &[u8]) -> Result<(Raise, &[u8]), Fault>
-    ensures exact { (atom : List Letter) → length atom ≡ letters → Tells (λ x. (power_of x.0.negative x.0.times atom, x.1.now)) result
+    ensures exact { (atom : List Letter) → length atom ≡ letters
+        → Tells (λ x. (power_of x.0.negative x.0.times atom, x.1.now)) result
         (powers_at start atom text.now) }
     ensures small { IfOk result (λ x. x.0.times ≤ 16384) }
     ensures shorter { IfOk result (λ x. length x.1.now ≤ length text.now) }

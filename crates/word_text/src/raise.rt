@@ -23,7 +23,8 @@ impl Raise {
     pub fn then(self, next: Raise) -> Raise
         requires { next.times * self.times < 2 ^ 32 }
         ensures times { result.times ≡ next.times * self.times }
-        ensures same { (w : List Letter) → power_of next.negative next.times (power_of self.negative self.times w) ≡ power_of result.negative result.times w }
+        ensures same { (w : List Letter) → power_of next.negative next.times (power_of self.negative self.times w)
+            ≡ power_of result.negative result.times w }
     {
         Raise {
             negative: if next.negative {

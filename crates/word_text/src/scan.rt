@@ -1,7 +1,10 @@
 //! Tokens at the head of a text.
 
-ghost use Rattle.std.specs.Prelude.{◌≡◌, ◌≤◌, ◌<◌, ◌+◌, ◌^◌, ◌-◌, List, slice_index, length, take_while, drop, IfOk, IsTrue};
-ghost use Rattle.word_text.specs.Scan.{is_blank, is_letter, is_name_byte, is_digit, is_known, mark_byte, after_blanks, name_at, after_name, digits_at, after_digits, first_is, mark_of, due, within, number};
+ghost use Rattle.std.specs.Prelude.{◌≡◌, ◌≤◌, ◌<◌, ◌+◌, ◌^◌, ◌-◌, List, slice_index, length, take_while, drop, IfOk};
+ghost use Rattle.std.specs.Prelude.{IsTrue};
+ghost use Rattle.word_text.specs.Scan.{is_blank, is_letter, is_name_byte, is_digit, is_known, mark_byte, after_blanks};
+ghost use Rattle.word_text.specs.Scan.{name_at, after_name, digits_at, after_digits, first_is, mark_of, due, within};
+ghost use Rattle.word_text.specs.Scan.{number};
 
 use crate::fault::{Fault, TextKind};
 

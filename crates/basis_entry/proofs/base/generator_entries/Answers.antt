@@ -16,7 +16,8 @@ generator_entry-requires-clause-some c =
     let at = c.loop-vector in
     let gens : List (List Term) = into_iter_items c.into_iter-vector-iterator.result in
     let steps : into_iter_items at.vector-iterator ≡ c.in-Some.vector ∷ into_iter_items c.next.new.self = c.in-Some.ensures.steps.0 in
-    let split : at.yielded ++ c.in-Some.vector ∷ into_iter_items c.next.new.self ≡ gens = ap (λ (r : List (List Term)). at.yielded ++ r) (sym steps) ∙ at.invariant.split in
+    let split : at.yielded ++ c.in-Some.vector ∷ into_iter_items c.next.new.self ≡ gens = ap (λ (r : List (List Term)). at.yielded ++ r) (sym steps)
+    ∙ at.invariant.split in
     let are : AreGenerators p gens = search rules in
     next_some p gens at.yielded (into_iter_items c.next.new.self) c.in-Some.vector split are
 
@@ -26,7 +27,8 @@ generator_entry-requires-clause-member c =
     let at = c.loop-vector in
     let gens : List (List Term) = into_iter_items c.into_iter-vector-iterator.result in
     let steps : into_iter_items at.vector-iterator ≡ c.in-Some.vector ∷ into_iter_items c.next.new.self = c.in-Some.ensures.steps.0 in
-    let split : at.yielded ++ c.in-Some.vector ∷ into_iter_items c.next.new.self ≡ gens = ap (λ (r : List (List Term)). at.yielded ++ r) (sym steps) ∙ at.invariant.split in
+    let split : at.yielded ++ c.in-Some.vector ∷ into_iter_items c.next.new.self ≡ gens = ap (λ (r : List (List Term)). at.yielded ++ r) (sym steps)
+    ∙ at.invariant.split in
     let are : AreGenerators p gens = search rules in
     next_member p gens at.yielded (into_iter_items c.next.new.self) c.in-Some.vector split are
 
@@ -36,7 +38,8 @@ generator_entry-requires-clause-over c =
     let at = c.loop-vector in
     let gens : List (List Term) = into_iter_items c.into_iter-vector-iterator.result in
     let steps : into_iter_items at.vector-iterator ≡ c.in-Some.vector ∷ into_iter_items c.next.new.self = c.in-Some.ensures.steps.0 in
-    let split : at.yielded ++ c.in-Some.vector ∷ into_iter_items c.next.new.self ≡ gens = ap (λ (r : List (List Term)). at.yielded ++ r) (sym steps) ∙ at.invariant.split in
+    let split : at.yielded ++ c.in-Some.vector ∷ into_iter_items c.next.new.self ≡ gens = ap (λ (r : List (List Term)). at.yielded ++ r) (sym steps)
+    ∙ at.invariant.split in
     let are : AreGenerators p gens = search rules in
     let own : IsPresented p = search rules in
     next_over p gens at.yielded (into_iter_items c.next.new.self) c.in-Some.vector split are own
@@ -47,7 +50,8 @@ overflow_add-number c =
     let at = c.loop-vector in
     let gens : List (List Term) = into_iter_items c.into_iter-vector-iterator.result in
     let steps : into_iter_items at.vector-iterator ≡ c.in-Some.vector ∷ into_iter_items c.next.new.self = c.in-Some.ensures.steps.0 in
-    let split : at.yielded ++ c.in-Some.vector ∷ into_iter_items c.next.new.self ≡ gens = ap (λ (r : List (List Term)). at.yielded ++ r) (sym steps) ∙ at.invariant.split in
+    let split : at.yielded ++ c.in-Some.vector ∷ into_iter_items c.next.new.self ≡ gens = ap (λ (r : List (List Term)). at.yielded ++ r) (sym steps)
+    ∙ at.invariant.split in
     let are : AreGenerators p gens = search rules in
     let own : IsPresented p = search rules in
     let few = next_few p gens at.yielded (into_iter_items c.next.new.self) c.in-Some.vector split are own in
@@ -59,10 +63,13 @@ loop-vector-preserved c =
     let at = c.loop-vector in
     let steps : into_iter_items at.vector-iterator ≡ c.in-Some.vector ∷ into_iter_items c.next.new.self = c.in-Some.ensures.steps.0 in
     let one = c.in-Some.ensures.steps.1 in
-    let pushed : map arc_value c.push.new.self.items ≡ map arc_value at.made.items ++ arc_value c.in_ok-generator_entry.field-0 ∷ [] = ap (map arc_value) c.in_ok-push.ensures.items ∙ map-append arc_value at.made.items (c.in_ok-generator_entry.field-0 ∷ []) in
-    let own : IsOfGenerator p (length at.yielded) c.in-Some.vector (arc_value c.in_ok-generator_entry.field-0) = rw (← at.invariant.number) c.in_ok-generator_entry.ensures in
+    let pushed : map arc_value c.push.new.self.items ≡ map arc_value at.made.items ++ arc_value c.in_ok-generator_entry.field-0 ∷ [] =
+    ap (map arc_value) c.in_ok-push.ensures.items ∙ map-append arc_value at.made.items (c.in_ok-generator_entry.field-0 ∷ []) in
+    let own : IsOfGenerator p (length at.yielded) c.in-Some.vector (arc_value c.in_ok-generator_entry.field-0) =
+    rw (← at.invariant.number) c.in_ok-generator_entry.ensures in
     record {
-      split = append_assoc at.yielded (c.in-Some.vector ∷ []) (into_iter_items c.next.new.self) ∙ ap (λ (r : List (List Term)). at.yielded ++ r) (sym steps) ∙ at.invariant.split;
+      split = append_assoc at.yielded (c.in-Some.vector ∷ []) (into_iter_items c.next.new.self) ∙ ap (λ (r : List (List Term)). at.yielded ++ r) (sym steps)
+          ∙ at.invariant.split;
       left = omega (arith, ap length steps, one, at.invariant.left);
       number = omega (arith, at.invariant.number, length-append at.yielded (c.in-Some.vector ∷ []));
       are = subst (λ (es : List BasisEntry). AreOfGenerators p (at.yielded ++ c.in-Some.vector ∷ []) es) (sym pushed)
@@ -76,4 +83,5 @@ returns c =
     let gens : List (List Term) = into_iter_items c.into_iter-vector-iterator.result in
     let are : AreGenerators p gens = search rules in
     let own : IsPresented p = search rules in
-    all_taken p gens at.yielded (into_iter_items at.vector-iterator) (map arc_value at.made.items) own are at.invariant.split (sym at.invariant.left ∙ c.in-None.ensures.steps.0) at.invariant.are
+    all_taken p gens at.yielded (into_iter_items at.vector-iterator) (map arc_value at.made.items) own are at.invariant.split (sym at.invariant.left
+    ∙ c.in-None.ensures.steps.0) at.invariant.are

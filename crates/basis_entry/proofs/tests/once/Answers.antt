@@ -16,7 +16,8 @@ use Rattle.basis_entry.specs.Entries.{MonosAreOver, vectors_of}
 use Rattle.basis_entry.proofs.Generators.{once}
 use Rattle.basis_entry.proofs.tests.once.Goals as goal
 
-once_is : (b : List (List Term)) (at : ℕ) (v : List Term) (steps : List Step) → slice_get b at ≡ Some v → steps ≡ record { q = pos 1; t = one; by = at } ∷ [] → AllByRecursion IsTerm v
+once_is : (b : List (List Term)) (at : ℕ) (v : List Term) (steps : List Step) → slice_get b at ≡ Some v → steps ≡ record { q = pos 1; t = one; by = at } ∷ []
+    → AllByRecursion IsTerm v
     → (x : Place) → coefficient_at v x ≡ steps_at b steps x
 once_is b at v steps read is terms x =
     once v terms x

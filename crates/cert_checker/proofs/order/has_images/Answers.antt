@@ -5,5 +5,6 @@ use Rattle.cert_checker.proofs.order.has_images.Goals as goal
 pub returns : goal.returns
 returns c = (
   λ none. c.first_long_image.ensures.fits (is_none_none c.first_long_image.result c.is_none.result (sym c.is_none.ensures) none),
-  λ fit. none_is_none c.first_long_image.result c.is_none.result (sym c.is_none.ensures) (c.first_long_image.ensures.number ∙ none_long c.args.question.now fit),
+  λ fit. none_is_none c.first_long_image.result c.is_none.result (sym c.is_none.ensures) (c.first_long_image.ensures.number
+      ∙ none_long c.args.question.now fit),
 )

@@ -8,4 +8,5 @@ use Rattle.cert_checker.proofs.steps.pass.Given as goal
 
 -- what comes of the steps that are left comes of all
 abbrev pub invariant-loop-step : goal.invariant-loop-step
-invariant-loop-step l = (r : Result (List Term) LineFault) → Passes l.way l.entries (coefficient_at l.sum) (drop l.step-index l.steps) r → Passes l.way l.entries (coefficient_at l.fn.sum) l.steps r
+invariant-loop-step l = (r : Result (List Term) LineFault) → Passes l.way l.entries (coefficient_at l.sum) (drop l.step-index l.steps) r
+    → Passes l.way l.entries (coefficient_at l.fn.sum) l.steps r

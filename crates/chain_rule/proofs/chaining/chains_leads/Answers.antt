@@ -16,7 +16,9 @@ returns-then-divides c =
     elim c.if-by-first.branch [
       | then-by-first w ↦
           let made = c.in-Some.ensures.made in
-          let reduces : Reduces c.args.by.now (meeting_place c.args.first.now c.args.second.now) = (w.if-by-first.true, ap (divides c.args.by.now.at.m) (sym made.1) ∙ sym w.divides.ensures ∙ sym w.value-is ∙ c.if-divides.true) in
+          let reduces : Reduces c.args.by.now (meeting_place c.args.first.now c.args.second.now) =
+          (w.if-by-first.true, ap (divides c.args.by.now.at.m) (sym made.1) ∙ sym w.divides.ensures ∙ sym w.value-is ∙ c.if-divides.true) in
           (λ yes. record { reach = made.0; reduces = reduces; coefficient = last.0 yes }, λ h. last.1 h.coefficient)
-      | else-by-first w ↦ absurd (let yes : nat_eq c.args.by.now.at.c c.args.first.now.at.c ≡ true = sym w.value-is ∙ c.if-divides.true in let no = w.if-by-first.false in grind arith)
+      | else-by-first w ↦ absurd (let yes : nat_eq c.args.by.now.at.c c.args.first.now.at.c ≡ true = sym w.value-is ∙ c.if-divides.true
+          in let no = w.if-by-first.false in grind arith)
     ]

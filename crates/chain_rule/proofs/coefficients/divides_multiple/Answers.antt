@@ -14,5 +14,6 @@ returns c =
     let last = simp to_z-of_z at c.divides.ensures in
     let is_p = simp to_z-of_z at c.part_beside.ensures.is in
     let is_q = simp to_z-of_z at c.part_beside-2.ensures.is in
-    let test = multiple_test c.args.by c.args.first c.args.second c.part_beside.result c.part_beside-2.result c.requires.by c.requires.first c.requires.second is_p is_q in
+    let test = multiple_test c.args.by c.args.first c.args.second c.part_beside.result c.part_beside-2.result c.requires.by c.requires.first
+    c.requires.second is_p is_q in
     (λ yes. test.0 (last.0 yes), λ h. last.1 (test.1 h))

@@ -9,11 +9,13 @@ returns-clause-positive c =
     let k : FitsSigned w128 c.args.k = search rules in
     let l : FitsSigned w128 c.args.l = search rules in
     let d : FitsSigned w128 c.bezout-divisor.result.0 = search rules in
-    part_positive c.args.k c.args.l c.bezout-divisor.result.0 c.bezout-divisor.result.1 c.bezout-divisor.result.2 c.requires.k c.requires.l k d (simp to_z-of_z at c.bezout-divisor.ensures)
+    part_positive c.args.k c.args.l c.bezout-divisor.result.0 c.bezout-divisor.result.1 c.bezout-divisor.result.2 c.requires.k c.requires.l k d
+    (simp to_z-of_z at c.bezout-divisor.ensures)
 
 pub returns-clause-is : goal.returns-clause-is
 returns-clause-is c =
     let k : FitsSigned w128 c.args.k = search rules in
     let l : FitsSigned w128 c.args.l = search rules in
     let d : FitsSigned w128 c.bezout-divisor.result.0 = search rules in
-    part_is c.args.k c.args.l c.bezout-divisor.result.0 c.bezout-divisor.result.1 c.bezout-divisor.result.2 c.requires.k c.requires.l k d (simp to_z-of_z at c.bezout-divisor.ensures)
+    part_is c.args.k c.args.l c.bezout-divisor.result.0 c.bezout-divisor.result.1 c.bezout-divisor.result.2 c.requires.k c.requires.l k d
+    (simp to_z-of_z at c.bezout-divisor.ensures)

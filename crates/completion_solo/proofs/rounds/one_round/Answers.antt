@@ -16,25 +16,33 @@ returns-then-is_spent c =
     let h : Held = c.args.book.now in
     let p = arc_value c.args.p.now in
     subst (λ (n : ℕ). EndsWith p h (Spent n c.in-Some.least) h) (sym c.commits.ensures.is)
-    (ends_spent p h c.in-Some.least c.is_spent.ensures.book c.requires.source c.requires.none_taken c.in-Some.ensures (c.is_spent.ensures.is.0 c.if-is_spent.true))
+    (ends_spent p h c.in-Some.least c.is_spent.ensures.book c.requires.source c.requires.none_taken c.in-Some.ensures
+    (c.is_spent.ensures.is.0 c.if-is_spent.true))
 
 pub work_taken-requires-clause-due : goal.work_taken-requires-clause-due
 work_taken-requires-clause-due c =
     let h : Held = c.args.book.now in
     let b = c.is_spent.ensures.book in
-    let k = took h c.take.new.self c.in-Some-take.task b c.requires.none_taken ((λ e. not_both c.is_spent.result (c.is_spent.ensures.is.1 e) c.if-is_spent.false), unsealed h b c.in-Some.least c.in-Some.ensures) c.in-Some-take.ensures in
+    let k = took h c.take.new.self c.in-Some-take.task b c.requires.none_taken
+    ((λ e. not_both c.is_spent.result (c.is_spent.ensures.is.1 e) c.if-is_spent.false), unsealed h b c.in-Some.least c.in-Some.ensures)
+    c.in-Some-take.ensures in
     due_now (arc_value c.args.p.now) h c.take.new.self c.in-Some-take.task c.args.index.now c.args.stale k c.requires
 
 pub returns-in-Some-take : goal.returns-in-Some-take
 returns-in-Some-take c =
     let h : Held = c.args.book.now in
     let b = c.is_spent.ensures.book in
-    let k = took h c.take.new.self c.in-Some-take.task b c.requires.none_taken ((λ e. not_both c.is_spent.result (c.is_spent.ensures.is.1 e) c.if-is_spent.false), unsealed h b c.in-Some.least c.in-Some.ensures) c.in-Some-take.ensures in
-    round_on (arc_value c.args.p.now) h c.take.new.self c.work_taken.new.book c.in-Some-take.task c.args.stale c.work_taken.result c.work_taken.new.index k c.work_taken.ensures
+    let k = took h c.take.new.self c.in-Some-take.task b c.requires.none_taken
+    ((λ e. not_both c.is_spent.result (c.is_spent.ensures.is.1 e) c.if-is_spent.false), unsealed h b c.in-Some.least c.in-Some.ensures)
+    c.in-Some-take.ensures in
+    round_on (arc_value c.args.p.now) h c.take.new.self c.work_taken.new.book c.in-Some-take.task c.args.stale c.work_taken.result c.work_taken.new.index k
+    c.work_taken.ensures
 
 pub returns-then-stale : goal.returns-then-stale
 returns-then-stale c =
     let h : Held = c.args.book.now in
     let new : Held = c.soften.new.self in
-    rw c.if-stale.true (opened_again (arc_value c.args.p.now) h new c.args.index.now c.is_spent.ensures.book c.requires.source c.requires.none_taken c.requires.are_leads
-    (subst (λ (x : Held). new ≡ record x { tasks = reopen HardOnes x.tasks }) (none_taken_now h c.take.new.self c.in_default-take.ensures) c.soften.ensures.new))
+    rw c.if-stale.true (opened_again (arc_value c.args.p.now) h new c.args.index.now c.is_spent.ensures.book c.requires.source c.requires.none_taken
+    c.requires.are_leads
+    (subst (λ (x : Held). new ≡ record x { tasks = reopen HardOnes x.tasks }) (none_taken_now h c.take.new.self c.in_default-take.ensures)
+    c.soften.ensures.new))

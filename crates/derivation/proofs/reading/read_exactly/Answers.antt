@@ -26,7 +26,8 @@ returns-then-is_empty-clause-exact c =
     let read = c.in_ok-read_line.ensures.exact in
     line_last (finding c.args.p.now.names) c.loop-moves.number c.loop-moves.rest.now c.split_line.result.0.now c.split_line.result.1.now
     (derivation_text c.args.p.now c.args.text.now) c.loop-moves.moves.items read.0
-    c.split_line.ensures.line c.split_line.ensures.rest (none_left (length c.split_line.result.1.now) (sym c.is_empty.ensures ∙ c.if-is_empty.true)) c.loop-moves.invariant.so_far read.1
+    c.split_line.ensures.line c.split_line.ensures.rest (none_left (length c.split_line.result.1.now) (sym c.is_empty.ensures ∙ c.if-is_empty.true))
+    c.loop-moves.invariant.so_far read.1
     ∙ ap (λ (l : List Move). Ok l) (sym read.2)
 
 pub loop-moves-preserved : goal.loop-moves-preserved
@@ -37,6 +38,7 @@ loop-moves-preserved c =
       so_far = rw (read.2, next, c.after_first-rest.ensures.rest)
           (line_more (finding c.args.p.now.names) c.loop-moves.number c.loop-moves.rest.now c.split_line.result.0.now c.split_line.result.1.now
           (derivation_text c.args.p.now c.args.text.now) c.loop-moves.moves.items read.0
-          c.split_line.ensures.line c.split_line.ensures.rest (some_left (length c.split_line.result.1.now) (sym c.is_empty.ensures ∙ c.if-is_empty.false)) c.loop-moves.invariant.so_far read.1);
+          c.split_line.ensures.line c.split_line.ensures.rest (some_left (length c.split_line.result.1.now) (sym c.is_empty.ensures ∙ c.if-is_empty.false))
+          c.loop-moves.invariant.so_far read.1);
       over = c.in_ok-read_line.ensures.over c.loop-moves.invariant.over;
     }

@@ -17,4 +17,5 @@ loop-preserved c =
 
 pub returns : goal.returns
 returns c =
-    all_lines QUESTIONS c.loop.counter c.loop.draws.state c.loop.out.items (c.args.out.now.items ++ lines_text QUESTIONS c.args.draws.state) (search rules) c.loop.invariant
+    all_lines QUESTIONS c.loop.counter c.loop.draws.state c.loop.out.items (c.args.out.now.items ++ lines_text QUESTIONS c.args.draws.state) (search rules)
+    c.loop.invariant

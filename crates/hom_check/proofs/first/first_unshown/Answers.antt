@@ -10,21 +10,24 @@ use Rattle.hom_check.proofs.first.first_unshown.Goals as goal
 pub subject-requires-clause-short : goal.subject-requires-clause-short
 subject-requires-clause-short g c =
     let lt : c.loop-place.place + 1 ≤ length (subjects c.args.q.now) = search rules in
-    let fits : Fits (length c.args.p.now.names) (subject_at c.args.q.now (c.loop-place.place + 1)) = subject_fits c.args.p.now c.args.q.now (c.loop-place.place + 1) c.requires.question c.requires.images (omega arith) lt in
+    let fits : Fits (length c.args.p.now.names) (subject_at c.args.q.now (c.loop-place.place + 1)) =
+    subject_fits c.args.p.now c.args.q.now (c.loop-place.place + 1) c.requires.question c.requires.images (omega arith) lt in
     fits.1
 
 pub ending_of-requires-clause-over : goal.ending_of-requires-clause-over
 ending_of-requires-clause-over g c =
     let lt : c.loop-place.place + 1 ≤ length (subjects c.args.q.now) = search rules in
     let fits : Fits (length c.args.p.now.names) c.in_ok-w.w =
-    subst (Fits (length c.args.p.now.names)) (sym c.in_ok-w.ensures) (subject_fits c.args.p.now c.args.q.now (c.loop-place.place + 1) c.requires.question c.requires.images (omega arith) lt) in
+    subst (Fits (length c.args.p.now.names)) (sym c.in_ok-w.ensures) (subject_fits c.args.p.now c.args.q.now (c.loop-place.place + 1) c.requires.question
+    c.requires.images (omega arith) lt) in
     fits.0
 
 pub ending_of-requires-clause-short : goal.ending_of-requires-clause-short
 ending_of-requires-clause-short g c =
     let lt : c.loop-place.place + 1 ≤ length (subjects c.args.q.now) = search rules in
     let fits : Fits (length c.args.p.now.names) c.in_ok-w.w =
-    subst (Fits (length c.args.p.now.names)) (sym c.in_ok-w.ensures) (subject_fits c.args.p.now c.args.q.now (c.loop-place.place + 1) c.requires.question c.requires.images (omega arith) lt) in
+    subst (Fits (length c.args.p.now.names)) (sym c.in_ok-w.ensures) (subject_fits c.args.p.now c.args.q.now (c.loop-place.place + 1) c.requires.question
+    c.requires.images (omega arith) lt) in
     fits.1
 
 pub returns-in-Rest-clause-is : goal.returns-in-Rest-clause-is

@@ -16,16 +16,25 @@ returns-clause-exact g c =
     let counted : Type 0 = CountRose (g.S.Shelf.faults c.args.shelf.now) (g.S.Shelf.faults c.load.new.shelf) in
     let report : List ℕ = c.args.words.now.report.now in
     let told : Option (List ℕ) = g.S.Shelf.under c.args.shelf.now report in
-    let loaded : IfSome told (λ bytes. c.in_ok-text.text.items ≡ bytes) = subst (λ (t : Option (List ℕ)). IfSome t (λ bytes. c.in_ok-text.text.items ≡ bytes)) (c.load_presentation.ensures.same report) c.in_ok-text.ensures.loaded.1 in
-    let answers : Answers c.in_ok-p.p c.in_ok-text.text.items c.check-found.result = subst (λ (t : List ℕ). Answers c.in_ok-p.p t c.check-found.result) c.deref.ensures.value c.check-found.ensures.exact in
-    gives_lead counted PRESENTATION_BYTES c.args.words.now.presentation.now (g.S.Shelf.under c.args.shelf.now c.args.words.now.presentation.now) (in_lines presentation_text)
+    let loaded : IfSome told (λ bytes. c.in_ok-text.text.items ≡ bytes) =
+    subst (λ (t : Option (List ℕ)). IfSome t (λ bytes. c.in_ok-text.text.items ≡ bytes)) (c.load_presentation.ensures.same report)
+    c.in_ok-text.ensures.loaded.1 in
+    let answers : Answers c.in_ok-p.p c.in_ok-text.text.items c.check-found.result =
+    subst (λ (t : List ℕ). Answers c.in_ok-p.p t c.check-found.result) c.deref.ensures.value c.check-found.ensures.exact in
+    gives_lead counted PRESENTATION_BYTES c.args.words.now.presentation.now (g.S.Shelf.under c.args.shelf.now c.args.words.now.presentation.now)
+    (in_lines presentation_text)
     (λ p. BytesLead counted REPORT_BYTES report told (ReportLeads p)) c.in_ok-p.p c.in_ok-answer.answer c.in_ok-p.ensures.gives
-    (bytes_lead counted REPORT_BYTES report told c.in_ok-text.text.items (ReportLeads c.in_ok-p.p) c.in_ok-answer.answer c.in_ok-text.ensures.loaded.0 loaded (c.check-found.result, answers, c.in_ok-answer.ensures.shows))
+    (bytes_lead counted REPORT_BYTES report told c.in_ok-text.text.items (ReportLeads c.in_ok-p.p) c.in_ok-answer.answer c.in_ok-text.ensures.loaded.0 loaded
+    (c.check-found.result, answers, c.in_ok-answer.ensures.shows))
 
 pub returns-clause-true_report : goal.returns-clause-true_report
 returns-clause-true_report g c done =
     let report : List ℕ = c.args.words.now.report.now in
     let told : Option (List ℕ) = g.S.Shelf.under c.args.shelf.now report in
-    let loaded : IfSome told (λ bytes. c.in_ok-text.text.items ≡ bytes) = subst (λ (t : Option (List ℕ)). IfSome t (λ bytes. c.in_ok-text.text.items ≡ bytes)) (c.load_presentation.ensures.same report) c.in_ok-text.ensures.loaded.1 in
-    let held : IsTrueReport c.in_ok-p.p c.deref.result.now = found_true c.in_ok-p.p c.deref.result.now c.check-found.result (c.in_ok-answer.ensures.done done) c.check-found.ensures.sound in
-    asked_true PRESENTATION_BYTES (g.S.Shelf.under c.args.shelf.now c.args.words.now.presentation.now) told c.in_ok-p.p c.in_ok-text.text.items c.in_ok-p.ensures.gives loaded (subst (IsTrueReport c.in_ok-p.p) c.deref.ensures.value held)
+    let loaded : IfSome told (λ bytes. c.in_ok-text.text.items ≡ bytes) =
+    subst (λ (t : Option (List ℕ)). IfSome t (λ bytes. c.in_ok-text.text.items ≡ bytes)) (c.load_presentation.ensures.same report)
+    c.in_ok-text.ensures.loaded.1 in
+    let held : IsTrueReport c.in_ok-p.p c.deref.result.now = found_true c.in_ok-p.p c.deref.result.now c.check-found.result (c.in_ok-answer.ensures.done done)
+    c.check-found.ensures.sound in
+    asked_true PRESENTATION_BYTES (g.S.Shelf.under c.args.shelf.now c.args.words.now.presentation.now) told c.in_ok-p.p c.in_ok-text.text.items
+    c.in_ok-p.ensures.gives loaded (subst (IsTrueReport c.in_ok-p.p) c.deref.ensures.value held)

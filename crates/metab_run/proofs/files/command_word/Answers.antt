@@ -11,7 +11,8 @@ returns-in-Err c =
     let exact : P c.as_bytes.result.now = c.in-Err.ensures.exact in
     let same : c.as_bytes.result.now ≡ c.args.text.now = cc in
     record {
-      gives = text_refused (codes "word") c.args.text.now (word_text find c.args.text.now) c.in-Err.fault c.refusal.result (subst P same exact) c.refusal.ensures.refuses;
+      gives = text_refused (codes "word") c.args.text.now (word_text find c.args.text.now) c.in-Err.fault c.refusal.result (subst P same exact)
+          c.refusal.ensures.refuses;
       cause = c.refusal.ensures.cause;
       over = tt;
     }

@@ -19,5 +19,7 @@ loop-option-preserved c =
 pub returns : goal.returns
 returns c =
     let rule : rule_of c.action.result ≡ names_rule = search rules in
-    let whole : take c.loop-option.option-index c.args.options.now ≡ c.args.options.now = search (rules, take_all c.loop-option.option-index c.args.options.now) in
-    IfOk-weaker c.arg-2.result _ _ (λ m h. h.shape (search rules) ∙ ap₂ with_rule (c.loop-option.invariant ∙ ap (λ os. with_options (bare c.args.name.now) (shown os)) whole) rule) c.arg-2.ensures
+    let whole : take c.loop-option.option-index c.args.options.now ≡ c.args.options.now =
+    search (rules, take_all c.loop-option.option-index c.args.options.now) in
+    IfOk-weaker c.arg-2.result _ _ (λ m h. h.shape (search rules) ∙ ap₂ with_rule (c.loop-option.invariant
+    ∙ ap (λ os. with_options (bare c.args.name.now) (shown os)) whole) rule) c.arg-2.ensures

@@ -8,7 +8,8 @@ loop-at-preserved g c =
     let lt : c.loop-at.at < length c.args.names.now = search rules in
     let new : IsNewSession c.args.p.now c.args.base (c.loop-at.at + 1) c.in_ok-open.field-0 = search rules in
     record {
-      read = one_more _ (g.S.Shelf.under c.loop-at.shelf) c.args.p.now c.args.base c.args.names.now c.loop-at.at _ c.loop-at.sessions.items _ c.in_ok-questions.questions.items c.in_ok-open.field-0
+      read = one_more _ (g.S.Shelf.under c.loop-at.shelf) c.args.p.now c.args.base c.args.names.now c.loop-at.at _ c.loop-at.sessions.items _
+          c.in_ok-questions.questions.items c.in_ok-open.field-0
           c.loop-at.invariant.read lt c.loop-at.invariant.same c.in_ok-questions.ensures.gives (search rules) new c.in_ok-push.ensures.items;
       same = search rules;
       later = search rules;

@@ -13,11 +13,13 @@ gather-requires-clause-sessions c = askers (arc_value c.args.p.now) c.args.limit
 
 pub report_is_accepted-requires : goal.report_is_accepted-requires
 report_is_accepted-requires c =
-    can_be_written c.args.limits (arc_value c.args.p.now) (questions_of c.args.sessions.items) (reported c.in_ok-report.report) c.requires.most c.in_ok-report.ensures.legal
+    can_be_written c.args.limits (arc_value c.args.p.now) (questions_of c.args.sessions.items) (reported c.in_ok-report.report) c.requires.most
+    c.in_ok-report.ensures.legal
 
 pub returns : goal.returns
 returns c =
     let known : IsPresented (arc_value c.args.p.now) = search rules in
     let sources : AllByRecursion (λ s. AllByRecursion HasSource s.questions) c.args.sessions.items = search rules in
-    solution c.args.limits (arc_value c.args.p.now) (length c.args.book.entries) c.args.sessions.items (reported c.in_ok-report.report) known sources c.requires.most c.requires.sessions
+    solution c.args.limits (arc_value c.args.p.now) (length c.args.book.entries) c.args.sessions.items (reported c.in_ok-report.report) known sources
+    c.requires.most c.requires.sessions
     c.in_ok-report.ensures.legal c.in_ok-report.ensures.stand c.report_is_accepted.ensures.told

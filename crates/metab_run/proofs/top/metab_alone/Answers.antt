@@ -11,7 +11,9 @@ returns-in-Ok-Reports-clause-ends g c =
     let counted : Type 0 = CountRose (g.S.Shelf.faults c.args.shelf.now) (g.S.Shelf.faults c.find.new.shelf) in
     let under : List ℕ → Option (List ℕ) = g.S.Shelf.under c.args.shelf.now in
     let words : List (List ℕ) = map string_bytes c.args.words.now in
-    let finds : Finds counted under words (Reports c.in-Ok-Reports.report) = subst (Finds counted under words) c.in-Ok-Reports.field-0-is c.in-Ok-Reports.ensures.finds in
+    let finds : Finds counted under words (Reports c.in-Ok-Reports.report) =
+    subst (Finds counted under words) c.in-Ok-Reports.field-0-is c.in-Ok-Reports.ensures.finds in
     report_ends counted under words finds.0 (reported c.in-Ok-Reports.report) finds.1 finds.2
-    (CountRose (g.K.Sink.faults c.args.out.now) (g.K.Sink.faults c.deliver_report.new.out)) (g.K.Sink.taken c.args.out.now) (g.K.Sink.taken c.deliver_report.new.out)
+    (CountRose (g.K.Sink.faults c.args.out.now) (g.K.Sink.faults c.deliver_report.new.out)) (g.K.Sink.taken c.args.out.now)
+    (g.K.Sink.taken c.deliver_report.new.out)
     c.deliver_report.result c.deliver_report.ensures.written

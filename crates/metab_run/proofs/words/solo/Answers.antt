@@ -19,4 +19,5 @@ returns-clause-is c =
     let found : Option (List Row) = parsed (declared (codes "solo") solo_options) (map string_bytes c.args.words.now) in
     let is : option_map (λ m. rows_of (found_of m)) c.in_ok-found.field-0 ≡ found = c.in_ok-found.ensures in
     let asked : Some (solo_asked c.in-Some-2.words) ≡ solo_in (rows_of (found_of c.in-Some.found)) = search (rules, c.in_ok-solo_asked.ensures.is) in
-    solo_of found (rows_of (found_of c.in-Some.found)) (Some (solo_asked c.in-Some-2.words)) (sym (ap (option_map (λ (m : ArgMatches). rows_of (found_of m))) c.in-Some.is) ∙ is) asked
+    solo_of found (rows_of (found_of c.in-Some.found)) (Some (solo_asked c.in-Some-2.words))
+    (sym (ap (option_map (λ (m : ArgMatches). rows_of (found_of m))) c.in-Some.is) ∙ is) asked

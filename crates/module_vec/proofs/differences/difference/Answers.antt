@@ -1,4 +1,5 @@
-use Rattle.std.proofs.Common.{rules, arith, ◌≡◌, ◌≤◌, ◌+◌, ◌++◌, List, [], ◌∷◌, length, length-append, drop, ap, refl, subst, sym, ◌∙◌, ◌≢◌, pos, Vec, Global, FitsSigned}
+use Rattle.std.proofs.Common.{rules, arith, ◌≡◌, ◌≤◌, ◌+◌, ◌++◌, List, [], ◌∷◌, length, length-append, drop, ap, refl, subst, sym, ◌∙◌, ◌≢◌, pos, Vec, Global}
+use Rattle.std.proofs.Common.{FitsSigned}
 use mir.Syntax.{w128}
 use borrow.Author.Differences.{ints}
 use Rattle.std.specs.List.{AllByRecursion}
@@ -18,8 +19,10 @@ use Rattle.module_vec.specs.Merging.{IsFound, PassesTo}
 
 pub product-requires : goal.product-requires
 product-requires c =
-    let each = all_drop (λ u. degree c.args.t.now + degree u.at.m ≤ DEGREE) c.loop-term.term-index c.args.g.now (room_each c.args.t.now c.args.g.now c.requires.g.sparse.falling c.requires.room) in
-    (subst (AllByRecursion (λ u. degree c.args.t.now + degree u.at.m ≤ DEGREE)) (drop_read c.args.g.now c.loop-term.term-index c.term-item.result c.loop-term-test.true c.term-item.is) each).0
+    let each = all_drop (λ u. degree c.args.t.now + degree u.at.m ≤ DEGREE) c.loop-term.term-index c.args.g.now
+    (room_each c.args.t.now c.args.g.now c.requires.g.sparse.falling c.requires.room) in
+    (subst (AllByRecursion (λ u. degree c.args.t.now + degree u.at.m ≤ DEGREE)) (drop_read c.args.g.now c.loop-term.term-index c.term-item.result
+    c.loop-term-test.true c.term-item.is) each).0
 
 pub returns-in_default : goal.returns-in_default
 returns-in_default c =
@@ -29,10 +32,17 @@ returns-in_default c =
     let state = simp to_z-of_z at c.loop-term.invariant.state in
     let wide = simp to_z-of_z at c.in_default.ensures in
     let place : Place = record { m = c.product.result; c = c.term-item.result.at.c } in
-    let passed : PassesTo place c.loop-term.made.items c.loop-term.rest.now c.pass.new.made.items c.in_ok-before.before c.in_ok-before.behind.now = c.in_ok-before.ensures in (
+    let passed : PassesTo place c.loop-term.made.items c.loop-term.rest.now c.pass.new.made.items c.in_ok-before.before c.in_ok-before.behind.now =
+    c.in_ok-before.ensures in (
       refl,
-      step_wide c.args.v.now c.args.q c.args.t.now c.args.g.now c.loop-term.made.items c.loop-term.rest.now (drop (c.loop-term.term-index + 1) c.args.g.now) c.term-item.result c.pass.new.made.items passed.from c.in_ok-before.behind.now c.in_ok-before.before place
-          (found_at c.args.v.now c.args.q c.args.t.now c.args.g.now c.loop-term.made.items c.loop-term.rest.now c.loop-term.term-index c.term-item.result c.pass.new.made.items passed.from c.in_ok-before.behind.now c.in_ok-before.before place state c.requires.g.sparse c.loop-term-test.true c.term-item.is c.degree.ensures.monomial.variables (λ j. record { m = c.product.ensures.is j; c = c.term-item.result.at.c }) passed.passed passed.taken)
+      step_wide c.args.v.now c.args.q c.args.t.now c.args.g.now c.loop-term.made.items c.loop-term.rest.now (drop (c.loop-term.term-index + 1) c.args.g.now)
+          c.term-item.result c.pass.new.made.items passed.from c.in_ok-before.behind.now c.in_ok-before.before place
+          (found_at c.args.v.now c.args.q c.args.t.now c.args.g.now c.loop-term.made.items c.loop-term.rest.now c.loop-term.term-index c.term-item.result
+          c.pass.new.made.items passed.from c.in_ok-before.behind.now c.in_ok-before.before place state c.requires.g.sparse c.loop-term-test.true
+          c.term-item.is c.degree.ensures.monomial.variables (λ j. record {
+            m = c.product.ensures.is j;
+            c = c.term-item.result.at.c;
+          }) passed.passed passed.taken)
           wide,
     )
 
@@ -45,26 +55,38 @@ loop-term-preserved c =
     let state = simp to_z-of_z at c.loop-term.invariant.state in
     let reduced = simp to_z-of_z at c.in-Some.ensures in
     let place : Place = record { m = c.product.result; c = c.term-item.result.at.c } in
-    let passed : PassesTo place c.loop-term.made.items c.loop-term.rest.now c.pass.new.made.items c.in_ok-before.before c.in_ok-before.behind.now = c.in_ok-before.ensures in
+    let passed : PassesTo place c.loop-term.made.items c.loop-term.rest.now c.pass.new.made.items c.in_ok-before.before c.in_ok-before.behind.now =
+    c.in_ok-before.ensures in
     let left : List Term = drop (c.loop-term.term-index + 1) c.args.g.now in
-    let found : Found c.args.v.now c.args.q c.args.t.now c.args.g.now c.loop-term.made.items c.loop-term.rest.now left c.term-item.result c.pass.new.made.items passed.from c.in_ok-before.behind.now c.in_ok-before.before place = found_at c.args.v.now c.args.q c.args.t.now c.args.g.now c.loop-term.made.items c.loop-term.rest.now c.loop-term.term-index c.term-item.result c.pass.new.made.items passed.from c.in_ok-before.behind.now c.in_ok-before.before place state c.requires.g.sparse c.loop-term-test.true c.term-item.is c.degree.ensures.monomial.variables (λ j. record { m = c.product.ensures.is j; c = c.term-item.result.at.c }) passed.passed passed.taken in
-    let count : length c.pass.new.made.items + length c.in_ok-before.behind.now ≤ length c.loop-term.made.items + length c.loop-term.rest.now = passed_count place c.loop-term.made.items c.loop-term.rest.now c.pass.new.made.items passed.from c.in_ok-before.behind.now c.in_ok-before.before passed.passed passed.taken in
+    let found : Found c.args.v.now c.args.q c.args.t.now c.args.g.now c.loop-term.made.items c.loop-term.rest.now left c.term-item.result c.pass.new.made.items
+    passed.from c.in_ok-before.behind.now c.in_ok-before.before place =
+    found_at c.args.v.now c.args.q c.args.t.now c.args.g.now c.loop-term.made.items c.loop-term.rest.now c.loop-term.term-index c.term-item.result
+    c.pass.new.made.items passed.from c.in_ok-before.behind.now c.in_ok-before.before place state c.requires.g.sparse c.loop-term-test.true c.term-item.is
+    c.degree.ensures.monomial.variables (λ j. record { m = c.product.ensures.is j; c = c.term-item.result.at.c }) passed.passed passed.taken in
+    let count : length c.pass.new.made.items + length c.in_ok-before.behind.now ≤ length c.loop-term.made.items + length c.loop-term.rest.now =
+    passed_count place c.loop-term.made.items c.loop-term.rest.now c.pass.new.made.items passed.from c.in_ok-before.behind.now c.in_ok-before.before
+    passed.passed passed.taken in
     elim c.if-k-ne0.branch [
       | then-k-ne0+in_ok-push w ↦
           let nonzero : c.in-Some.k ≢ pos 0 = λ none. absurd (omega (arith, ints, none, w.if-k-ne0.true)) in
           let term : IsTerm (record { at = place; k = c.in-Some.k }) = record { place = c.product.ensures.monomial; nonzero = nonzero; range = reduced.1 } in
           let push = simp to_z-of_z at w.in_ok-push.ensures.items in
           let made = ap (λ (m : Vec Term Global). m.items) w.made-is ∙ push in
-          let longer : length c.if-k-ne0.made.items ≡ length c.pass.new.made.items + 1 = ap length made ∙ length-append c.pass.new.made.items (record { at = place; k = c.in-Some.k } ∷ []) in
+          let longer : length c.if-k-ne0.made.items ≡ length c.pass.new.made.items + 1 = ap length made
+          ∙ length-append c.pass.new.made.items (record { at = place; k = c.in-Some.k } ∷ []) in
           simp to_z-of_z (record {
-            state = step_term c.args.v.now c.args.q c.args.t.now c.args.g.now c.loop-term.made.items c.loop-term.rest.now left c.term-item.result c.pass.new.made.items passed.from c.in_ok-before.behind.now c.in_ok-before.before place found c.in-Some.k term reduced c.if-k-ne0.made.items made;
+            state = step_term c.args.v.now c.args.q c.args.t.now c.args.g.now c.loop-term.made.items c.loop-term.rest.now left c.term-item.result
+                c.pass.new.made.items passed.from c.in_ok-before.behind.now c.in_ok-before.before place found c.in-Some.k term reduced
+                c.if-k-ne0.made.items made;
             count = omega (arith, count, longer, c.loop-term.invariant.count);
           })
       | else-k-ne0 w ↦
           let zero_k : c.in-Some.k ≡ pos 0 = omega (arith, ints, w.if-k-ne0.false) in
           let same : c.if-k-ne0.made.items ≡ c.pass.new.made.items = ap (λ (m : Vec Term Global). m.items) w.made-is in
           simp to_z-of_z (record {
-            state = subst (λ m. Merging c.args.v.now c.args.q c.args.t.now c.args.g.now m c.in_ok-before.behind.now left) (sym same) (step_zero c.args.v.now c.args.q c.args.t.now c.args.g.now c.loop-term.made.items c.loop-term.rest.now left c.term-item.result c.pass.new.made.items passed.from c.in_ok-before.behind.now c.in_ok-before.before place found c.in-Some.k zero_k reduced);
+            state = subst (λ m. Merging c.args.v.now c.args.q c.args.t.now c.args.g.now m c.in_ok-before.behind.now left) (sym same)
+                (step_zero c.args.v.now c.args.q c.args.t.now c.args.g.now c.loop-term.made.items c.loop-term.rest.now left c.term-item.result
+                c.pass.new.made.items passed.from c.in_ok-before.behind.now c.in_ok-before.before place found c.in-Some.k zero_k reduced);
             count = omega (arith, count, ap length same, c.loop-term.invariant.count);
           })
     ]
@@ -75,6 +97,12 @@ returns c =
     let state = simp to_z-of_z at c.loop-term.invariant.state in
     let none : drop c.loop-term.term-index c.args.g.now ≡ [] = drop_all c.loop-term.term-index c.args.g.now (omega arith) in
     let items : c.loop-term.made.items ++ c.loop-term.rest.now ≡ c.extend_from_slice.new.self.items = sym c.in_ok-extend_from_slice.ensures.items in
-    let long : length (c.loop-term.made.items ++ c.loop-term.rest.now) ≤ length c.args.v.now + length c.args.g.now = omega (arith, length-append c.loop-term.made.items c.loop-term.rest.now) in
-    subst (λ (m : List Term). IsFound (DifferenceIsWide (coefficient_at c.args.v.now) (multiple_at c.args.q c.args.t.now c.args.g.now)) (difference_at (coefficient_at c.args.v.now) (multiple_at c.args.q c.args.t.now c.args.g.now)) m × length m ≤ length c.args.v.now + length c.args.g.now) items
-    (ends c.args.v.now c.args.q c.args.t.now c.args.g.now c.loop-term.made.items c.loop-term.rest.now (subst (Merging c.args.v.now c.args.q c.args.t.now c.args.g.now c.loop-term.made.items c.loop-term.rest.now) none state), long)
+    let long : length (c.loop-term.made.items ++ c.loop-term.rest.now) ≤ length c.args.v.now + length c.args.g.now =
+    omega (arith, length-append c.loop-term.made.items c.loop-term.rest.now) in
+    subst (λ (m : List Term). IsFound (DifferenceIsWide (coefficient_at c.args.v.now) (multiple_at c.args.q c.args.t.now c.args.g.now))
+    (difference_at (coefficient_at c.args.v.now) (multiple_at c.args.q c.args.t.now c.args.g.now)) m
+    × length m ≤ length c.args.v.now + length c.args.g.now) items (
+      ends c.args.v.now c.args.q c.args.t.now c.args.g.now c.loop-term.made.items c.loop-term.rest.now
+          (subst (Merging c.args.v.now c.args.q c.args.t.now c.args.g.now c.loop-term.made.items c.loop-term.rest.now) none state),
+      long,
+    )

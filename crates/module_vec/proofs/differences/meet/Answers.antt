@@ -5,13 +5,18 @@ use Rattle.module_vec.proofs.Merging.{above_more, meets}
 use Rattle.module_vec.proofs.differences.meet.Goals as goal
 
 pub returns-in-Equal : goal.returns-in-Equal
-returns-in-Equal c = subst (λ n. Meets c.args.at.now c.args.v.now n true) (sym c.loop-u.invariant.count) (meets c.args.at.now c.args.v.now c.loop-u.u-index c.u-item.result Equal c.loop-u.invariant.front c.loop-u-test.true c.u-item.is (sym c.in-Equal.ensures) refl)
+returns-in-Equal c = subst (λ n. Meets c.args.at.now c.args.v.now n true) (sym c.loop-u.invariant.count)
+    (meets c.args.at.now c.args.v.now c.loop-u.u-index c.u-item.result Equal c.loop-u.invariant.front c.loop-u-test.true c.u-item.is
+    (sym c.in-Equal.ensures) refl)
 
 pub returns-in-Less : goal.returns-in-Less
-returns-in-Less c = subst (λ n. Meets c.args.at.now c.args.v.now n false) (sym c.loop-u.invariant.count) (meets c.args.at.now c.args.v.now c.loop-u.u-index c.u-item.result Less c.loop-u.invariant.front c.loop-u-test.true c.u-item.is (sym c.in-Less.ensures) refl)
+returns-in-Less c = subst (λ n. Meets c.args.at.now c.args.v.now n false) (sym c.loop-u.invariant.count)
+    (meets c.args.at.now c.args.v.now c.loop-u.u-index c.u-item.result Less c.loop-u.invariant.front c.loop-u-test.true c.u-item.is
+    (sym c.in-Less.ensures) refl)
 
 pub loop-u-preserved : goal.loop-u-preserved
 loop-u-preserved c = record {
   count = ap (λ n. n + 1) c.loop-u.invariant.count;
-  front = above_more c.args.at.now c.args.v.now c.loop-u.u-index c.u-item.result c.loop-u.invariant.front c.loop-u-test.true c.u-item.is (sym c.in-Greater.ensures);
+  front = above_more c.args.at.now c.args.v.now c.loop-u.u-index c.u-item.result c.loop-u.invariant.front c.loop-u-test.true c.u-item.is
+      (sym c.in-Greater.ensures);
 }

@@ -10,7 +10,8 @@ use Rattle.module_vec.proofs.falling.negate.Goals as goal
 pub loop-t-preserved : goal.loop-t-preserved
 loop-t-preserved c =
     let old = still c.args.terms.now c.loop-t.terms c.loop-t.t-index c.t-item.result c.loop-t-test.true c.loop-t.invariant c.t-item.is in
-    let term : IsTerm (get_or c.args.terms.now c.loop-t.t-index c.t-item.result) = all_read IsTerm c.args.terms.now c.loop-t.t-index c.t-item.result c.loop-t-test.true c.requires in
+    let term : IsTerm (get_or c.args.terms.now c.loop-t.t-index c.t-item.result) =
+    all_read IsTerm c.args.terms.now c.loop-t.t-index c.t-item.result c.loop-t-test.true c.requires in
     let y : Term = get_or c.loop-t.terms c.loop-t.t-index c.t-item.result in
     let same : get_or c.args.terms.now c.loop-t.t-index c.t-item.result ≡ y = sym old ∙ c.t-item.is in
     let range : InRange y.k = subst (λ (t : Term). InRange t.k) same term.range in

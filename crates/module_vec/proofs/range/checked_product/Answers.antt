@@ -12,11 +12,16 @@ pub returns-then-unsigned_abs-le-NARROW-2 : goal.returns-then-unsigned_abs-le-NA
 returns-then-unsigned_abs-le-NARROW-2 c =
     let a : FitsSigned w128 c.args.a = search rules in
     let b : FitsSigned w128 c.args.b = search rules in
-    let first : unsigned_abs c.args.a ≤ NARROW = (let value = simp to_z-of_z at c.unsigned_abs.ensures.value in omega (arith, c.if-unsigned_abs-le-NARROW.true, value)) in
-    let second : unsigned_abs c.args.b ≤ NARROW = (let value = simp to_z-of_z at c.unsigned_abs-then-unsigned_abs-le-NARROW.ensures.value in omega (arith, c.if-unsigned_abs-le-NARROW-2.true, value)) in
-    let size : unsigned_abs c.args.a * unsigned_abs c.args.b ≤ NARROW * NARROW = mul-le (unsigned_abs c.args.a) (unsigned_abs c.args.b) NARROW NARROW first second in
+    let first : unsigned_abs c.args.a ≤ NARROW = (let value = simp to_z-of_z at c.unsigned_abs.ensures.value
+    in omega (arith, c.if-unsigned_abs-le-NARROW.true, value)) in
+    let second : unsigned_abs c.args.b ≤ NARROW = (let value = simp to_z-of_z at c.unsigned_abs-then-unsigned_abs-le-NARROW.ensures.value
+    in omega (arith, c.if-unsigned_abs-le-NARROW-2.true, value)) in
+    let size : unsigned_abs c.args.a * unsigned_abs c.args.b ≤ NARROW * NARROW =
+    mul-le (unsigned_abs c.args.a) (unsigned_abs c.args.b) NARROW NARROW first second in
     let within : NARROW * NARROW ≤ COEFFICIENT = omega arith in
     let range : InRange (c.args.a *ℤ c.args.b) = omega (arith, size, within, unsigned_abs-mul c.args.a c.args.b) in
     let fits : FitsSigned w128 (c.args.a *ℤ c.args.b) = fits_signed_mul w128 c.args.a c.args.b NARROW NARROW first second (omega arith) in
-    let product : to_z w128 (of_z w128 (to_z w128 (of_z w128 c.args.a) *ℤ to_z w128 (of_z w128 c.args.b))) ≡ c.args.a *ℤ c.args.b = ap (λ z. to_z w128 (of_z w128 (z *ℤ to_z w128 (of_z w128 c.args.b)))) (to_z-of_z w128 c.args.a a) ∙ ap (λ z. to_z w128 (of_z w128 (c.args.a *ℤ z))) (to_z-of_z w128 c.args.b b) ∙ to_z-of_z w128 (c.args.a *ℤ c.args.b) fits in
+    let product : to_z w128 (of_z w128 (to_z w128 (of_z w128 c.args.a) *ℤ to_z w128 (of_z w128 c.args.b))) ≡ c.args.a *ℤ c.args.b =
+    ap (λ z. to_z w128 (of_z w128 (z *ℤ to_z w128 (of_z w128 c.args.b)))) (to_z-of_z w128 c.args.a a)
+    ∙ ap (λ z. to_z w128 (of_z w128 (c.args.a *ℤ z))) (to_z-of_z w128 c.args.b b) ∙ to_z-of_z w128 (c.args.a *ℤ c.args.b) fits in
     (product, subst InRange (sym product) range)

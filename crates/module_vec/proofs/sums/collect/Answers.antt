@@ -12,8 +12,17 @@ returns-in_default-total c =
     let k : FitsSigned w128 c.in-Some.first.now.k = search rules in
     let wide = simp to_z-of_z at c.in_default-total.ensures in
     let whole : c.loop-first.rest.now ≡ c.in-Some.first.now ∷ c.in-Some.others.now = c.in-Some.ensures.cases.0 in
-    let run : Run c.args.sorted.now c.loop-first.made.items c.in-Some.first.now c.in-Some.others.now c.split_at.result.0.now c.split_at.result.1.now c.count_at.result = record { state = subst (Joining c.args.sorted.now c.loop-first.made.items) whole c.loop-first.invariant; many = c.count_at.ensures.is; front = c.split_at.ensures.front; back = c.split_at.ensures.back } in
-    (refl, fails c.args.sorted.now c.loop-first.made.items c.in-Some.first.now c.in-Some.others.now c.split_at.result.0.now c.split_at.result.1.now c.count_at.result run wide)
+    let run : Run c.args.sorted.now c.loop-first.made.items c.in-Some.first.now c.in-Some.others.now c.split_at.result.0.now c.split_at.result.1.now
+    c.count_at.result = record {
+      state = subst (Joining c.args.sorted.now c.loop-first.made.items) whole c.loop-first.invariant;
+      many = c.count_at.ensures.is;
+      front = c.split_at.ensures.front;
+      back = c.split_at.ensures.back;
+    } in (
+      refl,
+      fails c.args.sorted.now c.loop-first.made.items c.in-Some.first.now c.in-Some.others.now c.split_at.result.0.now c.split_at.result.1.now
+          c.count_at.result run wide,
+    )
 
 pub loop-first-preserved-in_ok-push : goal.loop-first-preserved-in_ok-push
 loop-first-preserved-in_ok-push c =
@@ -21,11 +30,19 @@ loop-first-preserved-in_ok-push c =
     let z : FitsSigned w128 c.in-Some-total.k = search rules in
     let found = simp to_z-of_z at c.in-Some-total.ensures in
     let whole : c.loop-first.rest.now ≡ c.in-Some.first.now ∷ c.in-Some.others.now = c.in-Some.ensures.cases.0 in
-    let run : Run c.args.sorted.now c.loop-first.made.items c.in-Some.first.now c.in-Some.others.now c.split_at.result.0.now c.split_at.result.1.now c.count_at.result = record { state = subst (Joining c.args.sorted.now c.loop-first.made.items) whole c.loop-first.invariant; many = c.count_at.ensures.is; front = c.split_at.ensures.front; back = c.split_at.ensures.back } in
+    let run : Run c.args.sorted.now c.loop-first.made.items c.in-Some.first.now c.in-Some.others.now c.split_at.result.0.now c.split_at.result.1.now
+    c.count_at.result = record {
+      state = subst (Joining c.args.sorted.now c.loop-first.made.items) whole c.loop-first.invariant;
+      many = c.count_at.ensures.is;
+      front = c.split_at.ensures.front;
+      back = c.split_at.ensures.back;
+    } in
     let nonzero : c.in-Some-total.k ≢ pos 0 = λ none. absurd (omega (arith, ints, none, c.if-k-ne0.true)) in
-    let term : IsTerm (record { at = c.in-Some.first.now.at; k = c.in-Some-total.k }) = record { place = c.degree.ensures.monomial; nonzero = nonzero; range = found.1 } in
+    let term : IsTerm (record { at = c.in-Some.first.now.at; k = c.in-Some-total.k }) =
+    record { place = c.degree.ensures.monomial; nonzero = nonzero; range = found.1 } in
     let push = simp to_z-of_z at c.in_ok-push.ensures.items in
-    keeps c.args.sorted.now c.loop-first.made.items c.in-Some.first.now c.in-Some.others.now c.split_at.result.0.now c.split_at.result.1.now c.count_at.result run c.in-Some-total.k found.0 term c.push.new.self.items push
+    keeps c.args.sorted.now c.loop-first.made.items c.in-Some.first.now c.in-Some.others.now c.split_at.result.0.now c.split_at.result.1.now c.count_at.result
+    run c.in-Some-total.k found.0 term c.push.new.self.items push
 
 pub loop-first-preserved : goal.loop-first-preserved
 loop-first-preserved c =
@@ -33,9 +50,16 @@ loop-first-preserved c =
     let z : FitsSigned w128 c.in-Some-total.k = search rules in
     let found = simp to_z-of_z at c.in-Some-total.ensures in
     let whole : c.loop-first.rest.now ≡ c.in-Some.first.now ∷ c.in-Some.others.now = c.in-Some.ensures.cases.0 in
-    let run : Run c.args.sorted.now c.loop-first.made.items c.in-Some.first.now c.in-Some.others.now c.split_at.result.0.now c.split_at.result.1.now c.count_at.result = record { state = subst (Joining c.args.sorted.now c.loop-first.made.items) whole c.loop-first.invariant; many = c.count_at.ensures.is; front = c.split_at.ensures.front; back = c.split_at.ensures.back } in
+    let run : Run c.args.sorted.now c.loop-first.made.items c.in-Some.first.now c.in-Some.others.now c.split_at.result.0.now c.split_at.result.1.now
+    c.count_at.result = record {
+      state = subst (Joining c.args.sorted.now c.loop-first.made.items) whole c.loop-first.invariant;
+      many = c.count_at.ensures.is;
+      front = c.split_at.ensures.front;
+      back = c.split_at.ensures.back;
+    } in
     let none : c.in-Some-total.k ≡ pos 0 = omega (arith, ints, c.if-k-ne0.false) in
-    drops c.args.sorted.now c.loop-first.made.items c.in-Some.first.now c.in-Some.others.now c.split_at.result.0.now c.split_at.result.1.now c.count_at.result run (sym found.0 ∙ none)
+    drops c.args.sorted.now c.loop-first.made.items c.in-Some.first.now c.in-Some.others.now c.split_at.result.0.now c.split_at.result.1.now c.count_at.result
+    run (sym found.0 ∙ none)
 
 pub returns : goal.returns
 returns c =

@@ -14,13 +14,18 @@ weak : IsStrictWeakOrder goes_before
 weak = IsStrictWeakOrder-flip _ (ranks_by place_total (λ (t : Term). t.at))
 
 pub collect-requires-clause-sorted : goal.collect-requires-clause-sorted
-collect-requires-clause-sorted c = subst Descends (sym c.as_slice.ensures.value) (sorted_descends c.sort_by.new.self.items (c.in_ok-sort_by.ensures.sorted goes_before weak (answers_always _ _ _ (λ f a r f' k. search rules))))
+collect-requires-clause-sorted c = subst Descends (sym c.as_slice.ensures.value)
+    (sorted_descends c.sort_by.new.self.items (c.in_ok-sort_by.ensures.sorted goes_before weak (answers_always _ _ _ (λ f a r f' k. search rules))))
 
 pub returns : goal.returns
 returns c =
     let kept = sort_keeps c.in_ok-sorted.sorted.items c.sort_by.new.self.items c.in_ok-sort_by.ensures.permutation in
     let items = c.in_ok-sorted.ensures.items in
-    let same : coefficient_at c.as_slice.result.now ≡ coefficient_at c.args.list.now = ap coefficient_at c.as_slice.ensures.value ∙ (λ i x. sym (kept x) i) ∙ ap coefficient_at items in
-    let long : length c.as_slice.result.now ≡ length c.args.list.now = ap length c.as_slice.ensures.value ∙ length_permutation c.in_ok-sorted.sorted.items c.sort_by.new.self.items c.in_ok-sort_by.ensures.permutation ∙ ap length items in
-    subst (λ (n : ℕ). MatchResult c.collect.result (λ made. IsFound (SumIsWide (coefficient_at c.args.list.now)) (coefficient_at c.args.list.now) made.items × length made.items ≤ n) (FailsBy (SumIsWide (coefficient_at c.args.list.now)))) long
-    (subst (λ (f : Coefficients). MatchResult c.collect.result (λ made. IsFound (SumIsWide f) f made.items × length made.items ≤ length c.as_slice.result.now) (FailsBy (SumIsWide f))) same c.collect.ensures)
+    let same : coefficient_at c.as_slice.result.now ≡ coefficient_at c.args.list.now = ap coefficient_at c.as_slice.ensures.value ∙ (λ i x. sym (kept x) i)
+    ∙ ap coefficient_at items in
+    let long : length c.as_slice.result.now ≡ length c.args.list.now = ap length c.as_slice.ensures.value
+    ∙ length_permutation c.in_ok-sorted.sorted.items c.sort_by.new.self.items c.in_ok-sort_by.ensures.permutation ∙ ap length items in
+    subst (λ (n : ℕ). MatchResult c.collect.result (λ made. IsFound (SumIsWide (coefficient_at c.args.list.now)) (coefficient_at c.args.list.now) made.items
+    × length made.items ≤ n) (FailsBy (SumIsWide (coefficient_at c.args.list.now)))) long
+    (subst (λ (f : Coefficients). MatchResult c.collect.result (λ made. IsFound (SumIsWide f) f made.items
+    × length made.items ≤ length c.as_slice.result.now) (FailsBy (SumIsWide f))) same c.collect.ensures)

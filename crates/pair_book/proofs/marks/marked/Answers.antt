@@ -9,7 +9,8 @@ use Rattle.pair_book.proofs.marks.marked.Goals.{then-marks-number+in_ok-try_clon
 use Rattle.pair_book.proofs.marks.marked.Goals as goal
 
 pub loop-number-init : goal.loop-number-init
-loop-number-init g c = subst (λ (us : List Used). AreMarkedBelow (g.F.Front.entries c.args.list.now) c.args.marks.now 0 (map used_entry us)) (sym c.new-used.ensures.items) (none_marked (g.F.Front.entries c.args.list.now) c.args.marks.now)
+loop-number-init g c = subst (λ (us : List Used). AreMarkedBelow (g.F.Front.entries c.args.list.now) c.args.marks.now 0 (map used_entry us))
+    (sym c.new-used.ensures.items) (none_marked (g.F.Front.entries c.args.list.now) c.args.marks.now)
 
 pub loop-number-preserved : goal.loop-number-preserved
 loop-number-preserved g c = elim c.if-marks-number.branch [
@@ -22,11 +23,14 @@ loop-number-preserved g c = elim c.if-marks-number.branch [
       ∙ ap (map used_entry) w.in_ok-push.ensures.items
       ∙ map-append used_entry old (record { number = n; entry = w.in_ok-try_clone.field-0 } ∷ [])
       ∙ ap (λ (z : BasisEntry). map used_entry old ++ next n z ∷ []) w.in_ok-try_clone.ensures in
-      subst (λ (us : List UsedEntry). AreMarkedBelow es c.args.marks.now (n + 1) us) (sym pushed) (collected es c.args.marks.now n (map used_entry old) c.loop-number.invariant (arc_value w.entry.result.now) w.entry.ensures (marked_at c.args.marks.now n w.if-marks-number.true))
+      subst (λ (us : List UsedEntry). AreMarkedBelow es c.args.marks.now (n + 1) us) (sym pushed)
+      (collected es c.args.marks.now n (map used_entry old) c.loop-number.invariant (arc_value w.entry.result.now) w.entry.ensures
+      (marked_at c.args.marks.now n w.if-marks-number.true))
   | else-marks-number w ↦
       let es : List BasisEntry = g.F.Front.entries c.args.list.now in
       let n = c.loop-number.number in
-      subst (λ (us : List UsedEntry). AreMarkedBelow es c.args.marks.now (n + 1) us) (λ i. map used_entry (sym w.used-is i).items) (skipped es c.args.marks.now n (map used_entry c.loop-number.used.items) c.loop-number.invariant (unset c.args.marks.now n w.if-marks-number.false))
+      subst (λ (us : List UsedEntry). AreMarkedBelow es c.args.marks.now (n + 1) us) (λ i. map used_entry (sym w.used-is i).items)
+      (skipped es c.args.marks.now n (map used_entry c.loop-number.used.items) c.loop-number.invariant (unset c.args.marks.now n w.if-marks-number.false))
 ]
 
 pub returns : goal.returns
@@ -34,4 +38,5 @@ returns g c =
     let es : List BasisEntry = g.F.Front.entries c.args.list.now in
     let law : length (g.F.VecList.vectors c.args.list.now) ≡ length (vectors_of es) = ap length (g.met.F.Front.vectors_are c.args.list.now) in
     let long : length (vectors_of es) ≡ length es = length-map es (λ (e : BasisEntry). e.vector) in
-    all_marked es c.args.marks.now c.loop-number.number (map used_entry c.loop-number.used.items) (omega (arith, c.requires, c.count-count.ensures.is, law, long, c.loop-number-test.false)) c.loop-number.invariant
+    all_marked es c.args.marks.now c.loop-number.number (map used_entry c.loop-number.used.items)
+    (omega (arith, c.requires, c.count-count.ensures.is, law, long, c.loop-number-test.false)) c.loop-number.invariant

@@ -9,6 +9,8 @@ use Rattle.pair_book.proofs.marks.used.Goals as goal
 pub returns : goal.returns
 returns g c =
     IfOk-weaker c.marked.result _ _
-    (λ made h. used_by_marks (g.F.Front.entries c.args.list.now) c.args.numbers.now c.args.steps.now c.in_ok-marks.marks.items c.mark_numbers.new.marks.items c.mark_steps.new.marks.items (map used_entry made.items)
-    c.in_ok-marks.ensures.none c.mark_numbers.ensures.set c.mark_numbers.ensures.only c.mark_steps.ensures.set c.mark_steps.ensures.kept c.mark_steps.ensures.only
+    (λ made h. used_by_marks (g.F.Front.entries c.args.list.now) c.args.numbers.now c.args.steps.now c.in_ok-marks.marks.items c.mark_numbers.new.marks.items
+    c.mark_steps.new.marks.items (map used_entry made.items)
+    c.in_ok-marks.ensures.none c.mark_numbers.ensures.set c.mark_numbers.ensures.only c.mark_steps.ensures.set c.mark_steps.ensures.kept
+    c.mark_steps.ensures.only
     (subst (λ (ms : List Bool). AreMarked (g.F.Front.entries c.args.list.now) ms (map used_entry made.items)) c.deref.ensures.value h)) c.marked.ensures

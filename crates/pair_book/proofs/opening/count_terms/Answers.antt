@@ -16,7 +16,8 @@ loop-entry-preserved c =
     let lt : i < length es = omega arith in
     let g : map arc_value (take (i + 1) es) ≡ xs ++ e ∷ [] = map_take_more arc_value es i c.entry-item.result lt c.entry-item.is in
     let s = sum_by_push (λ (z : BasisEntry). length z.vector) xs e in
-    let long : length c.terms.result.now ≡ length e.vector = ap length (c.terms.ensures.is ∙ (c.vector.ensures.is ∙ ap (λ (z : BasisEntry). z.vector) c.deref.ensures)) in
+    let long : length c.terms.result.now ≡ length e.vector = ap length (c.terms.ensures.is
+    ∙ (c.vector.ensures.is ∙ ap (λ (z : BasisEntry). z.vector) c.deref.ensures)) in
     let q = ap terms_of g in
     record {
       terms_is = omega (arith, s, long, q, inv.terms_is);

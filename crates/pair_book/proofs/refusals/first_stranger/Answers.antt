@@ -10,7 +10,8 @@ returns-then-not-is_there c =
     let used = c.args.used.now in
     let lt : i < length used = omega arith in
     let found = get_mapped used_entry used i c.one-item.result lt c.one-item.is in
-    let differs : IsThere c.args.log.now.entries (used_entry c.one-item.result) → ⊥ = λ t. let r = c.is_there.ensures.1 t in let f = c.if-not-is_there.true in cc in
+    let differs : IsThere c.args.log.now.entries (used_entry c.one-item.result) → ⊥ = λ t. let r = c.is_there.ensures.1 t
+    in let f = c.if-not-is_there.true in cc in
     stranger_at c.args.log.now.entries (map used_entry used) i (used_entry c.one-item.result) c.requires found differs c.loop-one.invariant
 
 pub loop-one-preserved : goal.loop-one-preserved
@@ -19,7 +20,8 @@ loop-one-preserved c =
     let used = c.args.used.now in
     let lt : i < length used = omega arith in
     let found = get_mapped used_entry used i c.one-item.result lt c.one-item.is in
-    there_more c.args.log.now.entries (map used_entry used) i (used_entry c.one-item.result) found (c.is_there.ensures.0 c.if-not-is_there.false) c.loop-one.invariant
+    there_more c.args.log.now.entries (map used_entry used) i (used_entry c.one-item.result) found (c.is_there.ensures.0 c.if-not-is_there.false)
+    c.loop-one.invariant
 
 pub returns : goal.returns
 returns c =

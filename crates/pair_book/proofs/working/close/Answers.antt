@@ -18,11 +18,13 @@ of-requires g c =
     let t : Task = c.args.task in
     let d = c.args.done in
     let used : List UsedEntry = map used_entry c.in_ok-used.used.items in
-    let are : AreUsed es (t.i ∷ (t.j ∷ [])) d.steps.items used = subst (λ (ss : List Step). AreUsed es (t.i ∷ (t.j ∷ [])) ss used) c.deref.ensures.value c.in_ok-used.ensures in
+    let are : AreUsed es (t.i ∷ (t.j ∷ [])) d.steps.items used = subst (λ (ss : List Step). AreUsed es (t.i ∷ (t.j ∷ [])) ss used) c.deref.ensures.value
+    c.in_ok-used.ensures in
     let none : d.rest ≡ [] = empty_of c.terms.result.now d.rest c.terms.ensures.is c.if-is_empty.ensures in
     outcome es t d.steps.items used c.count.result (Zero c.of-steps.result) are c.requires.pair
     (λ fs others. subst (λ (ss : List Step). (t.kind ≡ S) × Zeroes (vectors_of fs) t.i t.j ss) (sym c.of-steps.ensures)
-    (zero_there es t used are.there (are.numbered 0 t.i refl) (are.numbered 1 t.j refl) c.requires.pair fs others c.front.ensures.entries c.requires.uncovered d.first d.second d.steps.items d.rest c.requires.done are.stepped none))
+    (zero_there es t used are.there (are.numbered 0 t.i refl) (are.numbered 1 t.j refl) c.requires.pair fs others c.front.ensures.entries c.requires.uncovered
+    d.first d.second d.steps.items d.rest c.requires.done are.stepped none))
 
 pub returns-then-is_empty : goal.returns-then-is_empty
 returns-then-is_empty g c =
@@ -44,10 +46,13 @@ of-requires-2 g c =
     let t : Task = c.args.task in
     let d = c.args.done in
     let used : List UsedEntry = map used_entry c.in_ok-used.used.items in
-    let are : AreUsed es (t.i ∷ (t.j ∷ [])) d.steps.items used = subst (λ (ss : List Step). AreUsed es (t.i ∷ (t.j ∷ [])) ss used) c.deref.ensures.value c.in_ok-used.ensures in
+    let are : AreUsed es (t.i ∷ (t.j ∷ [])) d.steps.items used = subst (λ (ss : List Step). AreUsed es (t.i ∷ (t.j ∷ [])) ss used) c.deref.ensures.value
+    c.in_ok-used.ensures in
     let some : d.rest ≢ [] = some_of c.terms.result.now d.rest c.terms.ensures.is c.if-is_empty.ensures in
     outcome es t d.steps.items used c.count-2.result (Rest c.in_ok-entry.entry) are c.requires.pair
-    (λ fs others. rest_there es t used are.there (are.numbered 0 t.i refl) (are.numbered 1 t.j refl) c.requires.pair fs others c.front.ensures.entries c.requires.uncovered d.first d.second d.steps.items d.rest c.requires.done are.stepped some (arc_value c.args.p.now) (arc_value c.in_ok-entry.entry) c.in_ok-entry.ensures)
+    (λ fs others. rest_there es t used are.there (are.numbered 0 t.i refl) (are.numbered 1 t.j refl) c.requires.pair fs others c.front.ensures.entries
+    c.requires.uncovered d.first d.second d.steps.items d.rest c.requires.done are.stepped some (arc_value c.args.p.now) (arc_value c.in_ok-entry.entry)
+    c.in_ok-entry.ensures)
 
 pub returns : goal.returns
 returns g c =
@@ -70,4 +75,6 @@ returns g c =
       entry = c.in_ok-entry.ensures;
     })
     (used_for es t (t.i ∷ (t.j ∷ [])) c.deref.result.now used (Rest c.in_ok-entry.entry) are
-    (named_twice t _ _ _ (ap (λ (ss : List Step). t.i ∷ (t.j ∷ numbers_of ss)) c.deref.ensures.value) (rest_numbers (arc_value c.args.p.now) (vectors_of es) t d.first d.second d.steps.items d.rest (arc_value c.in_ok-entry.entry) c.requires.done.pair_steps c.in_ok-entry.ensures)))
+    (named_twice t _ _ _ (ap (λ (ss : List Step). t.i ∷ (t.j ∷ numbers_of ss)) c.deref.ensures.value)
+    (rest_numbers (arc_value c.args.p.now) (vectors_of es) t d.first d.second d.steps.items d.rest (arc_value c.in_ok-entry.entry) c.requires.done.pair_steps
+    c.in_ok-entry.ensures)))

@@ -21,7 +21,11 @@ of-requires g c =
     record {
       rising = are.rising;
       pair = λ fs others. pair_there es t used are.there one two c.requires.pair fs others;
-      close = λ fs others. (c.requires.covers.0, covered_there es t used are.there one two c.requires.pair fs others c.args.by (are.numbered 2 c.args.by refl) c.requires.covers.1.1);
+      close = λ fs others. (
+        c.requires.covers.0,
+        covered_there es t used are.there one two c.requires.pair fs others c.args.by (are.numbered 2 c.args.by refl)
+            c.requires.covers.1.1,
+      );
     }
 
 pub returns : goal.returns
@@ -32,4 +36,5 @@ returns g c =
     let are : AreUsed es (t.i ∷ (t.j ∷ (c.args.by ∷ []))) [] used = c.in_ok-used.ensures in
     works (arc_value c.args.p.now) es t used c.count.result (Covered c.args.by) c.of.result c.of.ensures
     (counted c.count.result (g.F.VecList.vectors c.args.list.now) es c.count.ensures.is (g.met.F.Front.vectors_are c.args.list.now)) are.there c.requires.covers
-    (used_for es t (t.i ∷ (t.j ∷ (c.args.by ∷ []))) [] used (Covered c.args.by) are (same_numbers (t.i ∷ (t.j ∷ (c.args.by ∷ []))) (t.i ∷ (t.j ∷ (c.args.by ∷ []))) refl))
+    (used_for es t (t.i ∷ (t.j ∷ (c.args.by ∷ []))) [] used (Covered c.args.by) are
+    (same_numbers (t.i ∷ (t.j ∷ (c.args.by ∷ []))) (t.i ∷ (t.j ∷ (c.args.by ∷ []))) refl))

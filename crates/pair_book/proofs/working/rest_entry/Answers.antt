@@ -21,31 +21,41 @@ recipe-requires-clause-steps g c =
     let es : List BasisEntry = g.F.Front.entries c.args.list.now in
     let d = c.args.done in
     subst (λ (ss : List Step). AllByRecursion (λ s. InRange s.q) ss) (sym c.deref.ensures.value)
-    (ranges (vectors_of es) d.steps.items (all_sound (vectors_of es) (are_entries es c.front.ensures.entries) c.args.task c.requires.pair c.requires.uncovered d.first d.second d.steps.items d.rest c.requires.done))
+    (ranges (vectors_of es) d.steps.items (all_sound (vectors_of es) (are_entries es c.front.ensures.entries) c.args.task c.requires.pair c.requires.uncovered
+    d.first d.second d.steps.items d.rest c.requires.done))
 
 pub sum-requires-clause-steps : goal.sum-requires-clause-steps
 sum-requires-clause-steps g c =
     let es : List BasisEntry = g.F.Front.entries c.args.list.now in
     let d = c.args.done in
     let steps : List Step = c.of.result in
-    let is : steps ≡ signed c.has_negative_lead-negated.result (recipe_of d.first d.second d.steps.items) = c.of.ensures ∙ c.in_ok-recipe.ensures ∙ ap (λ (ss : List Step). signed c.has_negative_lead-negated.result (recipe_of d.first d.second ss)) c.deref.ensures.value in
+    let is : steps ≡ signed c.has_negative_lead-negated.result (recipe_of d.first d.second d.steps.items) =
+    c.of.ensures ∙ c.in_ok-recipe.ensures ∙ ap (λ (ss : List Step). signed c.has_negative_lead-negated.result (recipe_of d.first d.second ss))
+    c.deref.ensures.value in
     subst (λ (vs : List (List Term)). AreSteps vs steps) (sym (g.met.F.Front.vectors_are c.args.list.now))
-    (subst (AreSteps (vectors_of es)) (sym is) (signed_are (vectors_of es) (are_entries es c.front.ensures.entries) c.args.task c.requires.pair c.requires.uncovered d.first d.second d.steps.items d.rest c.requires.done c.has_negative_lead-negated.result))
+    (subst (AreSteps (vectors_of es)) (sym is) (signed_are (vectors_of es) (are_entries es c.front.ensures.entries) c.args.task c.requires.pair
+    c.requires.uncovered d.first d.second d.steps.items d.rest c.requires.done c.has_negative_lead-negated.result))
 
 pub sum-requires-clause-value : goal.sum-requires-clause-value
 sum-requires-clause-value g c =
     let es : List BasisEntry = g.F.Front.entries c.args.list.now in
     let d = c.args.done in
     let steps : List Step = c.of.result in
-    let is : steps ≡ signed c.has_negative_lead-negated.result (recipe_of d.first d.second d.steps.items) = c.of.ensures ∙ c.in_ok-recipe.ensures ∙ ap (λ (ss : List Step). signed c.has_negative_lead-negated.result (recipe_of d.first d.second ss)) c.deref.ensures.value in
+    let is : steps ≡ signed c.has_negative_lead-negated.result (recipe_of d.first d.second d.steps.items) =
+    c.of.ensures ∙ c.in_ok-recipe.ensures ∙ ap (λ (ss : List Step). signed c.has_negative_lead-negated.result (recipe_of d.first d.second ss))
+    c.deref.ensures.value in
     subst (λ (vs : List (List Term)). Has c.turned_if-vector.result (steps_at vs steps)) (sym (g.met.F.Front.vectors_are c.args.list.now))
-    (subst (λ (ss : List Step). Has c.turned_if-vector.result (steps_at (vectors_of es) ss)) (sym is) (signed_has (vectors_of es) (are_entries es c.front.ensures.entries) c.args.task c.requires.pair c.requires.uncovered d.first d.second d.steps.items d.rest c.requires.done c.has_negative_lead-negated.result c.turned_if-vector.result c.turned_if-vector.ensures))
+    (subst (λ (ss : List Step). Has c.turned_if-vector.result (steps_at (vectors_of es) ss)) (sym is)
+    (signed_has (vectors_of es) (are_entries es c.front.ensures.entries) c.args.task c.requires.pair c.requires.uncovered d.first d.second d.steps.items
+    d.rest c.requires.done c.has_negative_lead-negated.result c.turned_if-vector.result c.turned_if-vector.ensures))
 
 pub sum-requires-clause-entry : goal.sum-requires-clause-entry
 sum-requires-clause-entry g c =
     let es : List BasisEntry = g.F.Front.entries c.args.list.now in
     let d = c.args.done in
-    signed_entry (vectors_of es) (are_entries es c.front.ensures.entries) c.args.task c.requires.pair c.requires.uncovered d.first d.second d.steps.items d.rest c.requires.done c.has_negative_lead-negated.result c.turned_if-vector.result c.requires.some (sym c.has_negative_lead-negated.ensures) c.turned_if-vector.ensures
+    signed_entry (vectors_of es) (are_entries es c.front.ensures.entries) c.args.task c.requires.pair c.requires.uncovered d.first d.second d.steps.items d.rest
+    c.requires.done c.has_negative_lead-negated.result c.turned_if-vector.result c.requires.some (sym c.has_negative_lead-negated.ensures)
+    c.turned_if-vector.ensures
 
 pub sum-requires-clause-over : goal.sum-requires-clause-over
 sum-requires-clause-over g c =
@@ -53,6 +63,9 @@ sum-requires-clause-over g c =
     let n : ℕ = length (arc_value c.args.p.now).names in
     let d = c.args.done in
     let steps : List Step = c.of.result in
-    let is : steps ≡ signed c.has_negative_lead-negated.result (recipe_of d.first d.second d.steps.items) = c.of.ensures ∙ c.in_ok-recipe.ensures ∙ ap (λ (ss : List Step). signed c.has_negative_lead-negated.result (recipe_of d.first d.second ss)) c.deref.ensures.value in
+    let is : steps ≡ signed c.has_negative_lead-negated.result (recipe_of d.first d.second d.steps.items) =
+    c.of.ensures ∙ c.in_ok-recipe.ensures ∙ ap (λ (ss : List Step). signed c.has_negative_lead-negated.result (recipe_of d.first d.second ss))
+    c.deref.ensures.value in
     subst (MonosAreOver n) (sym is)
-    (signed_over n (vectors_of es) (are_entries es c.front.ensures.entries) (entries_over (arc_value c.args.p.now) es c.front.ensures.entries c.requires.entries) c.args.task d.first d.second d.steps.items d.rest c.requires.done c.has_negative_lead-negated.result)
+    (signed_over n (vectors_of es) (are_entries es c.front.ensures.entries) (entries_over (arc_value c.args.p.now) es c.front.ensures.entries
+    c.requires.entries) c.args.task d.first d.second d.steps.items d.rest c.requires.done c.has_negative_lead-negated.result)

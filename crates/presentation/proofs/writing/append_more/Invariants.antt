@@ -5,7 +5,8 @@ use Rattle.presentation.proofs.writing.append_more.Given as goal
 
 abbrev pub invariant-loop-run : goal.invariant-loop-run
 invariant-loop-run l = record {
-  text : Left (written_run l.p.names) (codes " ") l.out.items (runs l.rest) (l.fn.out.items ++ led_by (codes " ") (map (written_run l.p.names) (runs l.letters)));
+  text : Left (written_run l.p.names) (codes " ") l.out.items (runs l.rest) (l.fn.out.items
+      ++ led_by (codes " ") (map (written_run l.p.names) (runs l.letters)));
   over : AreOver (length l.p.names) (runs l.rest);
 }
 

@@ -12,7 +12,8 @@ pub returns-then-q-eq0 : goal.returns-then-q-eq0
 returns-then-q-eq0 g c =
     let b : List (List Term) = take c.args.front (g.L.VecList.vectors c.args.list.now) in
     let r = c.in_ok-by.ensures in
-    let lead : r.0 ≡ c.index-terms-0.result = read_lead (g.L.VecList.vectors c.args.list.now) c.args.front c.in_ok-by.by c.vector.result.now c.terms.result.now r.0 r.1 c.index-terms-0.result r.2.entry c.vector.ensures.is c.terms.ensures.is c.index-terms-0.is in
+    let lead : r.0 ≡ c.index-terms-0.result = read_lead (g.L.VecList.vectors c.args.list.now) c.args.front c.in_ok-by.by c.vector.result.now c.terms.result.now
+    r.0 r.1 c.index-terms-0.result r.2.entry c.vector.ensures.is c.terms.ensures.is c.index-terms-0.is in
     let k : FitsSigned w128 c.args.top.now.k = search rules in
     let l : FitsSigned w128 c.index-terms-0.result.k = search rules in
     let floor = simp to_z-of_z at c.div_euclid-q.ensures in
@@ -22,13 +23,15 @@ returns-then-q-eq0 g c =
 pub quotient-requires : goal.quotient-requires
 quotient-requires g c =
     let r = c.in_ok-by.ensures in
-    let lead : r.0 ≡ c.index-terms-0.result = read_lead (g.L.VecList.vectors c.args.list.now) c.args.front c.in_ok-by.by c.vector.result.now c.terms.result.now r.0 r.1 c.index-terms-0.result r.2.entry c.vector.ensures.is c.terms.ensures.is c.index-terms-0.is in
+    let lead : r.0 ≡ c.index-terms-0.result = read_lead (g.L.VecList.vectors c.args.list.now) c.args.front c.in_ok-by.by c.vector.result.now c.terms.result.now
+    r.0 r.1 c.index-terms-0.result r.2.entry c.vector.ensures.is c.terms.ensures.is c.index-terms-0.is in
     subst (λ (t : Term). divides t.at.m c.args.top.now.at.m ≡ true) lead r.2.reduces.1
 
 pub returns : goal.returns
 returns g c =
     let r = c.in_ok-by.ensures in
-    let lead : r.0 ≡ c.index-terms-0.result = read_lead (g.L.VecList.vectors c.args.list.now) c.args.front c.in_ok-by.by c.vector.result.now c.terms.result.now r.0 r.1 c.index-terms-0.result r.2.entry c.vector.ensures.is c.terms.ensures.is c.index-terms-0.is in
+    let lead : r.0 ≡ c.index-terms-0.result = read_lead (g.L.VecList.vectors c.args.list.now) c.args.front c.in_ok-by.by c.vector.result.now c.terms.result.now
+    r.0 r.1 c.index-terms-0.result r.2.entry c.vector.ensures.is c.terms.ensures.is c.index-terms-0.is in
     let k : FitsSigned w128 c.args.top.now.k = search rules in
     let l : FitsSigned w128 c.index-terms-0.result.k = search rules in
     let q : FitsSigned w128 c.div_euclid-q.result = search rules in

@@ -10,41 +10,55 @@ use Rattle.reduce_cofactor.proofs.merging.merge.Goals as goal
 
 pub loop-top-preserved-in_default-due : goal.loop-top-preserved-in_default-due
 loop-top-preserved-in_default-due g c =
-    passes_one (take c.args.front (g.L.VecList.vectors c.args.list.now)) (coefficient_at c.args.v.now) c.loop-top.merged.steps.items (row_of c.args.v.now c.loop-top.merged.vector) c.loop-top.merged.passed c.in-Some.top (sym c.in-Some.ensures) c.loop-top.invariant c.in_default-due.ensures
+    passes_one (take c.args.front (g.L.VecList.vectors c.args.list.now)) (coefficient_at c.args.v.now) c.loop-top.merged.steps.items
+    (row_of c.args.v.now c.loop-top.merged.vector) c.loop-top.merged.passed c.in-Some.top (sym c.in-Some.ensures) c.loop-top.invariant
+    c.in_default-due.ensures
 
 pub vector-entry-requires : goal.vector-entry-requires
-vector-entry-requires g c = let due = c.in-Some-due.ensures in in_list (g.L.VecList.vectors c.args.list.now) c.args.front c.in-Some-due.step.by due.lead due.others due.reducer.entry
+vector-entry-requires g c = let due = c.in-Some-due.ensures
+    in in_list (g.L.VecList.vectors c.args.list.now) c.args.front c.in-Some-due.step.by due.lead due.others due.reducer.entry
 
 pub make-requires-clause-range : goal.make-requires-clause-range
 make-requires-clause-range g c =
-    let own = first_term (take c.args.front (g.L.VecList.vectors c.args.list.now)) (coefficient_at c.args.v.now) c.loop-top.merged.steps.items (row_of c.args.v.now c.loop-top.merged.vector) c.loop-top.merged.passed c.in-Some.top (sym c.in-Some.ensures) c.loop-top.invariant in
+    let own = first_term (take c.args.front (g.L.VecList.vectors c.args.list.now)) (coefficient_at c.args.v.now) c.loop-top.merged.steps.items
+    (row_of c.args.v.now c.loop-top.merged.vector) c.loop-top.merged.passed c.in-Some.top (sym c.in-Some.ensures) c.loop-top.invariant in
     factor_in_range (g.L.VecList.vectors c.args.list.now) c.args.front c.in-Some.top c.in-Some-due.step c.count.ensures.entries own.range c.in-Some-due.ensures
 
 pub make-requires-clause-room : goal.make-requires-clause-room
 make-requires-clause-room g c =
-    let own = first_term (take c.args.front (g.L.VecList.vectors c.args.list.now)) (coefficient_at c.args.v.now) c.loop-top.merged.steps.items (row_of c.args.v.now c.loop-top.merged.vector) c.loop-top.merged.passed c.in-Some.top (sym c.in-Some.ensures) c.loop-top.invariant in
-    room_at (g.L.VecList.vectors c.args.list.now) c.args.front c.in-Some.top c.in-Some-due.step c.vector-entry.result.now c.count.ensures.entries own.place c.in-Some-due.ensures c.vector-entry.ensures.is
+    let own = first_term (take c.args.front (g.L.VecList.vectors c.args.list.now)) (coefficient_at c.args.v.now) c.loop-top.merged.steps.items
+    (row_of c.args.v.now c.loop-top.merged.vector) c.loop-top.merged.passed c.in-Some.top (sym c.in-Some.ensures) c.loop-top.invariant in
+    room_at (g.L.VecList.vectors c.args.list.now) c.args.front c.in-Some.top c.in-Some-due.step c.vector-entry.result.now c.count.ensures.entries own.place
+    c.in-Some-due.ensures c.vector-entry.ensures.is
 
 pub loop-top-smaller : goal.loop-top-smaller
 loop-top-smaller g c =
     let due = c.in-Some-due.ensures in
-    let next = c.in_ok-make.ensures.is (take c.args.front (g.L.VecList.vectors c.args.list.now)) (coefficient_at c.args.v.now) c.in-Some.top (sym c.in-Some.ensures) due
-    (entry_before (g.L.VecList.vectors c.args.list.now) c.args.front c.in-Some-due.step.by c.vector-entry.result.now due.lead due.others due.reducer.entry c.vector-entry.ensures.is) c.loop-top.invariant in
+    let next = c.in_ok-make.ensures.is (take c.args.front (g.L.VecList.vectors c.args.list.now)) (coefficient_at c.args.v.now) c.in-Some.top
+    (sym c.in-Some.ensures) due
+    (entry_before (g.L.VecList.vectors c.args.list.now) c.args.front c.in-Some-due.step.by c.vector-entry.result.now due.lead due.others due.reducer.entry
+    c.vector-entry.ensures.is) c.loop-top.invariant in
     let row : List Term = row_of c.args.v.now c.make.new.self.vector in
-    let whole : length (take c.make.new.self.passed row) + length (drop c.make.new.self.passed row) ≡ length row = length_parts row (take c.make.new.self.passed row) (drop c.make.new.self.passed row) c.make.new.self.passed refl refl in
-    fewer_left (length c.loop-top.merged.steps.items) (length c.make.new.self.steps.items) (length (row_of c.args.v.now c.loop-top.merged.vector) - c.loop-top.merged.passed) (length row - c.make.new.self.passed)
-    (ap length c.in_ok-make.ensures.step.0 ∙ length-append c.loop-top.merged.steps.items (c.in-Some-due.step ∷ [])) next.1.most (omega (arith, next.1.short, whole))
+    let whole : length (take c.make.new.self.passed row) + length (drop c.make.new.self.passed row) ≡ length row =
+    length_parts row (take c.make.new.self.passed row) (drop c.make.new.self.passed row) c.make.new.self.passed refl refl in
+    fewer_left (length c.loop-top.merged.steps.items) (length c.make.new.self.steps.items)
+    (length (row_of c.args.v.now c.loop-top.merged.vector) - c.loop-top.merged.passed) (length row - c.make.new.self.passed)
+    (ap length c.in_ok-make.ensures.step.0 ∙ length-append c.loop-top.merged.steps.items (c.in-Some-due.step ∷ [])) next.1.most
+    (omega (arith, next.1.short, whole))
 
 pub loop-top-preserved : goal.loop-top-preserved
 loop-top-preserved g c =
     let due = c.in-Some-due.ensures in
     c.in_ok-make.ensures.is (take c.args.front (g.L.VecList.vectors c.args.list.now)) (coefficient_at c.args.v.now) c.in-Some.top (sym c.in-Some.ensures) due
-    (entry_before (g.L.VecList.vectors c.args.list.now) c.args.front c.in-Some-due.step.by c.vector-entry.result.now due.lead due.others due.reducer.entry c.vector-entry.ensures.is) c.loop-top.invariant
+    (entry_before (g.L.VecList.vectors c.args.list.now) c.args.front c.in-Some-due.step.by c.vector-entry.result.now due.lead due.others due.reducer.entry
+    c.vector-entry.ensures.is) c.loop-top.invariant
 
 pub returns-in_err-make : goal.returns-in_err-make
 returns-in_err-make g c =
     let due = c.in-Some-due.ensures in
-    err_matches _ c.from_residual.result _ (Fails (take c.args.front (g.L.VecList.vectors c.args.list.now)) (coefficient_at c.args.v.now)) c.from_residual.ensures.1
+    err_matches _ c.from_residual.result _ (Fails (take c.args.front (g.L.VecList.vectors c.args.list.now)) (coefficient_at c.args.v.now))
+    c.from_residual.ensures.1
     (λ e same. subst (Fails (take c.args.front (g.L.VecList.vectors c.args.list.now)) (coefficient_at c.args.v.now)) (sym same)
     (c.in_err-make.ensures.is (take c.args.front (g.L.VecList.vectors c.args.list.now)) (coefficient_at c.args.v.now) c.in-Some.top (sym c.in-Some.ensures) due
-    (entry_before (g.L.VecList.vectors c.args.list.now) c.args.front c.in-Some-due.step.by c.vector-entry.result.now due.lead due.others due.reducer.entry c.vector-entry.ensures.is) c.loop-top.invariant))
+    (entry_before (g.L.VecList.vectors c.args.list.now) c.args.front c.in-Some-due.step.by c.vector-entry.result.now due.lead due.others due.reducer.entry
+    c.vector-entry.ensures.is) c.loop-top.invariant))

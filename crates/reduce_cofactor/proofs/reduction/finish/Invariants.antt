@@ -6,7 +6,8 @@ use Rattle.reduce_cofactor.proofs.reduction.finish.Given as goal
 
 abbrev pub invariant-loop-top : goal.invariant-loop-top
 invariant-loop-top g l =
-    ((f : Coefficients) → HasPassed (take l.front (g.L.VecList.vectors l.list)) f l.fn.steps.items l.w l.passed → Running (take l.front (g.L.VecList.vectors l.list)) f l.reduction.steps.items l.reduction.rest.items l.reduction.dividend.0)
+    ((f : Coefficients) → HasPassed (take l.front (g.L.VecList.vectors l.list)) f l.fn.steps.items l.w l.passed
+    → Running (take l.front (g.L.VecList.vectors l.list)) f l.reduction.steps.items l.reduction.rest.items l.reduction.dividend.0)
     × (length l.reduction.steps.items ≤ STEPS) × (length l.reduction.rest.items + length l.reduction.dividend.0 ≤ TERMS)
 
 abbrev pub decreases-loop-top : goal.decreases-loop-top

@@ -17,7 +17,8 @@ returns-then-x-at c =
     let x : Candidate = get_or xs i past in
     let read : x ≡ get_or xs i x = any_default xs i past x c.loop-x-test.true in
     let other : x.component ≢ c.args.at.now.c = search (rules, nat_tests) in
-    all_passed c.args.leads.now c.args.front c.args.at.now xs i x c.loop-x-test.true read c.loop-x.invariant c.requires.candidates c.requires.order c.requires.component other
+    all_passed c.args.leads.now c.args.front c.args.at.now xs i x c.loop-x-test.true read c.loop-x.invariant c.requires.candidates c.requires.order
+    c.requires.component other
 
 pub returns-then-reduces : goal.returns-then-reduces
 unfolding past

@@ -8,5 +8,6 @@ pub returns : goal.returns
 returns c =
     let xs = c.args.candidates.now in
     let parted = component_partitioned c.args.c xs c.requires in
-    let point = IsPartitionPoint-from_clause (λ (x : Candidate). nat_lt x.component c.args.c) _ _ c.partition_point-start.ensures.partitioned parted (λ a r q k. search rules) in
+    let point = IsPartitionPoint-from_clause (λ (x : Candidate). nat_lt x.component c.args.c) _ _ c.partition_point-start.ensures.partitioned parted
+    (λ a r q k. search rules) in
     begins_at c.args.c xs c.split_at.result.1.now c.partition_point-start.result c.partition_point-start.ensures.bound c.split_at.ensures.back point.0 point.1

@@ -14,7 +14,8 @@ returns-in_err-before c =
 
 pub returns-in_err-after : goal.returns-in_err-after
 returns-in_err-after c =
-    rw c.from_residual-in_err-after.ensures (no_space_after c.args.text.now c.in_ok-front.front.now c.in_ok-front.rest.now c.in_ok-front.ensures.parts c.in_err-after.ensures)
+    rw c.from_residual-in_err-after.ensures (no_space_after c.args.text.now c.in_ok-front.front.now c.in_ok-front.rest.now c.in_ok-front.ensures.parts
+    c.in_err-after.ensures)
 
 pub returns : goal.returns
 returns c =

@@ -9,7 +9,9 @@ returns-in_err-front c = rw c.from_residual.ensures (uncut 32 decimal IsSmall nu
 
 pub returns-in_err-number : goal.returns-in_err-number
 returns-in_err-number c =
-    rw c.from_residual-in_err-number.ensures (no_head 32 decimal IsSmall numbers_apart c.args.text.now c.in_ok-front.front.now c.in_ok-front.rest.now c.in_ok-front.ensures.parts c.in_err-number.ensures)
+    rw c.from_residual-in_err-number.ensures (no_head 32 decimal IsSmall numbers_apart c.args.text.now c.in_ok-front.front.now c.in_ok-front.rest.now
+    c.in_ok-front.ensures.parts c.in_err-number.ensures)
 
 pub returns : goal.returns
-returns c = head_read 32 decimal IsSmall c.args.text.now c.in_ok-front.front.now c.in_ok-front.rest.now c.in_ok-number.number c.in_ok-front.ensures.parts c.in_ok-number.ensures
+returns c = head_read 32 decimal IsSmall c.args.text.now c.in_ok-front.front.now c.in_ok-front.rest.now c.in_ok-number.number c.in_ok-front.ensures.parts
+    c.in_ok-number.ensures

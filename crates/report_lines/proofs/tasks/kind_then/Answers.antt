@@ -9,7 +9,9 @@ returns-in_err-front c = rw c.from_residual.ensures (uncut 32 kind_text IsKind k
 
 pub returns-in_err-kind : goal.returns-in_err-kind
 returns-in_err-kind c =
-    rw c.from_residual-in_err-kind.ensures (no_head 32 kind_text IsKind kinds_apart c.args.text.now c.in_ok-front.front.now c.in_ok-front.rest.now c.in_ok-front.ensures.parts c.in_err-kind.ensures)
+    rw c.from_residual-in_err-kind.ensures (no_head 32 kind_text IsKind kinds_apart c.args.text.now c.in_ok-front.front.now c.in_ok-front.rest.now
+    c.in_ok-front.ensures.parts c.in_err-kind.ensures)
 
 pub returns : goal.returns
-returns c = head_read 32 kind_text IsKind c.args.text.now c.in_ok-front.front.now c.in_ok-front.rest.now c.in_ok-kind.kind c.in_ok-front.ensures.parts c.in_ok-kind.ensures
+returns c = head_read 32 kind_text IsKind c.args.text.now c.in_ok-front.front.now c.in_ok-front.rest.now c.in_ok-kind.kind c.in_ok-front.ensures.parts
+    c.in_ok-kind.ensures

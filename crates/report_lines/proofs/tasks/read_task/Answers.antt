@@ -9,7 +9,9 @@ returns-in_err-j c = rw c.from_residual-in_err-j.ensures (no_j c.args.text.now c
 
 pub returns-in_err-kind : goal.returns-in_err-kind
 returns-in_err-kind c =
-    rw c.from_residual-in_err-kind.ensures (no_last c.args.text.now c.in_ok-i.rest.now c.in_ok-j.last.now c.in_ok-i.i c.in_ok-j.j c.in_ok-i.ensures c.in_ok-j.ensures c.in_err-kind.ensures)
+    rw c.from_residual-in_err-kind.ensures (no_last c.args.text.now c.in_ok-i.rest.now c.in_ok-j.last.now c.in_ok-i.i c.in_ok-j.j c.in_ok-i.ensures
+    c.in_ok-j.ensures c.in_err-kind.ensures)
 
 pub returns : goal.returns
-returns c = task_read c.args.text.now c.in_ok-i.rest.now c.in_ok-j.last.now c.in_ok-i.i c.in_ok-j.j c.in_ok-kind.kind c.in_ok-i.ensures c.in_ok-j.ensures c.in_ok-kind.ensures
+returns c = task_read c.args.text.now c.in_ok-i.rest.now c.in_ok-j.last.now c.in_ok-i.i c.in_ok-j.j c.in_ok-kind.kind c.in_ok-i.ensures c.in_ok-j.ensures
+    c.in_ok-kind.ensures

@@ -14,16 +14,19 @@ returns-then-not-is_title-clause-fault c =
 pub returns-in_default-cut-clause-fault : goal.returns-in_default-cut-clause-fault
 returns-in_default-cut-clause-fault c =
     no_presentation c.args.p.now c.args.text.now c.in-Some.others.now
-    (behind_line title c.args.text.now c.in-Some.first.now c.in-Some.others.now c.in-Some.ensures.parts (c.is_title.ensures.0 c.if-not-is_title.false)) c.in_default-cut.ensures.parts
+    (behind_line title c.args.text.now c.in-Some.first.now c.in-Some.others.now c.in-Some.ensures.parts (c.is_title.ensures.0 c.if-not-is_title.false))
+    c.in_default-cut.ensures.parts
 
 pub returns-then-not-branch-clause-fault : goal.returns-then-not-branch-clause-fault
 returns-then-not-branch-clause-fault c =
     other_presentation c.args.p.now c.args.text.now c.in-Some.others.now c.in-Some-cut.second.now c.in-Some-cut.body.now
-    (behind_line title c.args.text.now c.in-Some.first.now c.in-Some.others.now c.in-Some.ensures.parts (c.is_title.ensures.0 c.if-not-is_title.false)) c.in-Some-cut.ensures.parts
+    (behind_line title c.args.text.now c.in-Some.first.now c.in-Some.others.now c.in-Some.ensures.parts (c.is_title.ensures.0 c.if-not-is_title.false))
+    c.in-Some-cut.ensures.parts
     (λ same. let wrong = sym (c.in_ok-is_pres_line.ensures.1 same) ∙ c.if-not-branch.true in cc)
 
 pub returns-clause-body : goal.returns-clause-body
 returns-clause-body c =
     behind_both c.args.p.now c.args.text.now c.in-Some.others.now c.in-Some-cut.second.now c.in-Some-cut.body.now
-    (behind_line title c.args.text.now c.in-Some.first.now c.in-Some.others.now c.in-Some.ensures.parts (c.is_title.ensures.0 c.if-not-is_title.false)) c.in-Some-cut.ensures.parts
+    (behind_line title c.args.text.now c.in-Some.first.now c.in-Some.others.now c.in-Some.ensures.parts (c.is_title.ensures.0 c.if-not-is_title.false))
+    c.in-Some-cut.ensures.parts
     (c.in_ok-is_pres_line.ensures.0 c.if-not-branch.false)

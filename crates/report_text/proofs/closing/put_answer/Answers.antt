@@ -13,7 +13,8 @@ use Rattle.report_text.proofs.Written.{stops_at_once}
 use Rattle.report_text.proofs.closing.put_answer.Goals as goal
 
 pub verdict-requires-clause-question : goal.verdict-requires-clause-question
-verdict-requires-clause-question g c = at_place (CanBeAsked c.args.log.now.p.now) c.args.session.now.questions (c.args.number - 1) c.question-question.result.now c.requires.asked c.question-question.ensures
+verdict-requires-clause-question g c = at_place (CanBeAsked c.args.log.now.p.now) c.args.session.now.questions (c.args.number - 1)
+    c.question-question.result.now c.requires.asked c.question-question.ensures
 
 pub returns-in_err-verdict-clause-text : goal.returns-in_err-verdict-clause-text
 returns-in_err-verdict-clause-text g c = λ q r read h.
@@ -22,13 +23,19 @@ returns-in_err-verdict-clause-text g c = λ q r read h.
 
 pub put_closing-requires-clause-question : goal.put_closing-requires-clause-question
 put_closing-requires-clause-question g c =
-    let h : CanBeAsked c.args.log.now.p.now c.question-question.result.now = at_place (CanBeAsked c.args.log.now.p.now) c.args.session.now.questions (c.args.number - 1) c.question-question.result.now c.requires.asked c.question-question.ensures in
+    let h : CanBeAsked c.args.log.now.p.now c.question-question.result.now =
+    at_place (CanBeAsked c.args.log.now.p.now) c.args.session.now.questions (c.args.number - 1) c.question-question.result.now c.requires.asked
+    c.question-question.ensures in
     written_is_over c.args.log.now.p.now c.question-question.result.now h.0
 
 pub put_closing-requires-clause-verdict : goal.put_closing-requires-clause-verdict
 put_closing-requires-clause-verdict g c =
-    let h : CanBeAsked c.args.log.now.p.now c.question-question.result.now = at_place (CanBeAsked c.args.log.now.p.now) c.args.session.now.questions (c.args.number - 1) c.question-question.result.now c.requires.asked c.question-question.ensures in
-    final_over c.args.log.now.p.now (g.L.VecList.vectors c.args.log.now.list.now) (g.L.Front.entries c.args.log.now.list.now) (g.L.Front.seal c.args.log.now.list.now) (g.met.L.Front.vectors_are c.args.log.now.list.now) c.question-question.result.now c.in_ok-verdict.verdict h c.count.ensures.entries c.requires.log.over c.in_ok-verdict.ensures.is
+    let h : CanBeAsked c.args.log.now.p.now c.question-question.result.now =
+    at_place (CanBeAsked c.args.log.now.p.now) c.args.session.now.questions (c.args.number - 1) c.question-question.result.now c.requires.asked
+    c.question-question.ensures in
+    final_over c.args.log.now.p.now (g.L.VecList.vectors c.args.log.now.list.now) (g.L.Front.entries c.args.log.now.list.now)
+    (g.L.Front.seal c.args.log.now.list.now) (g.met.L.Front.vectors_are c.args.log.now.list.now) c.question-question.result.now c.in_ok-verdict.verdict h
+    c.count.ensures.entries c.requires.log.over c.in_ok-verdict.ensures.is
 
 pub returns-in_err-put_closing-clause-text : goal.returns-in_err-put_closing-clause-text
 returns-in_err-put_closing-clause-text g c = λ q r read h.
@@ -39,34 +46,55 @@ pub returns-in_err-put_with_end-clause-text : goal.returns-in_err-put_with_end-c
 returns-in_err-put_with_end-clause-text g c = λ q r read h.
     let p = err_from_is_err_and c.from_residual-in_err-put_with_end.result c.from_residual-in_err-put_with_end.ensures.1 in
     let numbers : c.new-at.result ≡ record { session = c.args.session.now.number; number = c.args.number } = search rules in
-    let text : c.put_closing.new.out.items ≡ line_text c.args.log.now.p.now (lines.Close c.args.session.now.number c.args.number c.question-question.result.now c.in_ok-verdict.verdict) =
+    let text : c.put_closing.new.out.items ≡ line_text c.args.log.now.p.now (lines.Close c.args.session.now.number c.args.number c.question-question.result.now
+    c.in_ok-verdict.verdict) =
     c.in_ok-put_closing.ensures
-    ∙ ap (λ (t : List ℕ). t ++ line_text c.args.log.now.p.now (lines.Close c.new-at.result.session c.new-at.result.number c.question-question.result.now c.in_ok-verdict.verdict)) c.new-line.ensures.items
-    ∙ ap (λ (at : QuestionNumber). line_text c.args.log.now.p.now (lines.Close at.session at.number c.question-question.result.now c.in_ok-verdict.verdict)) numbers in
-    rw p.1 (reply_stops c.args.log.now.p.now (g.L.Front.entries c.args.log.now.list.now) (g.L.Front.seal c.args.log.now.list.now) c.args.session.now.number c.args.number c.question-question.result.now q (same_item c.args.session.now.questions (c.args.number - 1) c.question-question.result.now q c.question-question.ensures read)
-    c.in_ok-verdict.verdict c.put_closing.new.out.items r h (final_verdict c.args.log.now.p.now (g.L.VecList.vectors c.args.log.now.list.now) (g.L.Front.entries c.args.log.now.list.now) (g.L.Front.seal c.args.log.now.list.now) (g.met.L.Front.vectors_are c.args.log.now.list.now) c.question-question.result.now c.in_ok-verdict.verdict c.in_ok-verdict.ensures.is) text
+    ∙ ap (λ (t : List ℕ). t ++ line_text c.args.log.now.p.now (lines.Close c.new-at.result.session c.new-at.result.number c.question-question.result.now
+    c.in_ok-verdict.verdict)) c.new-line.ensures.items
+    ∙ ap (λ (at : QuestionNumber). line_text c.args.log.now.p.now (lines.Close at.session at.number c.question-question.result.now
+    c.in_ok-verdict.verdict)) numbers in
+    rw p.1 (reply_stops c.args.log.now.p.now (g.L.Front.entries c.args.log.now.list.now) (g.L.Front.seal c.args.log.now.list.now) c.args.session.now.number
+    c.args.number c.question-question.result.now q (same_item c.args.session.now.questions (c.args.number - 1) c.question-question.result.now q
+    c.question-question.ensures read)
+    c.in_ok-verdict.verdict c.put_closing.new.out.items r h (final_verdict c.args.log.now.p.now (g.L.VecList.vectors c.args.log.now.list.now)
+    (g.L.Front.entries c.args.log.now.list.now) (g.L.Front.seal c.args.log.now.list.now) (g.met.L.Front.vectors_are c.args.log.now.list.now)
+    c.question-question.result.now c.in_ok-verdict.verdict c.in_ok-verdict.ensures.is) text
     (g.K.Sink.taken c.args.out.now) (g.K.Sink.taken c.put_with_end.new.out) c.in_err-put_with_end.ensures.text)
 
 pub put_proofs-requires-clause-asked : goal.put_proofs-requires-clause-asked
-put_proofs-requires-clause-asked g c = at_place (CanBeAsked c.args.log.now.p.now) c.args.session.now.questions (c.args.number - 1) c.question-question.result.now c.requires.asked c.question-question.ensures
+put_proofs-requires-clause-asked g c = at_place (CanBeAsked c.args.log.now.p.now) c.args.session.now.questions (c.args.number - 1)
+    c.question-question.result.now c.requires.asked c.question-question.ensures
 
 pub put_proofs-requires-clause-shown : goal.put_proofs-requires-clause-shown
 put_proofs-requires-clause-shown g c =
-    final_shown c.args.log.now.p.now (g.L.VecList.vectors c.args.log.now.list.now) (g.L.Front.entries c.args.log.now.list.now) (g.L.Front.seal c.args.log.now.list.now) (g.met.L.Front.vectors_are c.args.log.now.list.now) c.question-question.result.now c.in_ok-verdict.verdict c.in_ok-verdict.ensures.is
+    final_shown c.args.log.now.p.now (g.L.VecList.vectors c.args.log.now.list.now) (g.L.Front.entries c.args.log.now.list.now)
+    (g.L.Front.seal c.args.log.now.list.now) (g.met.L.Front.vectors_are c.args.log.now.list.now) c.question-question.result.now c.in_ok-verdict.verdict
+    c.in_ok-verdict.ensures.is
     c.front.result c.front.ensures.is
 
 pub returns-clause-text : goal.returns-clause-text
 returns-clause-text g c = λ q r read h.
     let numbers : c.new-at.result ≡ record { session = c.args.session.now.number; number = c.args.number } = search rules in
-    let text : c.put_closing.new.out.items ≡ line_text c.args.log.now.p.now (lines.Close c.args.session.now.number c.args.number c.question-question.result.now c.in_ok-verdict.verdict) =
+    let text : c.put_closing.new.out.items ≡ line_text c.args.log.now.p.now (lines.Close c.args.session.now.number c.args.number c.question-question.result.now
+    c.in_ok-verdict.verdict) =
     c.in_ok-put_closing.ensures
-    ∙ ap (λ (t : List ℕ). t ++ line_text c.args.log.now.p.now (lines.Close c.new-at.result.session c.new-at.result.number c.question-question.result.now c.in_ok-verdict.verdict)) c.new-line.ensures.items
-    ∙ ap (λ (at : QuestionNumber). line_text c.args.log.now.p.now (lines.Close at.session at.number c.question-question.result.now c.in_ok-verdict.verdict)) numbers in
-    reply_puts c.args.log.now.p.now (g.L.Front.entries c.args.log.now.list.now) (g.L.Front.seal c.args.log.now.list.now) c.args.session.now.number c.args.number c.question-question.result.now q (same_item c.args.session.now.questions (c.args.number - 1) c.question-question.result.now q c.question-question.ensures read)
-    c.in_ok-verdict.verdict c.put_closing.new.out.items r h (final_verdict c.args.log.now.p.now (g.L.VecList.vectors c.args.log.now.list.now) (g.L.Front.entries c.args.log.now.list.now) (g.L.Front.seal c.args.log.now.list.now) (g.met.L.Front.vectors_are c.args.log.now.list.now) c.question-question.result.now c.in_ok-verdict.verdict c.in_ok-verdict.ensures.is) text
-    (g.K.Sink.taken c.args.out.now) (g.K.Sink.taken c.put_with_end.new.out) (g.K.Sink.taken c.put_proofs.new.out) c.put_proofs.result c.front.result c.front.ensures.is c.in_ok-put_with_end.ensures.text c.put_proofs.ensures.text
+    ∙ ap (λ (t : List ℕ). t ++ line_text c.args.log.now.p.now (lines.Close c.new-at.result.session c.new-at.result.number c.question-question.result.now
+    c.in_ok-verdict.verdict)) c.new-line.ensures.items
+    ∙ ap (λ (at : QuestionNumber). line_text c.args.log.now.p.now (lines.Close at.session at.number c.question-question.result.now
+    c.in_ok-verdict.verdict)) numbers in
+    reply_puts c.args.log.now.p.now (g.L.Front.entries c.args.log.now.list.now) (g.L.Front.seal c.args.log.now.list.now) c.args.session.now.number c.args.number
+    c.question-question.result.now q (same_item c.args.session.now.questions (c.args.number - 1) c.question-question.result.now q
+    c.question-question.ensures read)
+    c.in_ok-verdict.verdict c.put_closing.new.out.items r h (final_verdict c.args.log.now.p.now (g.L.VecList.vectors c.args.log.now.list.now)
+    (g.L.Front.entries c.args.log.now.list.now) (g.L.Front.seal c.args.log.now.list.now) (g.met.L.Front.vectors_are c.args.log.now.list.now)
+    c.question-question.result.now c.in_ok-verdict.verdict c.in_ok-verdict.ensures.is) text
+    (g.K.Sink.taken c.args.out.now) (g.K.Sink.taken c.put_with_end.new.out) (g.K.Sink.taken c.put_proofs.new.out) c.put_proofs.result c.front.result
+    c.front.ensures.is c.in_ok-put_with_end.ensures.text c.put_proofs.ensures.text
 
 pub returns-clause-told : goal.returns-clause-told
 returns-clause-told g c = on_ok c.put_proofs.result (λ q read.
-    subst (HasClosing c.args.log.now.p.now (g.L.Front.entries c.args.log.now.list.now) (g.L.Front.seal c.args.log.now.list.now)) (same_item c.args.session.now.questions (c.args.number - 1) c.question-question.result.now q c.question-question.ensures read)
-    (closing_there c.args.log.now.p.now (g.L.VecList.vectors c.args.log.now.list.now) (g.L.Front.entries c.args.log.now.list.now) (g.L.Front.seal c.args.log.now.list.now) (g.met.L.Front.vectors_are c.args.log.now.list.now) c.question-question.result.now c.in_ok-verdict.verdict c.in_ok-verdict.ensures.is))
+    subst (HasClosing c.args.log.now.p.now (g.L.Front.entries c.args.log.now.list.now) (g.L.Front.seal c.args.log.now.list.now))
+    (same_item c.args.session.now.questions (c.args.number - 1) c.question-question.result.now q c.question-question.ensures read)
+    (closing_there c.args.log.now.p.now (g.L.VecList.vectors c.args.log.now.list.now) (g.L.Front.entries c.args.log.now.list.now)
+    (g.L.Front.seal c.args.log.now.list.now) (g.met.L.Front.vectors_are c.args.log.now.list.now) c.question-question.result.now c.in_ok-verdict.verdict
+    c.in_ok-verdict.ensures.is))

@@ -11,7 +11,8 @@ loop-low-preserved-then-is_before c =
       first = omega (arith, c.loop-low.invariant.first);
       order = omega (arith, half, lt);
       within = c.loop-low.invariant.within;
-      before = before_step c.args.session.now.base c.args.front c.args.session.now.kept c.count-high.ensures.session.rising middle (omega (arith, c.loop-low.invariant.first)) (omega (arith, half, lt, c.loop-low.invariant.within))
+      before = before_step c.args.session.now.base c.args.front c.args.session.now.kept c.count-high.ensures.session.rising middle
+          (omega (arith, c.loop-low.invariant.first)) (omega (arith, half, lt, c.loop-low.invariant.within))
           (λ k read. (c.is_before.ensures k read).0 c.if-is_before.true);
       behind = c.loop-low.invariant.behind;
     }
@@ -26,6 +27,7 @@ loop-low-preserved c =
       order = omega arith;
       within = omega (arith, half, lt, c.loop-low.invariant.within);
       before = c.loop-low.invariant.before;
-      behind = behind_step c.args.session.now.base c.args.front c.args.session.now.kept c.count-high.ensures.session.rising middle (omega (arith, c.loop-low.invariant.first)) (omega (arith, half, lt, c.loop-low.invariant.within))
+      behind = behind_step c.args.session.now.base c.args.front c.args.session.now.kept c.count-high.ensures.session.rising middle
+          (omega (arith, c.loop-low.invariant.first)) (omega (arith, half, lt, c.loop-low.invariant.within))
           (λ k read less. let e : true ≡ false = sym ((c.is_before.ensures k read).1 less) ∙ c.if-is_before.false in absurd (cc));
     }

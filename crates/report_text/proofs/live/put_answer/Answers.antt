@@ -14,10 +14,12 @@ use Rattle.report_text.proofs.Written.{stops_at_once}
 use Rattle.report_text.proofs.live.put_answer.Goals as goal
 
 pub verdict_of-requires-clause-asked : goal.verdict_of-requires-clause-asked
-verdict_of-requires-clause-asked g c = at_place (CanBeAsked c.args.log.now.p.now) c.args.session.now.questions (c.args.number - 1) c.question-question.result.now c.requires.replied.asked c.question-question.ensures
+verdict_of-requires-clause-asked g c = at_place (CanBeAsked c.args.log.now.p.now) c.args.session.now.questions (c.args.number - 1)
+    c.question-question.result.now c.requires.replied.asked c.question-question.ensures
 
 pub verdict_of-requires-clause-reply : goal.verdict_of-requires-clause-reply
-verdict_of-requires-clause-reply g c = c.requires.replied.each (c.args.number - 1) c.question-question.result.now c.args.kept c.question-question.ensures c.requires.kept
+verdict_of-requires-clause-reply g c = c.requires.replied.each (c.args.number - 1) c.question-question.result.now c.args.kept c.question-question.ensures
+    c.requires.kept
 
 pub returns-in_err-verdict-clause-text : goal.returns-in_err-verdict-clause-text
 returns-in_err-verdict-clause-text g c = λ q a read h.
@@ -26,14 +28,21 @@ returns-in_err-verdict-clause-text g c = λ q a read h.
 
 pub put_live-requires-clause-question : goal.put_live-requires-clause-question
 put_live-requires-clause-question g c =
-    let h : CanBeAsked c.args.log.now.p.now c.question-question.result.now = at_place (CanBeAsked c.args.log.now.p.now) c.args.session.now.questions (c.args.number - 1) c.question-question.result.now c.requires.replied.asked c.question-question.ensures in
+    let h : CanBeAsked c.args.log.now.p.now c.question-question.result.now =
+    at_place (CanBeAsked c.args.log.now.p.now) c.args.session.now.questions (c.args.number - 1) c.question-question.result.now c.requires.replied.asked
+    c.question-question.ensures in
     written_is_over c.args.log.now.p.now c.question-question.result.now h.0
 
 pub put_live-requires-clause-verdict : goal.put_live-requires-clause-verdict
 put_live-requires-clause-verdict g c =
-    let h : CanBeAsked c.args.log.now.p.now c.question-question.result.now = at_place (CanBeAsked c.args.log.now.p.now) c.args.session.now.questions (c.args.number - 1) c.question-question.result.now c.requires.replied.asked c.question-question.ensures in
-    verdict_over c.args.log.now.p.now (vectors_below (g.L.Front.entries c.args.log.now.list.now) c.args.kept.front) (seal_below (g.L.Front.entries c.args.log.now.list.now) (g.L.Front.seal c.args.log.now.list.now) c.args.kept.front) c.question-question.result.now c.in_ok-verdict.verdict h
-    (entries_counted c.args.kept.front (g.L.VecList.vectors c.args.log.now.list.now) (g.L.Front.entries c.args.log.now.list.now) (g.met.L.Front.vectors_are c.args.log.now.list.now) c.count.ensures.entries)
+    let h : CanBeAsked c.args.log.now.p.now c.question-question.result.now =
+    at_place (CanBeAsked c.args.log.now.p.now) c.args.session.now.questions (c.args.number - 1) c.question-question.result.now c.requires.replied.asked
+    c.question-question.ensures in
+    verdict_over c.args.log.now.p.now (vectors_below (g.L.Front.entries c.args.log.now.list.now) c.args.kept.front)
+    (seal_below (g.L.Front.entries c.args.log.now.list.now) (g.L.Front.seal c.args.log.now.list.now) c.args.kept.front) c.question-question.result.now
+    c.in_ok-verdict.verdict h
+    (entries_counted c.args.kept.front (g.L.VecList.vectors c.args.log.now.list.now) (g.L.Front.entries c.args.log.now.list.now)
+    (g.met.L.Front.vectors_are c.args.log.now.list.now) c.count.ensures.entries)
     (vectors_over (length c.args.log.now.p.now.names) c.args.kept.front (g.L.Front.entries c.args.log.now.list.now) c.requires.log.over) c.in_ok-verdict.ensures
 
 pub returns-in_err-put_live-clause-text : goal.returns-in_err-put_live-clause-text
@@ -45,25 +54,42 @@ pub returns-in_err-put_with_end-clause-text : goal.returns-in_err-put_with_end-c
 returns-in_err-put_with_end-clause-text g c = λ q a read h.
     let p = err_from_is_err_and c.from_residual-in_err-put_with_end.result c.from_residual-in_err-put_with_end.ensures.1 in
     let numbers : c.new-at.result ≡ record { session = c.args.session.now.number; number = c.args.number } = search rules in
-    let text : c.put_live.new.out.items ≡ line_text c.args.log.now.p.now (lines.Live c.args.session.now.number c.args.number c.args.kept.front c.question-question.result.now c.in_ok-verdict.verdict) =
-    c.in_ok-put_live.ensures ∙ ap (λ (t : List ℕ). t ++ line_text c.args.log.now.p.now (lines.Live c.new-at.result.session c.new-at.result.number c.args.kept.front c.question-question.result.now c.in_ok-verdict.verdict)) c.new-line.ensures.items
-    ∙ ap (λ (at : QuestionNumber). line_text c.args.log.now.p.now (lines.Live at.session at.number c.args.kept.front c.question-question.result.now c.in_ok-verdict.verdict)) numbers in
-    rw p.1 (live_stops c.args.log.now.p.now (g.L.Front.entries c.args.log.now.list.now) (g.L.Front.seal c.args.log.now.list.now) c.args.session.now.number c.args.number c.question-question.result.now q (same_item c.args.session.now.questions (c.args.number - 1) c.question-question.result.now q c.question-question.ensures read)
-    c.in_ok-verdict.verdict c.put_live.new.out.items c.args.kept a h c.in_ok-verdict.ensures text (g.K.Sink.taken c.args.out.now) (g.K.Sink.taken c.put_with_end.new.out) c.in_err-put_with_end.ensures.text)
+    let text : c.put_live.new.out.items ≡ line_text c.args.log.now.p.now (lines.Live c.args.session.now.number c.args.number c.args.kept.front
+    c.question-question.result.now c.in_ok-verdict.verdict) =
+    c.in_ok-put_live.ensures ∙ ap (λ (t : List ℕ). t ++ line_text c.args.log.now.p.now
+    (lines.Live c.new-at.result.session c.new-at.result.number c.args.kept.front c.question-question.result.now c.in_ok-verdict.verdict))
+    c.new-line.ensures.items
+    ∙ ap (λ (at : QuestionNumber). line_text c.args.log.now.p.now (lines.Live at.session at.number c.args.kept.front c.question-question.result.now
+    c.in_ok-verdict.verdict)) numbers in
+    rw p.1 (live_stops c.args.log.now.p.now (g.L.Front.entries c.args.log.now.list.now) (g.L.Front.seal c.args.log.now.list.now) c.args.session.now.number
+    c.args.number c.question-question.result.now q (same_item c.args.session.now.questions (c.args.number - 1) c.question-question.result.now q
+    c.question-question.ensures read)
+    c.in_ok-verdict.verdict c.put_live.new.out.items c.args.kept a h c.in_ok-verdict.ensures text (g.K.Sink.taken c.args.out.now)
+    (g.K.Sink.taken c.put_with_end.new.out) c.in_err-put_with_end.ensures.text)
 
 pub put_proofs-requires-clause-asked : goal.put_proofs-requires-clause-asked
-put_proofs-requires-clause-asked g c = at_place (CanBeAsked c.args.log.now.p.now) c.args.session.now.questions (c.args.number - 1) c.question-question.result.now c.requires.replied.asked c.question-question.ensures
+put_proofs-requires-clause-asked g c = at_place (CanBeAsked c.args.log.now.p.now) c.args.session.now.questions (c.args.number - 1)
+    c.question-question.result.now c.requires.replied.asked c.question-question.ensures
 
 pub put_proofs-requires-clause-shown : goal.put_proofs-requires-clause-shown
 put_proofs-requires-clause-shown g c =
-    yes_is_shown c.args.log.now.p.now (vectors_below (g.L.Front.entries c.args.log.now.list.now) c.args.kept.front) (seal_below (g.L.Front.entries c.args.log.now.list.now) (g.L.Front.seal c.args.log.now.list.now) c.args.kept.front) c.question-question.result.now c.in_ok-verdict.verdict c.in_ok-verdict.ensures
+    yes_is_shown c.args.log.now.p.now (vectors_below (g.L.Front.entries c.args.log.now.list.now) c.args.kept.front)
+    (seal_below (g.L.Front.entries c.args.log.now.list.now) (g.L.Front.seal c.args.log.now.list.now) c.args.kept.front) c.question-question.result.now
+    c.in_ok-verdict.verdict c.in_ok-verdict.ensures
 
 pub returns-clause-text : goal.returns-clause-text
 returns-clause-text g c = λ q a read h.
     let numbers : c.new-at.result ≡ record { session = c.args.session.now.number; number = c.args.number } = search rules in
-    let text : c.put_live.new.out.items ≡ line_text c.args.log.now.p.now (lines.Live c.args.session.now.number c.args.number c.args.kept.front c.question-question.result.now c.in_ok-verdict.verdict) =
-    c.in_ok-put_live.ensures ∙ ap (λ (t : List ℕ). t ++ line_text c.args.log.now.p.now (lines.Live c.new-at.result.session c.new-at.result.number c.args.kept.front c.question-question.result.now c.in_ok-verdict.verdict)) c.new-line.ensures.items
-    ∙ ap (λ (at : QuestionNumber). line_text c.args.log.now.p.now (lines.Live at.session at.number c.args.kept.front c.question-question.result.now c.in_ok-verdict.verdict)) numbers in
-    live_puts c.args.log.now.p.now (g.L.Front.entries c.args.log.now.list.now) (g.L.Front.seal c.args.log.now.list.now) c.args.session.now.number c.args.number c.question-question.result.now q (same_item c.args.session.now.questions (c.args.number - 1) c.question-question.result.now q c.question-question.ensures read)
-    c.in_ok-verdict.verdict c.put_live.new.out.items c.args.kept a h c.in_ok-verdict.ensures text (g.K.Sink.taken c.args.out.now) (g.K.Sink.taken c.put_with_end.new.out) (g.K.Sink.taken c.put_proofs.new.out) c.put_proofs.result
+    let text : c.put_live.new.out.items ≡ line_text c.args.log.now.p.now (lines.Live c.args.session.now.number c.args.number c.args.kept.front
+    c.question-question.result.now c.in_ok-verdict.verdict) =
+    c.in_ok-put_live.ensures ∙ ap (λ (t : List ℕ). t ++ line_text c.args.log.now.p.now
+    (lines.Live c.new-at.result.session c.new-at.result.number c.args.kept.front c.question-question.result.now c.in_ok-verdict.verdict))
+    c.new-line.ensures.items
+    ∙ ap (λ (at : QuestionNumber). line_text c.args.log.now.p.now (lines.Live at.session at.number c.args.kept.front c.question-question.result.now
+    c.in_ok-verdict.verdict)) numbers in
+    live_puts c.args.log.now.p.now (g.L.Front.entries c.args.log.now.list.now) (g.L.Front.seal c.args.log.now.list.now) c.args.session.now.number c.args.number
+    c.question-question.result.now q (same_item c.args.session.now.questions (c.args.number - 1) c.question-question.result.now q
+    c.question-question.ensures read)
+    c.in_ok-verdict.verdict c.put_live.new.out.items c.args.kept a h c.in_ok-verdict.ensures text (g.K.Sink.taken c.args.out.now)
+    (g.K.Sink.taken c.put_with_end.new.out) (g.K.Sink.taken c.put_proofs.new.out) c.put_proofs.result
     c.in_ok-put_with_end.ensures.text c.put_proofs.ensures.text

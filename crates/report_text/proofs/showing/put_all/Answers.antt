@@ -19,7 +19,8 @@ returns-in_err-put_one-clause-text g c = λ proofs are.
     let b : List (List Term) = vectors_below (g.L.Front.entries c.args.log.now.list.now) c.args.front in
     let p = err_from_is_err_and c.from_residual.result c.from_residual.ensures.1 in
     let lt : c.loop-place.place < length (subjects c.args.q.now) = search rules in
-    rw p.1 (proofs_stop b c.args.q.now proofs are (g.K.Sink.taken c.args.out.now) (g.K.Sink.taken c.loop-place.out) (g.K.Sink.taken c.put_one.new.out) c.args.log.now.p.now c.loop-place.place lt
+    rw p.1 (proofs_stop b c.args.q.now proofs are (g.K.Sink.taken c.args.out.now) (g.K.Sink.taken c.loop-place.out) (g.K.Sink.taken c.put_one.new.out)
+    c.args.log.now.p.now c.loop-place.place lt
     (c.loop-place.invariant.text proofs are) c.in_err-put_one.ensures.text)
 
 pub loop-place-preserved : goal.loop-place-preserved
@@ -27,7 +28,8 @@ loop-place-preserved g c =
     let b : List (List Term) = vectors_below (g.L.Front.entries c.args.log.now.list.now) c.args.front in
     let lt : c.loop-place.place < length (subjects c.args.q.now) = search rules in
     record {
-      text = λ proofs are. proofs_go_on b c.args.q.now proofs are (g.K.Sink.taken c.args.out.now) (g.K.Sink.taken c.loop-place.out) (g.K.Sink.taken c.put_one.new.out) c.args.log.now.p.now c.loop-place.place lt
+      text = λ proofs are. proofs_go_on b c.args.q.now proofs are (g.K.Sink.taken c.args.out.now) (g.K.Sink.taken c.loop-place.out)
+          (g.K.Sink.taken c.put_one.new.out) c.args.log.now.p.now c.loop-place.place lt
           (c.loop-place.invariant.text proofs are) c.in_ok-put_one.ensures.text;
       later = omega (arith, c.loop-place.invariant.later, c.in_ok-put_one.ensures.counts);
     }

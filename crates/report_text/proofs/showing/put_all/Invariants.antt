@@ -10,6 +10,7 @@ use Rattle.report_text.proofs.showing.put_all.Given as goal
 abbrev pub invariant-loop-place : goal.invariant-loop-place
 invariant-loop-place g l = record {
   text : (proofs : List (List Step)) → AreProofsOf (vectors_below (g.L.Front.entries l.log.list.now) l.front) (subjects l.q) proofs
-      → Goes (g.K.Sink.taken l.fn.out) (lines_text l.log.p.now (proof_lines 1 proofs)) (lines_text l.log.p.now (proof_lines (l.place + 1) (drop l.place proofs))) (g.K.Sink.taken l.out);
+      → Goes (g.K.Sink.taken l.fn.out) (lines_text l.log.p.now (proof_lines 1 proofs))
+      (lines_text l.log.p.now (proof_lines (l.place + 1) (drop l.place proofs))) (g.K.Sink.taken l.out);
   later : g.K.Sink.faults l.fn.out ≤ g.K.Sink.faults l.out;
 }

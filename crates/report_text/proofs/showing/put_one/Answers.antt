@@ -19,4 +19,5 @@ returns-clause-text g c = λ steps are.
     c.in_ok-put_proof.ensures
     ∙ ap (λ (t : List ℕ). t ++ line_text c.args.log.now.p.now (lines.Proof c.args.number c.in_ok-steps.steps)) c.new-line.ensures.items
     ∙ ap (λ (s : List Step). line_text c.args.log.now.p.now (lines.Proof c.args.number s)) same in
-    subst (λ (t : List ℕ). Puts (g.K.Sink.taken c.args.out.now) (t ++ 10 ∷ []) c.put_with_end.result (g.K.Sink.taken c.put_with_end.new.out)) text c.put_with_end.ensures.text
+    subst (λ (t : List ℕ). Puts (g.K.Sink.taken c.args.out.now) (t ++ 10 ∷ []) c.put_with_end.result (g.K.Sink.taken c.put_with_end.new.out)) text
+    c.put_with_end.ensures.text

@@ -19,7 +19,8 @@ unreachable-requires g c =
     let w : List Letter = subject_at c.args.q.now c.args.number in
     shown_or_stop b w c.in-Err-Stop.field-0-0 c.requires.shown
     (subst (λ (v : List (List Term)). Fails v (fox_at w) (faults.Stop c.in-Err-Stop.field-0-0)) c.entries_below-count.ensures.is
-    (subst (λ f. Fails (take c.entries_below-count.result (g.L.VecList.vectors c.args.log.now.list.now)) (fox_at w) f) c.in-Err-Stop.field-0-is c.in-Err-Stop.ensures.is))
+    (subst (λ f. Fails (take c.entries_below-count.result (g.L.VecList.vectors c.args.log.now.list.now)) (fox_at w) f) c.in-Err-Stop.field-0-is
+    c.in-Err-Stop.ensures.is))
 
 pub returns-in-Ok-clause-is : goal.returns-in-Ok-clause-is
 returns-in-Ok-clause-is g c =
@@ -30,7 +31,10 @@ pub returns-in-Ok-clause-over : goal.returns-in-Ok-clause-over
 returns-in-Ok-clause-over g c =
     let b : List (List Term) = vectors_below (g.L.Front.entries c.args.log.now.list.now) c.args.front in
     let w : List Letter = subject_at c.args.q.now c.args.number in
-    let are : AreStepsOf b w c.in-Ok.steps = subst (λ (v : List (List Term)). AreStepsOf v w c.in-Ok.steps) c.entries_below-count.ensures.is c.in-Ok.ensures.is in
-    let fits : Fits (length c.args.log.now.p.now.names) w = subject_fits c.args.log.now.p.now c.args.q.now c.args.number c.requires.asked.0 c.requires.asked.1 c.requires.first c.requires.within in
-    steps_over (length c.args.log.now.p.now.names) b c.entries_below-count.ensures.entries (vectors_over (length c.args.log.now.p.now.names) c.args.front (g.L.Front.entries c.args.log.now.list.now) c.requires.log.over)
+    let are : AreStepsOf b w c.in-Ok.steps = subst (λ (v : List (List Term)). AreStepsOf v w c.in-Ok.steps) c.entries_below-count.ensures.is
+    c.in-Ok.ensures.is in
+    let fits : Fits (length c.args.log.now.p.now.names) w = subject_fits c.args.log.now.p.now c.args.q.now c.args.number c.requires.asked.0 c.requires.asked.1
+    c.requires.first c.requires.within in
+    steps_over (length c.args.log.now.p.now.names) b c.entries_below-count.ensures.entries
+    (vectors_over (length c.args.log.now.p.now.names) c.args.front (g.L.Front.entries c.args.log.now.list.now) c.requires.log.over)
     w fits.0 fits.1 are.0 c.in-Ok.steps are.1

@@ -15,5 +15,9 @@ returns-in-Hom c = λ p b seal same first.
 
 pub returns-in-Trivial : goal.returns-in-Trivial
 returns-in-Trivial c = λ p b seal same first.
-    let asks : AsksWhetherTrivial c.args.q.now = search rules in
-    (same.0 c.if-not-sealed.false, asks, only_one b c.args.q.now c.args.subject (LeavesSome b) (one_subject c.args.q.now asks) (some_rest b c.args.q.now c.args.subject c.args.rest first))
+    let asks : AsksWhetherTrivial c.args.q.now = search rules in (
+      same.0 c.if-not-sealed.false,
+      asks,
+      only_one b c.args.q.now c.args.subject (LeavesSome b) (one_subject c.args.q.now asks)
+          (some_rest b c.args.q.now c.args.subject c.args.rest first),
+    )

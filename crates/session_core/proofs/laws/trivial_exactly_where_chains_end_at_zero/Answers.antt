@@ -16,7 +16,8 @@ use Rattle.session_core.proofs.laws.trivial_exactly_where_chains_end_at_zero.Goa
 pub returns : goal.returns
 returns c p b w rest known over entries basis ends =
     let chain : IsRest b (fox_at w) rest ends.0 = ends.1 in
-    let decides = c.chains_decide_membership.ensures basis.gens b entries basis.strong (fox_at w) rest ends.0 chain.vector.sparse (runs_are_chains b ends.0 (fox_at w) (coefficient_at rest) chain.runs) chain.end in
+    let decides = c.chains_decide_membership.ensures basis.gens b entries basis.strong (fox_at w) rest ends.0 chain.vector.sparse
+    (runs_are_chains b ends.0 (fox_at w) (coefficient_at rest) chain.runs) chain.end in
     let magnus = c.trivial_exactly_where_member.ensures p w known over in (
       λ trivial. decides.1 (c.members_are_sums_of_the_list.ensures p basis.gens (fox w) basis.generators (magnus.0 trivial)),
       λ e. magnus.1 (c.sums_of_the_list_are_members.ensures p basis.gens (fox w) basis.generators (decides.0 e)),

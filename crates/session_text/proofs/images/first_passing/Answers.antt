@@ -9,7 +9,8 @@ use Rattle.session_text.proofs.images.first_passing.Goals as goal
 pub returns-then-substituted_len-clause-place : goal.returns-then-substituted_len-clause-place
 returns-then-substituted_len-clause-place c =
     let lt : c.loop-j.j < length c.args.words.now = search rules in
-    let here : get_or c.args.words.now c.loop-j.j [] ≡ c.index-words-j.result = sym (c.index-words-j.is ∙ get_or_default c.args.words.now c.loop-j.j c.index-words-j.result [] lt) in
+    let here : get_or c.args.words.now c.loop-j.j [] ≡ c.index-words-j.result =
+    sym (c.index-words-j.is ∙ get_or_default c.args.words.now c.loop-j.j c.index-words-j.result [] lt) in
     let passes : nat_lt COMPOSED (length (word_image c.args.images.now (get_or c.args.words.now c.loop-j.j []))) ≡ true = rw here (search rules) in
     sym (found (λ (r : List Letter). nat_lt COMPOSED (length (word_image c.args.images.now r))) [] c.args.words.now c.loop-j.j lt c.loop-j.invariant passes)
 

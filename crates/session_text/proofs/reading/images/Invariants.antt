@@ -8,7 +8,8 @@ use Rattle.session_text.proofs.reading.images.Given as goal
 
 abbrev pub invariant-loop-alloc : goal.invariant-loop-alloc
 invariant-loop-alloc l = record {
-  so_far : Going (finding l.p.names) l.count (images_at l.count (finding l.p.names) (drop l.fn.reader.at l.fn.reader.text.now)) l.images.items (drop l.reader.at l.fn.reader.text.now);
+  so_far : Going (finding l.p.names) l.count (images_at l.count (finding l.p.names) (drop l.fn.reader.at l.fn.reader.text.now)) l.images.items
+      (drop l.reader.at l.fn.reader.text.now);
   written : AllByRecursion (IsWritten (length l.p.names)) l.images.items;
   few : length l.images.items ≤ l.count;
   inside : l.reader.at ≤ length l.fn.reader.text.now;

@@ -26,7 +26,8 @@ returns-then-is_empty-clause-exact c =
     rw c.into_questions.ensures.questions
     (line_last (finding c.args.p.now.names) c.loop-asked.number c.loop-asked.rest.now c.split_line.result.0.now c.split_line.result.1.now
     (session_text c.args.p.now c.args.text.now) c.loop-asked.asked c.read_line.new.asked
-    c.split_line.ensures.line c.split_line.ensures.rest (none_left (length c.split_line.result.1.now) (sym c.is_empty.ensures ∙ c.if-is_empty.true)) c.loop-asked.invariant.so_far c.in_ok-read_line.ensures.exact)
+    c.split_line.ensures.line c.split_line.ensures.rest (none_left (length c.split_line.result.1.now) (sym c.is_empty.ensures ∙ c.if-is_empty.true))
+    c.loop-asked.invariant.so_far c.in_ok-read_line.ensures.exact)
 
 pub loop-asked-preserved : goal.loop-asked-preserved
 loop-asked-preserved c =
@@ -35,6 +36,7 @@ loop-asked-preserved c =
       so_far = rw (next, c.after_first-rest.ensures.rest)
           (line_more (finding c.args.p.now.names) c.loop-asked.number c.loop-asked.rest.now c.split_line.result.0.now c.split_line.result.1.now
           (session_text c.args.p.now c.args.text.now) c.loop-asked.asked c.read_line.new.asked
-          c.split_line.ensures.line c.split_line.ensures.rest (some_left (length c.split_line.result.1.now) (sym c.is_empty.ensures ∙ c.if-is_empty.false)) c.loop-asked.invariant.so_far c.in_ok-read_line.ensures.exact);
+          c.split_line.ensures.line c.split_line.ensures.rest (some_left (length c.split_line.result.1.now) (sym c.is_empty.ensures ∙ c.if-is_empty.false))
+          c.loop-asked.invariant.so_far c.in_ok-read_line.ensures.exact);
       written = c.in_ok-read_line.ensures.written c.loop-asked.invariant.written;
     }

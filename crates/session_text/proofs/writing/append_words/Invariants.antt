@@ -7,6 +7,7 @@ use Rattle.session_text.proofs.writing.append_words.Given as goal
 
 abbrev pub invariant-loop-word : goal.invariant-loop-word
 invariant-loop-word l = record {
-  text : Left (written_word l.p.names) (codes ", ") l.out.items (drop l.word-index l.others) (l.fn.out.items ++ joined (codes ", ") (map (written_word l.p.names) l.words));
+  text : Left (written_word l.p.names) (codes ", ") l.out.items (drop l.word-index l.others)
+      (l.fn.out.items ++ joined (codes ", ") (map (written_word l.p.names) l.words));
   over : AllByRecursion (IsOver (length l.p.names)) (drop l.word-index l.others);
 }

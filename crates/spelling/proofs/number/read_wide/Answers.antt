@@ -6,7 +6,8 @@ pub returns-in_default : goal.returns-in_default
 returns-in_default c = λ x small e. absurd (c.in_default.ensures.cases.0 (rw e (wide_is_utf8 x small)))
 
 pub returns-in_default-parse : goal.returns-in_default-parse
-returns-in_default-parse c = λ x small e. wide_not c.in_default-parse.field-0 x c.in-Ok.digits.now small (c.in-Ok.ensures.cases.0 ∙ e) c.in_default-parse.ensures.value.0
+returns-in_default-parse c = λ x small e. wide_not c.in_default-parse.field-0 x c.in-Ok.digits.now small (c.in-Ok.ensures.cases.0
+    ∙ e) c.in_default-parse.ensures.value.0
 
 pub returns-else-eq : goal.returns-else-eq
 returns-else-eq c = λ x small e.

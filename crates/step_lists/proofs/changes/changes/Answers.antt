@@ -25,9 +25,15 @@ returns-in_default c =
     let reach = simp to_z-of_z at c.loop-term.invariant.reach in
     let wide = simp to_z-of_z at c.in_default.ensures in
     let place : Place = record { m = c.product.result; c = c.term-item.result.at.c } in
-    let split : c.args.g.now ≡ take c.loop-term.term-index c.args.g.now ++ c.term-item.result ∷ drop (c.loop-term.term-index + 1) c.args.g.now = sym (take-append-drop c.loop-term.term-index c.args.g.now) ∙ ap (λ w. take c.loop-term.term-index c.args.g.now ++ w) (drop_read c.args.g.now c.loop-term.term-index c.term-item.result c.loop-term-test.true c.term-item.is) in
-    let greatest = is_wide (coefficient_at c.args.terms.now.0) c.args.q c.args.t.now c.degree.ensures.monomial.variables c.args.g.now (take c.loop-term.term-index c.args.g.now) c.term-item.result (drop (c.loop-term.term-index + 1) c.args.g.now) place split c.requires.g
-    (in_range c.args.terms.now.0 c.len.ensures.sparse.terms c.len.ensures.sparse.falling) reach (λ j. record { m = c.product.ensures.is j; c = c.term-item.result.at.c })
+    let split : c.args.g.now ≡ take c.loop-term.term-index c.args.g.now ++ c.term-item.result ∷ drop (c.loop-term.term-index + 1) c.args.g.now =
+    sym (take-append-drop c.loop-term.term-index c.args.g.now) ∙ ap (λ w. take c.loop-term.term-index c.args.g.now ++ w)
+    (drop_read c.args.g.now c.loop-term.term-index c.term-item.result c.loop-term-test.true c.term-item.is) in
+    let greatest = is_wide (coefficient_at c.args.terms.now.0) c.args.q c.args.t.now c.degree.ensures.monomial.variables c.args.g.now
+    (take c.loop-term.term-index c.args.g.now) c.term-item.result (drop (c.loop-term.term-index + 1) c.args.g.now) place split c.requires.g
+    (in_range c.args.terms.now.0 c.len.ensures.sparse.terms c.len.ensures.sparse.falling) reach (λ j. record {
+      m = c.product.ensures.is j;
+      c = c.term-item.result.at.c;
+    })
     (subst (λ y. Subtracts y c.args.q c.term-item.result.k None) c.coefficient.ensures wide) in (place, greatest.here)
 
 pub loop-term-preserved : goal.loop-term-preserved
@@ -42,14 +48,17 @@ loop-term-preserved c =
     let push = simp to_z-of_z at c.in_ok-push.ensures.items in
     let place : Place = record { m = c.product.result; c = c.term-item.result.at.c } in
     let moves : place ≡ moved c.args.t.now c.term-item.result.at = λ j. record { m = c.product.ensures.is j; c = c.term-item.result.at.c } in
-    let value : c.in-Some.k ≡ coefficient_at c.args.terms.now.0 place -ℤ c.args.q *ℤ c.term-item.result.k = reduced.0 ∙ ap (λ y. y -ℤ c.args.q *ℤ c.term-item.result.k) c.coefficient.ensures in
+    let value : c.in-Some.k ≡ coefficient_at c.args.terms.now.0 place -ℤ c.args.q *ℤ c.term-item.result.k =
+    reduced.0 ∙ ap (λ y. y -ℤ c.args.q *ℤ c.term-item.result.k) c.coefficient.ensures in
     let own : IsInReach (coefficient_at c.args.terms.now.0) c.args.q c.args.t.now c.term-item.result = record {
       product = reduced.2;
       difference = subst InRange (value ∙ ap (λ x. coefficient_at c.args.terms.now.0 x -ℤ c.args.q *ℤ c.term-item.result.k) moves) reduced.1;
     } in
     simp to_z-of_z (record {
-      is = one_more (coefficient_at c.args.terms.now.0) c.args.q c.args.t.now c.args.g.now c.loop-term.made.items c.push.new.self.items c.loop-term.term-index c.term-item.result place c.in-Some.k c.loop-term-test.true c.term-item.is is push moves value;
-      reach = reach_more (coefficient_at c.args.terms.now.0) c.args.q c.args.t.now c.args.g.now c.loop-term.term-index c.term-item.result c.loop-term-test.true c.term-item.is reach own;
+      is = one_more (coefficient_at c.args.terms.now.0) c.args.q c.args.t.now c.args.g.now c.loop-term.made.items c.push.new.self.items c.loop-term.term-index
+          c.term-item.result place c.in-Some.k c.loop-term-test.true c.term-item.is is push moves value;
+      reach = reach_more (coefficient_at c.args.terms.now.0) c.args.q c.args.t.now c.args.g.now c.loop-term.term-index c.term-item.result c.loop-term-test.true
+          c.term-item.is reach own;
     })
 
 pub returns : goal.returns
@@ -58,8 +67,11 @@ returns c =
     let is = simp to_z-of_z at c.loop-term.invariant.is in
     let reach = simp to_z-of_z at c.loop-term.invariant.reach in
     let whole : take c.loop-term.term-index c.args.g.now ≡ c.args.g.now = take_all c.loop-term.term-index c.args.g.now c.loop-term-test.false in
-    let made : c.loop-term.made.items ≡ map (changed (coefficient_at c.args.terms.now.0) c.args.q c.args.t.now) c.args.g.now = is ∙ ap (map (changed (coefficient_at c.args.terms.now.0) c.args.q c.args.t.now)) whole in (
-      all_are_changes (coefficient_at c.args.terms.now.0) c.args.q c.args.t.now c.degree.ensures.monomial.variables c.args.g.now c.loop-term.made.items c.requires.g
-          (in_range c.args.terms.now.0 c.len.ensures.sparse.terms c.len.ensures.sparse.falling) c.degree.ensures.monomial.most c.requires.room (subst (AllByRecursion (IsInReach (coefficient_at c.args.terms.now.0) c.args.q c.args.t.now)) whole reach) made,
+    let made : c.loop-term.made.items ≡ map (changed (coefficient_at c.args.terms.now.0) c.args.q c.args.t.now) c.args.g.now =
+    is ∙ ap (map (changed (coefficient_at c.args.terms.now.0) c.args.q c.args.t.now)) whole in (
+      all_are_changes (coefficient_at c.args.terms.now.0) c.args.q c.args.t.now c.degree.ensures.monomial.variables c.args.g.now
+          c.loop-term.made.items c.requires.g
+          (in_range c.args.terms.now.0 c.len.ensures.sparse.terms c.len.ensures.sparse.falling) c.degree.ensures.monomial.most c.requires.room
+          (subst (AllByRecursion (IsInReach (coefficient_at c.args.terms.now.0) c.args.q c.args.t.now)) whole reach) made,
       ap length made ∙ length-map c.args.g.now (changed (coefficient_at c.args.terms.now.0) c.args.q c.args.t.now),
     )

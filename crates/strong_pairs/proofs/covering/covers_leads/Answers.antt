@@ -18,11 +18,14 @@ returns-then-divides c =
           elim c.if-by-first.branch [
             | then-by-first v ↦
                 let component : c.args.by.now.at.c ≡ c.args.first.now.at.c = search rules in
-                let reduces : Reduces c.args.by.now (meeting_place c.args.first.now c.args.second.now) = (component, sym v.divides_multiple.ensures ∙ sym v.value-is ∙ w.if-divides_multiple.true) in
+                let reduces : Reduces c.args.by.now (meeting_place c.args.first.now c.args.second.now) =
+                (component, sym v.divides_multiple.ensures ∙ sym v.value-is ∙ w.if-divides_multiple.true) in
                 let test = simp to_z-of_z at w.divides.ensures in
                 let first : Divides c.args.by.now.k c.args.first.now.k = test.0 (sym w.value-is ∙ c.if-divides.true) in
                 ((λ yes. record { reduces = reduces; first = first; second = last.0 yes }), λ covers. last.1 covers.second)
-            | else-by-first v ↦ absurd (let yes : nat_eq c.args.by.now.at.c c.args.first.now.at.c ≡ true = sym v.value-is ∙ w.if-divides_multiple.true in let no = v.if-by-first.false in grind arith)
+            | else-by-first v ↦ absurd (let yes : nat_eq c.args.by.now.at.c c.args.first.now.at.c ≡ true = sym v.value-is ∙ w.if-divides_multiple.true
+                in let no = v.if-by-first.false in grind arith)
           ]
-      | else-divides_multiple w ↦ absurd (let yes : c.if-by-first.value ≡ true = sym w.value-is ∙ c.if-divides.true in let no = w.if-divides_multiple.false in cc)
+      | else-divides_multiple w ↦ absurd (let yes : c.if-by-first.value ≡ true = sym w.value-is ∙ c.if-divides.true
+          in let no = w.if-divides_multiple.false in cc)
     ]

@@ -10,12 +10,14 @@ pub returns-in_err-ended : goal.returns-in_err-ended
 returns-in_err-ended c =
     let find = finding (map string_bytes c.args.names.now) in
     let p = err_from_is_err_and c.from_residual.result c.from_residual.ensures.1 in
-    rw (p.1, p.2) (fails written find (word_at find c.args.text.now) (reading c.loop-state.state) c.loop-state.rest.now c.in_err-ended.field-0.0 c.in_err-ended.ensures.exact c.loop-state.invariant)
+    rw (p.1, p.2) (fails written find (word_at find c.args.text.now) (reading c.loop-state.state) c.loop-state.rest.now c.in_err-ended.field-0.0
+    c.in_err-ended.ensures.exact c.loop-state.invariant)
 
 pub returns-then-ended : goal.returns-then-ended
 returns-then-ended c =
     let find = finding (map string_bytes c.args.names.now) in
-    rw (c.in_ok-word.ensures) (ends written find (word_at find c.args.text.now) (reading c.loop-state.state) (reading c.turn.new.self) c.loop-state.rest.now c.in_ok-ended.after.now
+    rw (c.in_ok-word.ensures) (ends written find (word_at find c.args.text.now) (reading c.loop-state.state) (reading c.turn.new.self) c.loop-state.rest.now
+    c.in_ok-ended.after.now
     (rw c.if-ended.true at c.in_ok-ended.ensures.exact) c.loop-state.invariant)
 
 pub loop-state-preserved : goal.loop-state-preserved

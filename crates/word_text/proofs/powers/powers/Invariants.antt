@@ -6,7 +6,8 @@ use Rattle.word_text.proofs.powers.powers.Given as goal
 
 abbrev pub invariant-loop-rest : goal.invariant-loop-rest
 invariant-loop-rest l = record {
-  so_far : (atom : List Letter) → length atom ≡ l.letters → Going written l.start (powers_at l.start atom l.text) (power_of l.raise.negative l.raise.times atom) l.rest;
+  so_far : (atom : List Letter) → length atom ≡ l.letters
+      → Going written l.start (powers_at l.start atom l.text) (power_of l.raise.negative l.raise.times atom) l.rest;
   small : l.raise.times ≤ 16384;
   shorter : length l.rest ≤ length l.text;
 }

@@ -21,7 +21,8 @@ loop-task-preserved-in-Continue-branch-3 c =
       so_far = rw (
         c.in_ok-write.ensures.letters,
         c.in_ok-write.ensures.tasks,
-        written_on words c.in-Some.task.inverted c.in-Some-line.line c.in-Some.task.word c.loop-task.letters.items c.pop_front.new.self.items c.in-Some-line.ensures.word,
+        written_on words c.in-Some.task.inverted c.in-Some-line.line c.in-Some.task.word c.loop-task.letters.items c.pop_front.new.self.items
+            c.in-Some-line.ensures.word,
       ) whole;
       below = rw (c.in_ok-write.ensures.tasks) (below_on (length words) c.in-Some.task.word c.in-Some.task.inverted c.in-Some-line.line
           c.pop_front.new.self.items held.0 c.in-Some-line.ensures.earlier.1 held.1);

@@ -9,8 +9,10 @@ pub returns-in_err-agrees : goal.returns-in_err-agrees
 returns-in_err-agrees c =
     let p = err_from_is_err_and c.from_residual.result c.from_residual.ensures.1 in
     subst (TakesLine c.args.generators.now c.args.self c.args.line) (sym p.1)
-    (line_ends c.args.generators.now c.args.self c.args.line (λ _. Agrees c.args.generators.now c.args.self c.args.line) p.0 (c.may_follow.ensures.0 c.if-not-may_follow.false)
-    (subst (λ e. Outcome {X = Unit {0}} (λ _. Agrees c.args.generators.now c.args.self c.args.line) (Disagrees c.args.generators.now c.args.self c.args.line) (Err e)) (sym p.2) c.in_err-agrees.ensures))
+    (line_ends c.args.generators.now c.args.self c.args.line (λ _. Agrees c.args.generators.now c.args.self c.args.line) p.0
+    (c.may_follow.ensures.0 c.if-not-may_follow.false)
+    (subst (λ e. Outcome {X = Unit {0}} (λ _. Agrees c.args.generators.now c.args.self c.args.line) (Disagrees c.args.generators.now c.args.self c.args.line)
+    (Err e)) (sym p.2) c.in_err-agrees.ensures))
 
 pub with-requires-clause-valid : goal.with-requires-clause-valid
 with-requires-clause-valid c = (c.args.p.now, c.requires.valid)

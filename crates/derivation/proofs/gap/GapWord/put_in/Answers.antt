@@ -15,4 +15,5 @@ returns c =
     let held = with_items_is (with_items c.self.inside.letters all) c.write_at.new.letters left in
     let moved = with_items_is c.self.inside.letters all (omega arith) in
     let written = rw (c.deref_mut-2.ensures.value, moved) at c.write_at.ensures.letters in
-    rw held (put_in_gap c.args.self.now all c.write_at.new.letters c.args.piece.now c.args.at c.move_gap-self-inside.result (omega arith) (omega arith) word written)
+    rw held (put_in_gap c.args.self.now all c.write_at.new.letters c.args.piece.now c.args.at c.move_gap-self-inside.result (omega arith)
+    (omega arith) word written)

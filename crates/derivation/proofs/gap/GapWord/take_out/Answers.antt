@@ -15,5 +15,6 @@ returns-then-there-clause-there c =
     let held = with_items_is c.self.inside.letters all left in
     let stands = c.if-there.ensures.begins.0 refl in
     let taken : TakesOut c.args.at c.args.piece.now c.args.self.now (take c.args.at all ++ drop (c.move_gap-self-inside.result + length c.args.piece.now) all) =
-    taken_from_gap c.args.self.now all c.args.piece.now _ c.args.at c.move_gap-self-inside.result (omega arith) word (stands.0, rw (c.deref.ensures.value, held, take_rest all c.move_gap-self-inside.result) at stands.1) refl in
+    taken_from_gap c.args.self.now all c.args.piece.now _ c.args.at c.move_gap-self-inside.result (omega arith) word
+    (stands.0, rw (c.deref.ensures.value, held, take_rest all c.move_gap-self-inside.result) at stands.1) refl in
     rw c.if-there.true (rw held taken)

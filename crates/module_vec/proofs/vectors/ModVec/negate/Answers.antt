@@ -12,6 +12,7 @@ invariant_of-self c =
     let new : List Term = c.negate.new.terms in
     let long : length new ≡ length old = c.negate.auto.terms ∙ ap length c.as_mut_slice.ensures.value in
     let none : drop (length new) old ≡ [] = drop_all (length new) old (omega arith) in
-    let written : take c.self.inside.terms.len (new ++ drop (length new) old) ≡ new = ap (λ r. take c.self.inside.terms.len (new ++ r)) none ∙ ap (take c.self.inside.terms.len) (append-nil new) ∙ take_all c.self.inside.terms.len new (omega (arith, long, c.self.inside.terms.ok.0)) in
+    let written : take c.self.inside.terms.len (new ++ drop (length new) old) ≡ new = ap (λ r. take c.self.inside.terms.len (new ++ r)) none
+    ∙ ap (take c.self.inside.terms.len) (append-nil new) ∙ take_all c.self.inside.terms.len new (omega (arith, long, c.self.inside.terms.ok.0)) in
     let sum : sum_of new ≡ scale (negsuc 0) (sum_of old) = c.negate.ensures ∙ ap (λ v. scale (negsuc 0) (sum_of v)) c.as_mut_slice.ensures.value in
     subst IsVector (sym written) (turned_vector old new sum c.self.invariant)

@@ -26,7 +26,8 @@ pub is_closed-closed-requires-clause-s : goal.is_closed-closed-requires-clause-s
 is_closed-closed-requires-clause-s c = λ s.
     let e : BasisEntry = arc_value c.args.entry in
     let grown_by : vectors_of c.enter.new.log.entries ≡ vectors_of c.args.self.now.entries ++ e.vector ∷ [] =
-    ap (λ (l : Logged). vectors_of l.entries) c.enter.ensures.log ∙ (vectors_push c.self.inside.log.entries e ∙ ap (λ (h : Held). vectors_of h.entries ++ e.vector ∷ []) c.self.view_is) in
+    ap (λ (l : Logged). vectors_of l.entries) c.enter.ensures.log ∙ (vectors_push c.self.inside.log.entries e
+    ∙ ap (λ (h : Held). vectors_of h.entries ++ e.vector ∷ []) c.self.view_is) in
     subst (λ (b : List (List Term)). IsClosed b S c.args.task.i c.args.task.j) (sym grown_by) (c.requires.rest.closes s)
 
 pub invariant_of-self : goal.invariant_of-self
@@ -38,7 +39,12 @@ invariant_of-self c =
     let source = subst (λ (h : Held). e.source ≡ h.source) (sym c.self.view_is) c.requires.source in
     let fits = subst (λ (h : Held). Fits h e) (sym c.self.view_is) c.requires.fits in
     let entry = subst IsBasisEntry c.deref.ensures c.vector.ensures.entry in
-    let next : IsNextEntry (vectors_of c.args.self.now.entries) e = record { task = c.args.task; pair = c.requires.pair; made = c.requires.rest.made; undivided = c.requires.undivided } in
+    let next : IsNextEntry (vectors_of c.args.self.now.entries) e = record {
+      task = c.args.task;
+      pair = c.requires.pair;
+      made = c.requires.rest.made;
+      undivided = c.requires.undivided;
+    } in
     let follows = subst (λ (h : Held). IsNextEntry (vectors_of h.entries) e) (sym c.self.view_is) next in
     let entries : c.enter.new.log.entries ≡ old ++ e ∷ [] = ap (λ (l : Logged). l.entries) c.enter.ensures.log in
     let tasks : c.set.new.self ≡ put (grown c.self.inside.tasks (settled_row old e.vector)) c.args.task (state_after closed) =
@@ -46,7 +52,11 @@ invariant_of-self c =
     let shown : closed ≡ true → IsClosed (vectors_of (old ++ e ∷ [])) c.args.task.kind c.args.task.i c.args.task.j =
     λ z. subst (λ (es : List BasisEntry). IsClosed (vectors_of es) c.args.task.kind c.args.task.i c.args.task.j) entries (c.is_closed-closed.ensures.0 z) in
     let book = book_appended (held_of c.self.inside) c.args.task e closed c.self.invariant.book may entry source c.requires.rest.short follows fits shown in
-    let Q : List BasisEntry → Table → Type 0 = λ es ts. IsBook (record (held_of c.self.inside) { entries = es; tasks = ts; commits = c.self.inside.commits + 1 }) in
+    let Q : List BasisEntry → Table → Type 0 = λ es ts. IsBook (record (held_of c.self.inside) {
+      entries = es;
+      tasks = ts;
+      commits = c.self.inside.commits + 1;
+    }) in
     let n = length-append old (e ∷ []) in
     let f0 = fits.0 in
     let logged : IsLogged (record c.self.inside.log { entries = old ++ e ∷ [] }) = record {
@@ -56,8 +66,10 @@ invariant_of-self c =
     } in
     let t = sum_by_push (λ (z : BasisEntry). length z.vector) old e in
     let s = sum_by_push (λ (z : BasisEntry). recipe_steps z.recipe) old e in
-    let long : length c.terms.result.now ≡ length e.vector = ap length (c.terms.ensures.is ∙ (c.vector.ensures.is ∙ ap (λ (z : BasisEntry). z.vector) c.deref.ensures)) in
-    let many : c.steps_in.result ≡ recipe_steps e.recipe = c.steps_in.ensures ∙ ap recipe_steps (c.recipe.ensures ∙ ap (λ (z : BasisEntry). z.recipe) c.deref-2.ensures) in
+    let long : length c.terms.result.now ≡ length e.vector = ap length (c.terms.ensures.is
+    ∙ (c.vector.ensures.is ∙ ap (λ (z : BasisEntry). z.vector) c.deref.ensures)) in
+    let many : c.steps_in.result ≡ recipe_steps e.recipe = c.steps_in.ensures ∙ ap recipe_steps (c.recipe.ensures
+    ∙ ap (λ (z : BasisEntry). z.recipe) c.deref-2.ensures) in
     let ts = ap terms_of entries in
     let ss = ap steps_of entries in
     record {

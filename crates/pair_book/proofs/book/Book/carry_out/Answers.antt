@@ -25,8 +25,10 @@ returns-in-Rest c =
     let new = c.chain_behind.new.self in
     let closed = c.append-closed.result in
     let e : BasisEntry = arc_value c.in-Rest.entry in
-    let n = c.count-number.ensures.is ∙ (length-map c.self.inside.log.entries (λ (x : BasisEntry). x.vector) ∙ ap (λ (h : Held). length h.entries) c.self.view_is) in
-    let T : Task → BasisEntry → Type 0 = λ z x. (IsTrue closed ↔ IsClosed (vectors_of (old.entries ++ x ∷ [])) z.kind z.i z.j) × ClosesChained (appended_by old z x closed) z closed new in
+    let n = c.count-number.ensures.is ∙ (length-map c.self.inside.log.entries (λ (x : BasisEntry). x.vector)
+    ∙ ap (λ (h : Held). length h.entries) c.self.view_is) in
+    let T : Task → BasisEntry → Type 0 = λ z x. (IsTrue closed ↔ IsClosed (vectors_of (old.entries ++ x ∷ [])) z.kind z.i z.j)
+    × ClosesChained (appended_by old z x closed) z closed new in
     let chained = subst (λ (h : Held). ClosesChained h c.task-task.result closed new) c.append-closed.ensures.new c.chain_behind.ensures in
     let here = subst (λ (z : Task). T z e) c.task-task.ensures.is (c.append-closed.ensures.closed, chained) in
     (c.requires, n, subst (λ (x : Close). OnRest x (λ y. T c.args.o.task y)) c.in-Rest.ensures here)

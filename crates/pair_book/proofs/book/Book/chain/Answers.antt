@@ -44,12 +44,15 @@ loop-third-preserved c =
     let new = c.chain_at.new.self in
     let next = c.fellow_before-third.result in
     let own = in_hand mid.entries a x c.loop-third.third c.in-Some.is c.loop-third.invariant.fellow in
-    let done : AreChainedFrom (x + 1) mid a b c.loop-third.self = subst (λ (n : ℕ). AreChainedFrom n mid a b c.loop-third.self) (ap done_from c.in-Some.is) c.loop-third.invariant.chained in
+    let done : AreChainedFrom (x + 1) mid a b c.loop-third.self =
+    subst (λ (n : ℕ). AreChainedFrom n mid a b c.loop-third.self) (ap done_from c.in-Some.is) c.loop-third.invariant.chained in
     let ab : a ≢ b = omega (arith, c.requires.order) in
     let la : a < length mid.entries = omega (arith, c.requires.order, c.requires.within) in
-    let step : AreChainedFrom x mid a b new = chain_step x mid c.loop-third.self new a b c.chain_at.ensures.book ab la c.requires.within own.0 done c.chain_at.ensures.chained in
+    let step : AreChainedFrom x mid a b new = chain_step x mid c.loop-third.self new a b c.chain_at.ensures.book ab la c.requires.within own.0 done
+    c.chain_at.ensures.chained in
     let same = entries_same x mid new a b step in
-    let found : FindsLast (component_at mid.entries) x (component_at mid.entries x) next = subst (λ (es : List BasisEntry). FindsLast (component_at es) x (component_at es x) next) same c.fellow_before-third.ensures in
+    let found : FindsLast (component_at mid.entries) x (component_at mid.entries x) next =
+    subst (λ (es : List BasisEntry). FindsLast (component_at es) x (component_at es x) next) same c.fellow_before-third.ensures in
     record {
       chained = walk_on mid new a b x (component_at mid.entries x) next own.1 found step;
       entries = ap length same;
@@ -57,4 +60,5 @@ loop-third-preserved c =
     }
 
 pub returns : goal.returns
-returns c = walk_end c.args.self.now c.loop-third.self c.args.a c.args.b (subst (λ (n : ℕ). AreChainedFrom n c.args.self.now c.args.a c.args.b c.loop-third.self) (ap done_from c.in_default.is) c.loop-third.invariant.chained)
+returns c = walk_end c.args.self.now c.loop-third.self c.args.a c.args.b
+    (subst (λ (n : ℕ). AreChainedFrom n c.args.self.now c.args.a c.args.b c.loop-third.self) (ap done_from c.in_default.is) c.loop-third.invariant.chained)

@@ -11,7 +11,9 @@ close_if-requires-2-clause-waiting c = λ s.
     let h = c.args.self.now in
     let book = subst IsBook c.self.view_is c.self.invariant.book in
     let due = c.is_due-second.ensures.is.0 s in
-    let w = waiting_still h c.is_due-first.result c.args.a c.args.b c.args.x book c.requires.first c.requires.second c.requires.third c.requires.apart.0 c.requires.apart.1 c.requires.apart.2 due.waiting in
-    let v = subst (λ (t : Task). is_waiting (state_of (closed_if c.is_due-first.result h t).tasks (s_task c.args.b c.args.x)) ≡ true) (sym c.s_task_of.ensures) w in
+    let w = waiting_still h c.is_due-first.result c.args.a c.args.b c.args.x book c.requires.first c.requires.second c.requires.third c.requires.apart.0
+    c.requires.apart.1 c.requires.apart.2 due.waiting in
+    let v = subst (λ (t : Task). is_waiting (state_of (closed_if c.is_due-first.result h t).tasks (s_task c.args.b c.args.x))
+    ≡ true) (sym c.s_task_of.ensures) w in
     let u = subst (λ (z : Held). is_waiting (state_of z.tasks (s_task c.args.b c.args.x)) ≡ true) (sym c.close_if.ensures) v in
     subst (λ (t : Task). is_waiting (state_of c.close_if.new.self.tasks t) ≡ true) (sym c.s_task_of-2.ensures) u

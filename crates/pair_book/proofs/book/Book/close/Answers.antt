@@ -17,7 +17,8 @@ invariant_of-self c =
     let may = subst (λ (h : Held). MayCommit h c.args.task) (sym c.self.view_is) c.requires.may in
     let truly = subst (λ (h : Held). IsClosed (vectors_of h.entries) c.args.task.kind c.args.task.i c.args.task.j) (sym c.self.view_is) c.requires.truly in
     record {
-      book = subst (λ (t : Table). IsBook (record (held_of c.self.inside) { tasks = t; commits = c.self.inside.commits + 1 })) (sym c.set.ensures) (book_closed (held_of c.self.inside) c.args.task c.self.invariant.book may truly);
+      book = subst (λ (t : Table). IsBook (record (held_of c.self.inside) { tasks = t; commits = c.self.inside.commits + 1 })) (sym c.set.ensures)
+          (book_closed (held_of c.self.inside) c.args.task c.self.invariant.book may truly);
       logged = c.self.invariant.logged;
       room = c.self.invariant.room;
       terms = c.self.invariant.terms;

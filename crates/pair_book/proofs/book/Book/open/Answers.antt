@@ -28,9 +28,18 @@ invariant_of-result c =
     let long = length-map c.in_ok-base.base.items arc_value in
     let n : length es ≡ c.len.result = omega (arith, long, c.len.ensures) in
     let source : c.in_ok-try_clone.field-0.value ≡ p = c.in_ok-try_clone.ensures in
-    let Q : Presented → ℕ → List BasisEntry → Type 0 = λ s k xs. IsBook (record { source = s; limits = limits; base = k; entries = xs; tasks = tasks; commits = 0; seal = None }) in
+    let Q : Presented → ℕ → List BasisEntry → Type 0 = λ s k xs. IsBook (record {
+      source = s;
+      limits = limits;
+      base = k;
+      entries = xs;
+      tasks = tasks;
+      commits = 0;
+      seal = None;
+    }) in
     record {
-      book = subst (λ (s : Presented). Q s c.len.result c.enter_all.new.log.entries) (sym source) (subst (λ (k : ℕ). Q p k c.enter_all.new.log.entries) n (subst (λ (xs : List BasisEntry). Q p (length es) xs) (sym e) book));
+      book = subst (λ (s : Presented). Q s c.len.result c.enter_all.new.log.entries) (sym source)
+          (subst (λ (k : ℕ). Q p k c.enter_all.new.log.entries) n (subst (λ (xs : List BasisEntry). Q p (length es) xs) (sym e) book));
       logged = logged;
       room = ap (λ (l : Logged). l.room) c.in_ok-terms.ensures.log ∙ ap (λ (l : Logged). l.room) c.in_ok-log.ensures;
       terms = c.in_ok-terms.ensures.terms ∙ ap terms_of (ap (map arc_value) d ∙ sym e);

@@ -8,7 +8,8 @@ use Rattle.pair_book.proofs.book.Book.soften.Goals as goal
 
 pub invariant_of-self : goal.invariant_of-self
 invariant_of-self c = record {
-  book = subst (λ (t : Table). IsBook (record (held_of c.self.inside) { tasks = t })) (sym c.reopen.ensures.new) (book_reopened (held_of c.self.inside) HardOnes c.self.invariant.book);
+  book = subst (λ (t : Table). IsBook (record (held_of c.self.inside) { tasks = t })) (sym c.reopen.ensures.new)
+      (book_reopened (held_of c.self.inside) HardOnes c.self.invariant.book);
   logged = c.self.invariant.logged;
   room = c.self.invariant.room;
   terms = c.self.invariant.terms;

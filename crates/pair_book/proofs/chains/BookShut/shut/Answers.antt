@@ -32,7 +32,8 @@ returns-clause-exact c =
     let e = ap (λ (z : Held). length z.entries) c.self.view_is in
     let task = c.s_task_of-task.result in
     let q : c.is_closed_state.result ≡ is_closed_later (state_of h.tasks (s_task c.args.i c.args.j)) =
-    c.is_closed_state.ensures ∙ ap is_closed_later (c.state.ensures ∙ (ap (λ (z : Held). state_of z.tasks task) c.self.view_is ∙ ap (state_of h.tasks) c.s_task_of-task.ensures)) in
+    c.is_closed_state.ensures ∙ ap is_closed_later (c.state.ensures ∙ (ap (λ (z : Held). state_of z.tasks task) c.self.view_is
+    ∙ ap (state_of h.tasks) c.s_task_of-task.ensures)) in
     let within : task.j < length h.entries = omega (arith, c.if-task-count.false, c.count.ensures.is, n, e) in
     let is : IsTask (length h.entries) task = (omega (arith, c.if-task.false), within) in
     let k = subst (IsTask (length h.entries)) c.s_task_of-task.ensures is in

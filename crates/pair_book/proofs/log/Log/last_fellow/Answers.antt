@@ -16,4 +16,5 @@ returns c =
     let P : Logged → ℕ → Option ℕ → Type 0 = λ l k o. FindsLast (component_at l.entries) (length l.entries) k o in
     let found = subst (λ (o : Option ℕ). P (logged c.self.inside) own o) (sym c.last.ensures) (c.self.invariant.links.ends own small) in
     let is : own ≡ component_at c.args.self.now.entries c.args.at = ap (λ (t : Term). t.at.c) c.lead-component.ensures.is in
-    subst (λ (l : Logged). P l (component_at c.args.self.now.entries c.args.at) c.last.result) c.self.view_is (subst (λ (k : ℕ). P (logged c.self.inside) k c.last.result) is found)
+    subst (λ (l : Logged). P l (component_at c.args.self.now.entries c.args.at) c.last.result) c.self.view_is
+    (subst (λ (k : ℕ). P (logged c.self.inside) k c.last.result) is found)

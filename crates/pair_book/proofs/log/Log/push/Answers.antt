@@ -18,10 +18,12 @@ invariant_of-self c =
     let e : BasisEntry = arc_value c.args.entry in
     let links = c.push.new.self in
     let room = subst (λ (l : Logged). length l.entries < l.room) (sym c.self.view_is) c.requires in
-    let items : map arc_value c.push_reserved.new.self.items ≡ es ++ e ∷ [] = ap (map arc_value) c.push_reserved.ensures.items ∙ map-append arc_value c.self.inside.entries.items (c.args.entry ∷ []) in
+    let items : map arc_value c.push_reserved.new.self.items ≡ es ++ e ∷ [] = ap (map arc_value) c.push_reserved.ensures.items
+    ∙ map-append arc_value c.self.inside.entries.items (c.args.entry ∷ []) in
     let own : component_at (es ++ e ∷ []) (length es) ≡ c.component.result =
     ap (λ (t : Term). t.at.c) (lead_end es e) ∙ (ap (λ (z : BasisEntry). (lead_of z.vector).at.c) (sym c.deref.ensures) ∙ sym c.component.ensures.is) in
-    let grown = c.push.ensures.linked (component_at (es ++ e ∷ [])) (length es) (linked_still es (e ∷ []) c.self.inside.links.before.items c.self.inside.links.last.items c.self.invariant.links) own in
+    let grown = c.push.ensures.linked (component_at (es ++ e ∷ [])) (length es)
+    (linked_still es (e ∷ []) c.self.inside.links.before.items c.self.inside.links.last.items c.self.invariant.links) own in
     let n = length-append es (e ∷ []) in
     let l = ap length items in
     let entry = subst IsBasisEntry c.deref.ensures c.component.ensures.entry in

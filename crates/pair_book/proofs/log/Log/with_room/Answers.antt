@@ -13,6 +13,7 @@ invariant_of-result c =
     record {
       logged = record { entries = subst (AllByRecursion IsBasisEntry) (sym e) tt; within = omega (arith, n); most = c.requires };
       capacity = c.in_ok-with_capacity.ensures.capacity;
-      links = subst (λ (es : List BasisEntry). AreLinked (component_at es) (length es) links.before.items links.last.items) (sym e) (c.in_ok-with_room.ensures.linked (component_at []));
+      links = subst (λ (es : List BasisEntry). AreLinked (component_at es) (length es) links.before.items links.last.items) (sym e)
+          (c.in_ok-with_room.ensures.linked (component_at []));
       links_capacity = c.in_ok-with_room.ensures.room;
     }

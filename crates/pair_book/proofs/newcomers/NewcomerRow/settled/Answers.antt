@@ -13,7 +13,8 @@ pub returns : goal.returns
 returns c =
     let row : (List BasisEntry × Term) → List Settled = λ v. map (λ (e : BasisEntry). settled_by (lead_of e.vector) v.1) v.0 in
     let entries = c.self.inside.log.now.entries in
-    let k : c.args.i < length (row (entries, c.self.inside.lead)) = subst (λ (v : List BasisEntry × Term). c.args.i < length (row v)) (sym c.self.view_is) c.requires in
+    let k : c.args.i < length (row (entries, c.self.inside.lead)) =
+    subst (λ (v : List BasisEntry × Term). c.args.i < length (row v)) (sym c.self.view_is) c.requires in
     let l = length-map entries (λ (e : BasisEntry). settled_by (lead_of e.vector) c.self.inside.lead) in
     let read = row_read entries c.self.inside.lead c.args.i (omega (arith, k, l)) in
     subst (λ (v : List BasisEntry × Term). slice_get (row v) c.args.i ≡ Some c.settled.result) c.self.view_is

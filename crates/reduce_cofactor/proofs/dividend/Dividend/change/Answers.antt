@@ -8,17 +8,22 @@ use Rattle.reduce_cofactor.proofs.dividend.Dividend.change.Goals as goal
 
 pub set-requires-clause-before : goal.set-requires-clause-before
 set-requires-clause-before c =
-    let split : drop c.loop-change.change-index c.args.changes.now ≡ c.change-item.result ∷ drop (c.loop-change.change-index + 1) c.args.changes.now = drop_read c.args.changes.now c.loop-change.change-index c.change-item.result c.loop-change-test.true c.change-item.is in
+    let split : drop c.loop-change.change-index c.args.changes.now ≡ c.change-item.result ∷ drop (c.loop-change.change-index + 1) c.args.changes.now =
+    drop_read c.args.changes.now c.loop-change.change-index c.change-item.result c.loop-change-test.true c.change-item.is in
     (subst (λ w. StartFrom w (coefficient_at c.loop-change.self.0)) split c.loop-change.invariant.start).0
 
 pub loop-change-preserved : goal.loop-change-preserved
 loop-change-preserved c =
     let rest : List Change = drop (c.loop-change.change-index + 1) c.args.changes.now in
-    let split : drop c.loop-change.change-index c.args.changes.now ≡ c.change-item.result ∷ rest = drop_read c.args.changes.now c.loop-change.change-index c.change-item.result c.loop-change-test.true c.change-item.is in
-    let start : StartFrom (c.change-item.result ∷ rest) (coefficient_at c.loop-change.self.0) = subst (λ w. StartFrom w (coefficient_at c.loop-change.self.0)) split c.loop-change.invariant.start in
+    let split : drop c.loop-change.change-index c.args.changes.now ≡ c.change-item.result ∷ rest =
+    drop_read c.args.changes.now c.loop-change.change-index c.change-item.result c.loop-change-test.true c.change-item.is in
+    let start : StartFrom (c.change-item.result ∷ rest) (coefficient_at c.loop-change.self.0) =
+    subst (λ w. StartFrom w (coefficient_at c.loop-change.self.0)) split c.loop-change.invariant.start in
     record {
-      start = same_start rest (coefficient_at c.set.new.self.0) (with_change c.change-item.result (coefficient_at c.loop-change.self.0)) c.in_ok-set.ensures.is start.1;
-      is = λ x. same_overwritten rest (coefficient_at c.set.new.self.0) (with_change c.change-item.result (coefficient_at c.loop-change.self.0)) c.in_ok-set.ensures.is x
+      start = same_start rest (coefficient_at c.set.new.self.0) (with_change c.change-item.result (coefficient_at c.loop-change.self.0))
+          c.in_ok-set.ensures.is start.1;
+      is = λ x. same_overwritten rest (coefficient_at c.set.new.self.0) (with_change c.change-item.result (coefficient_at c.loop-change.self.0))
+          c.in_ok-set.ensures.is x
           ∙ ap (λ w. overwritten w (coefficient_at c.loop-change.self.0) x) (sym split) ∙ c.loop-change.invariant.is x;
       count = omega (arith, c.in_ok-set.ensures.count, c.loop-change.invariant.count);
     }

@@ -10,49 +10,83 @@ use Rattle.reduce_cofactor.proofs.dividend.Dividend.next.Goals as goal
 
 pub overflow_sub-self : goal.overflow_sub-self
 overflow_sub-self c =
-    let passes : Passes (overlay c.self.inside.changed.entries c.self.inside.given.now) c.in-Some.top (overlay c.self.inside.changed.entries c.in-Some.others.now) =
-    passes_given c.self.inside.changed.entries c.in-Some.top c.in-Some.others.now c.self.inside.given.now c.self.invariant.0 c.in-Some.ensures.0 c.in-Some.ensures.1 in
-    omega (arith, c.self.invariant.2, passes_count (overlay c.self.inside.changed.entries c.self.inside.given.now) (overlay c.self.inside.changed.entries c.in-Some.others.now) c.in-Some.top passes, presence_of c.in-Some.top c.in-Some.others.now c.self.inside.given.now c.self.invariant.0 c.in-Some.ensures.0)
+    let passes : Passes (overlay c.self.inside.changed.entries c.self.inside.given.now) c.in-Some.top
+    (overlay c.self.inside.changed.entries c.in-Some.others.now) =
+    passes_given c.self.inside.changed.entries c.in-Some.top c.in-Some.others.now c.self.inside.given.now c.self.invariant.0 c.in-Some.ensures.0
+    c.in-Some.ensures.1 in
+    omega (
+      arith,
+      c.self.invariant.2,
+      passes_count (overlay c.self.inside.changed.entries c.self.inside.given.now)
+          (overlay c.self.inside.changed.entries c.in-Some.others.now) c.in-Some.top passes,
+      presence_of c.in-Some.top c.in-Some.others.now c.self.inside.given.now c.self.invariant.0 c.in-Some.ensures.0,
+    )
 
 pub invariant_of-self : goal.invariant_of-self
 invariant_of-self c =
-    let passes : Passes (overlay c.self.inside.changed.entries c.self.inside.given.now) c.in-Some.top (overlay c.self.inside.changed.entries c.in-Some.others.now) =
-    passes_given c.self.inside.changed.entries c.in-Some.top c.in-Some.others.now c.self.inside.given.now c.self.invariant.0 c.in-Some.ensures.0 c.in-Some.ensures.1 in
+    let passes : Passes (overlay c.self.inside.changed.entries c.self.inside.given.now) c.in-Some.top
+    (overlay c.self.inside.changed.entries c.in-Some.others.now) =
+    passes_given c.self.inside.changed.entries c.in-Some.top c.in-Some.others.now c.self.inside.given.now c.self.invariant.0 c.in-Some.ensures.0
+    c.in-Some.ensures.1 in
     let all : IsSparse (c.in-Some.top ∷ c.in-Some.others.now) = subst IsSparse c.in-Some.ensures.0 c.self.invariant.0 in (
       record { falling = all.falling.1; terms = all.terms.1 },
       c.self.invariant.1,
-      omega (arith, c.self.invariant.2, passes_count (overlay c.self.inside.changed.entries c.self.inside.given.now) (overlay c.self.inside.changed.entries c.in-Some.others.now) c.in-Some.top passes, presence_of c.in-Some.top c.in-Some.others.now c.self.inside.given.now c.self.invariant.0 c.in-Some.ensures.0),
+      omega (
+        arith,
+        c.self.invariant.2,
+        passes_count (overlay c.self.inside.changed.entries c.self.inside.given.now)
+            (overlay c.self.inside.changed.entries c.in-Some.others.now) c.in-Some.top passes,
+        presence_of c.in-Some.top c.in-Some.others.now c.self.inside.given.now c.self.invariant.0 c.in-Some.ensures.0,
+      ),
     )
 
 pub returns-in-Some-clause-is : goal.returns-in-Some-clause-is
 returns-in-Some-clause-is c =
     subst (λ old. Passes old c.in-Some.top (overlay c.self.inside.changed.entries c.in-Some.others.now)) (λ i. (c.self.view_is i).0)
-    (passes_given c.self.inside.changed.entries c.in-Some.top c.in-Some.others.now c.self.inside.given.now c.self.invariant.0 c.in-Some.ensures.0 c.in-Some.ensures.1)
+    (passes_given c.self.inside.changed.entries c.in-Some.top c.in-Some.others.now c.self.inside.given.now c.self.invariant.0 c.in-Some.ensures.0
+    c.in-Some.ensures.1)
 
 pub overflow_sub-self-2 : goal.overflow_sub-self-2
 overflow_sub-self-2 c =
     let k : FitsSigned w128 c.in_ok-at.k = search rules in
     let removal = c.in_ok-at.ensures.removal in
-    let passes : Passes (overlay c.self.inside.changed.entries c.self.inside.given.now) (record { at = c.in_ok-at.at; k = c.in_ok-at.k }) (overlay c.pop_last.new.self.entries c.without-self-inside.result.now) =
-    subst (λ es. Passes (overlay es c.self.inside.given.now) (record { at = c.in_ok-at.at; k = c.in_ok-at.k }) (overlay c.pop_last.new.self.entries c.without-self-inside.result.now)) (sym removal)
-    (passes_changed c.pop_last.new.self.entries c.in_ok-at.at c.in_ok-at.k c.self.inside.given.now c.without-self-inside.result.now (below_keys c.pop_last.new.self.entries c.in_ok-at.at c.in_ok-at.ensures.all_below)
+    let passes : Passes (overlay c.self.inside.changed.entries c.self.inside.given.now) (record {
+      at = c.in_ok-at.at;
+      k = c.in_ok-at.k;
+    }) (overlay c.pop_last.new.self.entries c.without-self-inside.result.now) =
+    subst (λ es. Passes (overlay es c.self.inside.given.now) (record {
+      at = c.in_ok-at.at;
+      k = c.in_ok-at.k;
+    }) (overlay c.pop_last.new.self.entries c.without-self-inside.result.now)) (sym removal)
+    (passes_changed c.pop_last.new.self.entries c.in_ok-at.at c.in_ok-at.k c.self.inside.given.now c.without-self-inside.result.now
+    (below_keys c.pop_last.new.self.entries c.in_ok-at.at c.in_ok-at.ensures.all_below)
     (λ a. c.in_default.ensures (subst (IsFirstAbove c.self.inside.given.now) (sym removal) a)) c.without-self-inside.ensures) in
     let fewer = simp to_z-of_z at c.presence.ensures in
-    let count = passes_count (overlay c.self.inside.changed.entries c.self.inside.given.now) (overlay c.pop_last.new.self.entries c.without-self-inside.result.now) (record { at = c.in_ok-at.at; k = c.in_ok-at.k }) passes in
+    let count = passes_count (overlay c.self.inside.changed.entries c.self.inside.given.now)
+    (overlay c.pop_last.new.self.entries c.without-self-inside.result.now) (record { at = c.in_ok-at.at; k = c.in_ok-at.k }) passes in
     omega (arith, c.self.invariant.2, count, fewer)
 
 pub invariant_of-self-2 : goal.invariant_of-self-2
 invariant_of-self-2 c =
     let k : FitsSigned w128 c.in_ok-at.k = search rules in
     let removal = c.in_ok-at.ensures.removal in
-    let passes : Passes (overlay c.self.inside.changed.entries c.self.inside.given.now) (record { at = c.in_ok-at.at; k = c.in_ok-at.k }) (overlay c.pop_last.new.self.entries c.without-self-inside.result.now) =
-    subst (λ es. Passes (overlay es c.self.inside.given.now) (record { at = c.in_ok-at.at; k = c.in_ok-at.k }) (overlay c.pop_last.new.self.entries c.without-self-inside.result.now)) (sym removal)
-    (passes_changed c.pop_last.new.self.entries c.in_ok-at.at c.in_ok-at.k c.self.inside.given.now c.without-self-inside.result.now (below_keys c.pop_last.new.self.entries c.in_ok-at.at c.in_ok-at.ensures.all_below)
+    let passes : Passes (overlay c.self.inside.changed.entries c.self.inside.given.now) (record {
+      at = c.in_ok-at.at;
+      k = c.in_ok-at.k;
+    }) (overlay c.pop_last.new.self.entries c.without-self-inside.result.now) =
+    subst (λ es. Passes (overlay es c.self.inside.given.now) (record {
+      at = c.in_ok-at.at;
+      k = c.in_ok-at.k;
+    }) (overlay c.pop_last.new.self.entries c.without-self-inside.result.now)) (sym removal)
+    (passes_changed c.pop_last.new.self.entries c.in_ok-at.at c.in_ok-at.k c.self.inside.given.now c.without-self-inside.result.now
+    (below_keys c.pop_last.new.self.entries c.in_ok-at.at c.in_ok-at.ensures.all_below)
     (λ a. c.in_default.ensures (subst (IsFirstAbove c.self.inside.given.now) (sym removal) a)) c.without-self-inside.ensures) in
     let fewer = simp to_z-of_z at c.presence.ensures in
-    let count = passes_count (overlay c.self.inside.changed.entries c.self.inside.given.now) (overlay c.pop_last.new.self.entries c.without-self-inside.result.now) (record { at = c.in_ok-at.at; k = c.in_ok-at.k }) passes in (
+    let count = passes_count (overlay c.self.inside.changed.entries c.self.inside.given.now)
+    (overlay c.pop_last.new.self.entries c.without-self-inside.result.now) (record { at = c.in_ok-at.at; k = c.in_ok-at.k }) passes in (
       sparse_skips c.in_ok-at.at c.self.inside.given.now c.without-self-inside.result.now c.self.invariant.0 c.without-self-inside.ensures,
-      all_front IsCoefficient c.pop_last.new.self.entries ((c.in_ok-at.at, c.in_ok-at.k) ∷ []) (subst (AllByRecursion IsCoefficient) removal c.self.invariant.1),
+      all_front IsCoefficient c.pop_last.new.self.entries ((c.in_ok-at.at, c.in_ok-at.k) ∷ [])
+          (subst (AllByRecursion IsCoefficient) removal c.self.invariant.1),
       omega (arith, c.self.invariant.2, count, fewer),
     )
 
@@ -60,8 +94,16 @@ pub returns-clause-is : goal.returns-clause-is
 returns-clause-is c =
     let k : FitsSigned w128 c.in_ok-at.k = search rules in
     let removal = c.in_ok-at.ensures.removal in
-    let passes : Passes (overlay c.self.inside.changed.entries c.self.inside.given.now) (record { at = c.in_ok-at.at; k = c.in_ok-at.k }) (overlay c.pop_last.new.self.entries c.without-self-inside.result.now) =
-    subst (λ es. Passes (overlay es c.self.inside.given.now) (record { at = c.in_ok-at.at; k = c.in_ok-at.k }) (overlay c.pop_last.new.self.entries c.without-self-inside.result.now)) (sym removal)
-    (passes_changed c.pop_last.new.self.entries c.in_ok-at.at c.in_ok-at.k c.self.inside.given.now c.without-self-inside.result.now (below_keys c.pop_last.new.self.entries c.in_ok-at.at c.in_ok-at.ensures.all_below)
+    let passes : Passes (overlay c.self.inside.changed.entries c.self.inside.given.now) (record {
+      at = c.in_ok-at.at;
+      k = c.in_ok-at.k;
+    }) (overlay c.pop_last.new.self.entries c.without-self-inside.result.now) =
+    subst (λ es. Passes (overlay es c.self.inside.given.now) (record {
+      at = c.in_ok-at.at;
+      k = c.in_ok-at.k;
+    }) (overlay c.pop_last.new.self.entries c.without-self-inside.result.now)) (sym removal)
+    (passes_changed c.pop_last.new.self.entries c.in_ok-at.at c.in_ok-at.k c.self.inside.given.now c.without-self-inside.result.now
+    (below_keys c.pop_last.new.self.entries c.in_ok-at.at c.in_ok-at.ensures.all_below)
     (λ a. c.in_default.ensures (subst (IsFirstAbove c.self.inside.given.now) (sym removal) a)) c.without-self-inside.ensures) in
-    simp to_z-of_z (subst (λ old. Passes old (record { at = c.in_ok-at.at; k = c.in_ok-at.k }) (overlay c.pop_last.new.self.entries c.without-self-inside.result.now)) (λ i. (c.self.view_is i).0) passes)
+    simp to_z-of_z (subst (λ old. Passes old (record { at = c.in_ok-at.at; k = c.in_ok-at.k })
+    (overlay c.pop_last.new.self.entries c.without-self-inside.result.now)) (λ i. (c.self.view_is i).0) passes)

@@ -13,12 +13,21 @@ overflow_sub-self c =
     let entries = simp to_z-of_z at c.in_ok-insert.ensures.entries in
     let updates = simp to_z-of_z at c.in_ok-insert.ensures.updates.0 in
     let inserts : Inserts c.self.inside.changed.entries c.insert.new.self.entries c.self.inside.given.now c.args.change.now.at c.args.change.now.after =
-    record { coefficients = c.self.invariant.1; given = c.self.invariant.0; place = c.requires.change.place; range = c.requires.change.range; entries = entries; updates = updates } in
+    record {
+      coefficients = c.self.invariant.1;
+      given = c.self.invariant.0;
+      place = c.requires.change.place;
+      range = c.requires.change.range;
+      entries = entries;
+      updates = updates;
+    } in
     let z : FitsSigned w128 c.args.change.now.before = search rules in
     let more = simp to_z-of_z at c.presence.ensures in
     let fewer = simp to_z-of_z at c.presence-2.ensures in
-    let taken : c.presence-2.result ≡ presence (coefficient_at (overlay c.self.inside.changed.entries c.self.inside.given.now) c.args.change.now.at) = fewer ∙ ap presence (c.requires.before ∙ (λ i. coefficient_at (sym c.self.view_is i).0 c.args.change.now.at)) in
-    let count = changed_count c.self.inside.changed.entries c.insert.new.self.entries c.self.inside.given.now c.args.change.now.at c.args.change.now.after inserts in
+    let taken : c.presence-2.result ≡ presence (coefficient_at (overlay c.self.inside.changed.entries c.self.inside.given.now) c.args.change.now.at) =
+    fewer ∙ ap presence (c.requires.before ∙ (λ i. coefficient_at (sym c.self.view_is i).0 c.args.change.now.at)) in
+    let count = changed_count c.self.inside.changed.entries c.insert.new.self.entries c.self.inside.given.now c.args.change.now.at
+    c.args.change.now.after inserts in
     omega (arith, c.self.invariant.2, count, more, taken)
 
 pub invariant_of-self-2 : goal.invariant_of-self-2
@@ -27,12 +36,21 @@ invariant_of-self-2 c =
     let entries = simp to_z-of_z at c.in_ok-insert.ensures.entries in
     let updates = simp to_z-of_z at c.in_ok-insert.ensures.updates.0 in
     let inserts : Inserts c.self.inside.changed.entries c.insert.new.self.entries c.self.inside.given.now c.args.change.now.at c.args.change.now.after =
-    record { coefficients = c.self.invariant.1; given = c.self.invariant.0; place = c.requires.change.place; range = c.requires.change.range; entries = entries; updates = updates } in
+    record {
+      coefficients = c.self.invariant.1;
+      given = c.self.invariant.0;
+      place = c.requires.change.place;
+      range = c.requires.change.range;
+      entries = entries;
+      updates = updates;
+    } in
     let z : FitsSigned w128 c.args.change.now.before = search rules in
     let more = simp to_z-of_z at c.presence.ensures in
     let fewer = simp to_z-of_z at c.presence-2.ensures in
-    let taken : c.presence-2.result ≡ presence (coefficient_at (overlay c.self.inside.changed.entries c.self.inside.given.now) c.args.change.now.at) = fewer ∙ ap presence (c.requires.before ∙ (λ i. coefficient_at (sym c.self.view_is i).0 c.args.change.now.at)) in
-    let count = changed_count c.self.inside.changed.entries c.insert.new.self.entries c.self.inside.given.now c.args.change.now.at c.args.change.now.after inserts in (
+    let taken : c.presence-2.result ≡ presence (coefficient_at (overlay c.self.inside.changed.entries c.self.inside.given.now) c.args.change.now.at) =
+    fewer ∙ ap presence (c.requires.before ∙ (λ i. coefficient_at (sym c.self.view_is i).0 c.args.change.now.at)) in
+    let count = changed_count c.self.inside.changed.entries c.insert.new.self.entries c.self.inside.given.now c.args.change.now.at
+    c.args.change.now.after inserts in (
       c.self.invariant.0,
       new_coefficients c.self.inside.changed.entries c.insert.new.self.entries c.self.inside.given.now c.args.change.now.at c.args.change.now.after inserts,
       omega (arith, c.self.invariant.2, count, more, taken),
@@ -44,7 +62,14 @@ returns-clause-is c x =
     let entries = simp to_z-of_z at c.in_ok-insert.ensures.entries in
     let updates = simp to_z-of_z at c.in_ok-insert.ensures.updates.0 in
     let inserts : Inserts c.self.inside.changed.entries c.insert.new.self.entries c.self.inside.given.now c.args.change.now.at c.args.change.now.after =
-    record { coefficients = c.self.invariant.1; given = c.self.invariant.0; place = c.requires.change.place; range = c.requires.change.range; entries = entries; updates = updates } in
+    record {
+      coefficients = c.self.invariant.1;
+      given = c.self.invariant.0;
+      place = c.requires.change.place;
+      range = c.requires.change.range;
+      entries = entries;
+      updates = updates;
+    } in
     changed_at c.self.inside.changed.entries c.insert.new.self.entries c.self.inside.given.now c.args.change.now.at c.args.change.now.after inserts x
     ∙ (λ i. cond (same_place c.args.change.now.at x) c.args.change.now.after (coefficient_at (c.self.view_is i).0 x))
 
@@ -54,6 +79,19 @@ returns-clause-count c =
     let entries = simp to_z-of_z at c.in_ok-insert.ensures.entries in
     let updates = simp to_z-of_z at c.in_ok-insert.ensures.updates.0 in
     let inserts : Inserts c.self.inside.changed.entries c.insert.new.self.entries c.self.inside.given.now c.args.change.now.at c.args.change.now.after =
-    record { coefficients = c.self.invariant.1; given = c.self.invariant.0; place = c.requires.change.place; range = c.requires.change.range; entries = entries; updates = updates } in
+    record {
+      coefficients = c.self.invariant.1;
+      given = c.self.invariant.0;
+      place = c.requires.change.place;
+      range = c.requires.change.range;
+      entries = entries;
+      updates = updates;
+    } in
     let seen : length (overlay c.self.inside.changed.entries c.self.inside.given.now) ≡ length c.args.self.now.0 = λ i. length (c.self.view_is i).0 in
-    omega (arith, changed_count c.self.inside.changed.entries c.insert.new.self.entries c.self.inside.given.now c.args.change.now.at c.args.change.now.after inserts, presence_most c.args.change.now.after, seen)
+    omega (
+      arith,
+      changed_count c.self.inside.changed.entries c.insert.new.self.entries c.self.inside.given.now c.args.change.now.at c.args.change.now.after
+          inserts,
+      presence_most c.args.change.now.after,
+      seen,
+    )

@@ -13,19 +13,23 @@ use Rattle.reduce_cofactor.proofs.merging.Merged.make.Goals as goal
 
 pub returns-then-made-eq-STEPS-clause-is : goal.returns-then-made-eq-STEPS-clause-is
 returns-then-made-eq-STEPS-clause-is c b f top read due is h =
-    merged_deep b f c.args.self.now.steps.items (row_of c.args.v.now c.args.self.now.vector) c.args.self.now.passed top read h c.args.step c.args.entry.now due is (omega (arith, c.len-made.ensures, c.if-made-eq-STEPS.true))
+    merged_deep b f c.args.self.now.steps.items (row_of c.args.v.now c.args.self.now.vector) c.args.self.now.passed top read h c.args.step c.args.entry.now due
+    is (omega (arith, c.len-made.ensures, c.if-made-eq-STEPS.true))
 
 pub returns-in-Err-clause-is : goal.returns-in-Err-clause-is
 returns-in-Err-clause-is c b f top read due is h =
     let q : FitsSigned w128 c.args.step.q = search rules in
     let same : to_z w128 (of_z w128 c.args.step.q) ≡ c.args.step.q = to_z-of_z w128 c.args.step.q q in
-    let fails = subst (λ z. Makes (DifferenceIsWide (coefficient_at c.row.result.now) (multiple_at z c.args.step.t c.args.entry.now)) (difference_at (coefficient_at c.row.result.now) (multiple_at z c.args.step.t c.args.entry.now)) (Err c.in-Err.fault)) same c.in-Err.ensures in
+    let fails = subst (λ z. Makes (DifferenceIsWide (coefficient_at c.row.result.now) (multiple_at z c.args.step.t c.args.entry.now))
+    (difference_at (coefficient_at c.row.result.now) (multiple_at z c.args.step.t c.args.entry.now)) (Err c.in-Err.fault)) same c.in-Err.ensures in
     let count : c.len-made.result ≡ length c.args.self.now.steps.items = omega (arith, c.len-made.ensures) in
     let few : length c.args.self.now.steps.items < STEPS = omega (arith, c.len-made.ensures, c.if-made-eq-STEPS.false, c.requires.made) in
     subst (Fails b f) (sym c.fault_at.ensures)
     (subst (λ n. Fails b f (fault_at c.in-Err.fault (n + 1))) (sym count)
-    (merged_fails b f c.args.self.now.steps.items (row_of c.args.v.now c.args.self.now.vector) c.args.self.now.passed top read h c.args.step c.args.entry.now due is c.in-Err.fault few
-    (subst (λ (u : List Term). Makes (DifferenceIsWide (coefficient_at u) (multiple_at c.args.step.q c.args.step.t c.args.entry.now)) (difference_at (coefficient_at u) (multiple_at c.args.step.q c.args.step.t c.args.entry.now)) (Err c.in-Err.fault)) c.row.ensures fails)))
+    (merged_fails b f c.args.self.now.steps.items (row_of c.args.v.now c.args.self.now.vector) c.args.self.now.passed top read h c.args.step c.args.entry.now
+    due is c.in-Err.fault few
+    (subst (λ (u : List Term). Makes (DifferenceIsWide (coefficient_at u) (multiple_at c.args.step.q c.args.step.t c.args.entry.now))
+    (difference_at (coefficient_at u) (multiple_at c.args.step.q c.args.step.t c.args.entry.now)) (Err c.in-Err.fault)) c.row.ensures fails)))
 
 pub returns-clause-is : goal.returns-clause-is
 returns-clause-is c b f top read due is h =
@@ -33,5 +37,7 @@ returns-clause-is c b f top read due is h =
     let made = simp to_z-of_z at c.in-Ok.ensures in
     let few : length c.args.self.now.steps.items < STEPS = omega (arith, c.len-made.ensures, c.if-made-eq-STEPS.false, c.requires.made) in
     subst (λ (u : List Step). HasPassed b f u c.in-Ok.w c.args.self.now.passed) (sym c.in_ok-push.ensures.items)
-    (merged_goes b f c.args.self.now.steps.items (row_of c.args.v.now c.args.self.now.vector) c.args.self.now.passed top read h c.args.step c.args.entry.now due is c.in-Ok.w few
-    (subst (λ (u : List Term). IsMade (DifferenceIsWide (coefficient_at u) (multiple_at c.args.step.q c.args.step.t c.args.entry.now)) (difference_at (coefficient_at u) (multiple_at c.args.step.q c.args.step.t c.args.entry.now)) c.in-Ok.w) c.row.ensures made))
+    (merged_goes b f c.args.self.now.steps.items (row_of c.args.v.now c.args.self.now.vector) c.args.self.now.passed top read h c.args.step c.args.entry.now due
+    is c.in-Ok.w few
+    (subst (λ (u : List Term). IsMade (DifferenceIsWide (coefficient_at u) (multiple_at c.args.step.q c.args.step.t c.args.entry.now))
+    (difference_at (coefficient_at u) (multiple_at c.args.step.q c.args.step.t c.args.entry.now)) c.in-Ok.w) c.row.ensures made))

@@ -5,4 +5,5 @@ use Rattle.reduce_cofactor.proofs.Merges.{sparse_drop}
 use Rattle.reduce_cofactor.proofs.reduction.Reduction.new.Goals as goal
 
 pub new-requires : goal.new-requires
-new-requires c = subst IsSparse (sym (c.split_at.ensures.back ∙ ap (λ (u : List Term). drop c.args.passed u) c.terms.ensures.is)) (sparse_drop c.args.passed c.args.v.now c.terms.ensures.vector.sparse)
+new-requires c = subst IsSparse (sym (c.split_at.ensures.back ∙ ap (λ (u : List Term). drop c.args.passed u) c.terms.ensures.is))
+    (sparse_drop c.args.passed c.args.v.now c.terms.ensures.vector.sparse)

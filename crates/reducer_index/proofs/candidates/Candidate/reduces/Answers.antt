@@ -7,7 +7,8 @@ pub returns-then-self-mask : goal.returns-then-self-mask
 returns-then-self-mask c = (
   λ yes. absurd cc,
   λ reducing.
-      let same : bit_and c.args.self.now.mask c.args.mask ≡ c.args.self.now.mask = mask_passes c.args.leads.now c.args.at.now c.args.self.now c.args.mask c.requires.candidate c.requires.mask reducing in
+      let same : bit_and c.args.self.now.mask c.args.mask ≡ c.args.self.now.mask =
+      mask_passes c.args.leads.now c.args.at.now c.args.self.now c.args.mask c.requires.candidate c.requires.mask reducing in
       let other = c.if-self-mask.true in
       grind (arith, nat_tests),
 )

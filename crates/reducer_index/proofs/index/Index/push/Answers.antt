@@ -16,10 +16,12 @@ invariant_of-self-2 c =
     let at = c.place_of-at.result in
     let few : length es + 1 < 2 ^ 32 = subst (λ (l : List Term). length l + 1 < 2 ^ 32) (sym c.self.view_is) c.requires in
     let number : x.number ≡ length es = search (rules, arith) in
-    let leads : c.push_reserved.new.self.items ≡ es ++ c.args.lead ∷ [] = c.push_reserved.ensures.items ∙ ap (λ (l : List Term). l ++ c.args.lead ∷ []) c.reserve.ensures.items in
+    let leads : c.push_reserved.new.self.items ≡ es ++ c.args.lead ∷ [] = c.push_reserved.ensures.items
+    ∙ ap (λ (l : List Term). l ++ c.args.lead ∷ []) c.reserve.ensures.items in
     let candidates : c.insert.new.self.items ≡ insert xs at x = search rules in
     let last : slice_get (es ++ c.args.lead ∷ []) x.number ≡ Some c.args.lead = ap (slice_get (es ++ c.args.lead ∷ [])) number ∙ read_push_new c.args.lead es in
     let own : IsCandidateOf (es ++ c.args.lead ∷ []) x = c.new-candidate.ensures.is (es ++ c.args.lead ∷ []) last in
     let order : IsInOrder (insert xs at x) = subst (λ (l : List Candidate). IsInOrder (insert l at x)) c.deref.ensures.value c.place_of-at.ensures.order in
     subst (λ (l : List Term). IsIndex l c.insert.new.self.items) (sym leads)
-    (subst (λ (l : List Candidate). IsIndex (es ++ c.args.lead ∷ []) l) (sym candidates) (index_more es xs c.args.lead x at c.self.invariant number own order few))
+    (subst (λ (l : List Candidate). IsIndex (es ++ c.args.lead ∷ []) l) (sym candidates)
+    (index_more es xs c.args.lead x at c.self.invariant number own order few))

@@ -7,5 +7,6 @@ use Rattle.report_text.proofs.fronts.BelowVecList.find.Goals as goal
 pub returns : goal.returns
 returns g c =
     subst (λ (b : List (List Term)). FindsReducer b c.args.at.now c.find.result)
-    (vectors_first c.args.front c.args.self.now.front (g.L.VecList.vectors c.args.self.now.list.now) (g.L.Front.entries c.args.self.now.list.now) (g.met.L.Front.vectors_are c.args.self.now.list.now) (search rules))
+    (vectors_first c.args.front c.args.self.now.front (g.L.VecList.vectors c.args.self.now.list.now) (g.L.Front.entries c.args.self.now.list.now)
+    (g.met.L.Front.vectors_are c.args.self.now.list.now) (search rules))
     c.find.ensures

@@ -9,4 +9,5 @@ pub returns-in-Some : goal.returns-in-Some
 returns-in-Some c =
     let ks : List Kept = c.deref.result.now in
     let read : slice_get ks (length ks - 1) ≡ Some c.in-Some.kept.now = sym c.last.ensures.value ∙ ap option_copied c.in-Some.is in
-    sym (front_of_last c.self.inside.base ks c.in-Some.kept.now read) ∙ ap (front_after c.self.inside.base) c.deref.ensures.value ∙ ap (λ (s : SessionState). last_front s) c.self.view_is
+    sym (front_of_last c.self.inside.base ks c.in-Some.kept.now read) ∙ ap (front_after c.self.inside.base) c.deref.ensures.value
+    ∙ ap (λ (s : SessionState). last_front s) c.self.view_is

@@ -13,7 +13,8 @@ loop-change-preserved c =
     let k : FitsSigned w128 c.change-item.result.k = search rules in
     let set = simp to_z-of_z at c.in_ok-set.ensures.is in
     let rest : List Term = drop (c.loop-change.change-index + 1) c.args.changes.now in
-    let split : drop c.loop-change.change-index c.args.changes.now ≡ c.change-item.result ∷ rest = drop_read c.args.changes.now c.loop-change.change-index c.change-item.result c.loop-change-test.true c.change-item.is in
+    let split : drop c.loop-change.change-index c.args.changes.now ≡ c.change-item.result ∷ rest =
+    drop_read c.args.changes.now c.loop-change.change-index c.change-item.result c.loop-change-test.true c.change-item.is in
     record {
       is = λ x. same_overwritten rest (coefficient_at c.set.new.self.0) (with_one c.change-item.result (coefficient_at c.loop-change.self.0)) set x
           ∙ ap (λ w. overwritten w (coefficient_at c.loop-change.self.0) x) (sym split) ∙ c.loop-change.invariant.is x;

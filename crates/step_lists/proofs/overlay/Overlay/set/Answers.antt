@@ -14,7 +14,14 @@ overflow_sub-self c =
     let entries = simp to_z-of_z at c.in_ok-insert.ensures.entries in
     let updates = simp to_z-of_z at c.in_ok-insert.ensures.updates.0 in
     let inserts : Inserts c.self.inside.changed.entries c.insert.new.self.entries c.self.inside.given.now c.args.at c.args.k =
-    record { coefficients = c.self.invariant.1; given = c.self.invariant.0; place = c.requires.place; range = c.requires.range; entries = entries; updates = updates } in
+    record {
+      coefficients = c.self.invariant.1;
+      given = c.self.invariant.0;
+      place = c.requires.place;
+      range = c.requires.range;
+      entries = entries;
+      updates = updates;
+    } in
     let z : FitsSigned w128 c.former-before.result = search rules in
     let old : ℤ = coefficient_at (overlay c.self.inside.changed.entries c.self.inside.given.now) c.args.at in
     let before : c.former-before.result ≡ old =
@@ -33,7 +40,14 @@ invariant_of-self-2 c =
     let entries = simp to_z-of_z at c.in_ok-insert.ensures.entries in
     let updates = simp to_z-of_z at c.in_ok-insert.ensures.updates.0 in
     let inserts : Inserts c.self.inside.changed.entries c.insert.new.self.entries c.self.inside.given.now c.args.at c.args.k =
-    record { coefficients = c.self.invariant.1; given = c.self.invariant.0; place = c.requires.place; range = c.requires.range; entries = entries; updates = updates } in
+    record {
+      coefficients = c.self.invariant.1;
+      given = c.self.invariant.0;
+      place = c.requires.place;
+      range = c.requires.range;
+      entries = entries;
+      updates = updates;
+    } in
     let z : FitsSigned w128 c.former-before.result = search rules in
     let old : ℤ = coefficient_at (overlay c.self.inside.changed.entries c.self.inside.given.now) c.args.at in
     let before : c.former-before.result ≡ old =
@@ -55,7 +69,14 @@ returns-clause-is c x =
     let entries = simp to_z-of_z at c.in_ok-insert.ensures.entries in
     let updates = simp to_z-of_z at c.in_ok-insert.ensures.updates.0 in
     let inserts : Inserts c.self.inside.changed.entries c.insert.new.self.entries c.self.inside.given.now c.args.at c.args.k =
-    record { coefficients = c.self.invariant.1; given = c.self.invariant.0; place = c.requires.place; range = c.requires.range; entries = entries; updates = updates } in
+    record {
+      coefficients = c.self.invariant.1;
+      given = c.self.invariant.0;
+      place = c.requires.place;
+      range = c.requires.range;
+      entries = entries;
+      updates = updates;
+    } in
     changed_at c.self.inside.changed.entries c.insert.new.self.entries c.self.inside.given.now c.args.at c.args.k inserts x
     ∙ (λ i. cond (same_place c.args.at x) c.args.k (coefficient_at (c.self.view_is i).0 x))
 
@@ -65,6 +86,18 @@ returns-clause-count c =
     let entries = simp to_z-of_z at c.in_ok-insert.ensures.entries in
     let updates = simp to_z-of_z at c.in_ok-insert.ensures.updates.0 in
     let inserts : Inserts c.self.inside.changed.entries c.insert.new.self.entries c.self.inside.given.now c.args.at c.args.k =
-    record { coefficients = c.self.invariant.1; given = c.self.invariant.0; place = c.requires.place; range = c.requires.range; entries = entries; updates = updates } in
+    record {
+      coefficients = c.self.invariant.1;
+      given = c.self.invariant.0;
+      place = c.requires.place;
+      range = c.requires.range;
+      entries = entries;
+      updates = updates;
+    } in
     let seen : length (overlay c.self.inside.changed.entries c.self.inside.given.now) ≡ length c.args.self.now.0 = λ i. length (c.self.view_is i).0 in
-    omega (arith, changed_count c.self.inside.changed.entries c.insert.new.self.entries c.self.inside.given.now c.args.at c.args.k inserts, presence_most c.args.k, seen)
+    omega (
+      arith,
+      changed_count c.self.inside.changed.entries c.insert.new.self.entries c.self.inside.given.now c.args.at c.args.k inserts,
+      presence_most c.args.k,
+      seen,
+    )

@@ -10,4 +10,5 @@ returns c =
     let q : FitsSigned w128 c.args.q = search rules in
     let z : FitsSigned w128 (pos 0 -ℤ c.args.q) = search rules in
     let taken = simp to_z-of_z at c.take.ensures in
-    added (coefficient_at c.args.self) (multiple_at c.args.q c.args.t.now c.args.g.now) (multiple_at (pos 0 -ℤ c.args.q) c.args.t.now c.args.g.now) c.take.result (turned_from_zero c.args.q c.args.t.now c.args.g.now) taken
+    added (coefficient_at c.args.self) (multiple_at c.args.q c.args.t.now c.args.g.now) (multiple_at (pos 0 -ℤ c.args.q) c.args.t.now c.args.g.now)
+    c.take.result (turned_from_zero c.args.q c.args.t.now c.args.g.now) taken

@@ -18,4 +18,5 @@ returns g c =
     let m = subst Q (sym c.self.view_is) c.requires in
     let r = c.advanced-at.ensures.row lt in
     let P : Table → Type 0 = λ t. IsLeast c.args.wanted vectors t c.task_at.result in
-    subst P c.self.view_is (least_at c.args.wanted vectors (table_of c.self.inside) at c.task_at.result h f (omega (arith, r.0, c.count.ensures.is, m)) c.task_at.ensures.number c.task_at.ensures.task)
+    subst P c.self.view_is (least_at c.args.wanted vectors (table_of c.self.inside) at c.task_at.result h f (omega (arith, r.0, c.count.ensures.is, m))
+    c.task_at.ensures.number c.task_at.ensures.task)

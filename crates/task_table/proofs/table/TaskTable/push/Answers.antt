@@ -29,6 +29,8 @@ invariant_of-self g c =
     record {
       table = record { states = omega (arith, n, r, a, l, m, c.self.invariant.table.states); within = omega (arith, k); most = c.self.invariant.table.most };
       capacity = omega (arith, c.push_row.ensures.capacity, c.self.invariant.capacity);
-      open_hint = subst (λ (ss : List TaskState). IsHint OpenOnes ss c.self.inside.open_hint) (sym e) (hint_append OpenOnes c.self.inside.states.items row c.self.inside.open_hint c.self.invariant.open_hint);
-      unclosed_hint = subst (λ (ss : List TaskState). IsHint Unclosed ss c.self.inside.unclosed_hint) (sym e) (hint_append Unclosed c.self.inside.states.items row c.self.inside.unclosed_hint c.self.invariant.unclosed_hint);
+      open_hint = subst (λ (ss : List TaskState). IsHint OpenOnes ss c.self.inside.open_hint) (sym e)
+          (hint_append OpenOnes c.self.inside.states.items row c.self.inside.open_hint c.self.invariant.open_hint);
+      unclosed_hint = subst (λ (ss : List TaskState). IsHint Unclosed ss c.self.inside.unclosed_hint) (sym e)
+          (hint_append Unclosed c.self.inside.states.items row c.self.inside.unclosed_hint c.self.invariant.unclosed_hint);
     }

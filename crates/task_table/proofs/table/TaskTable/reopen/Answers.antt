@@ -23,11 +23,16 @@ invariant_of-self c =
     let items = c.self.inside.states.items in
     let new = c.reopen_all-count.new.states in
     let changed : new ≡ map f items = c.reopen_all-count.ensures.changed ∙ ap (map f) c.deref_mut.ensures.value in
-    let n : c.self.inside.states.len ≡ length new = sym (ap length c.reopen_all-count.ensures.changed ∙ (length-map c.deref_mut.result.now f ∙ c.deref_mut.ensures.len)) in
+    let n : c.self.inside.states.len ≡ length new = sym (ap length c.reopen_all-count.ensures.changed
+    ∙ (length-map c.deref_mut.result.now f ∙ c.deref_mut.ensures.len)) in
     let e = written_back c.self.inside.states.len new (drop (length new) items) n ∙ changed in
     let h = hint_reopened c.args.from items c.self.inside.unclosed_hint c.self.invariant.unclosed_hint in
     record {
-      table = record { states = ap length e ∙ (length-map items f ∙ c.self.invariant.table.states); within = c.self.invariant.table.within; most = c.self.invariant.table.most };
+      table = record {
+        states = ap length e ∙ (length-map items f ∙ c.self.invariant.table.states);
+        within = c.self.invariant.table.within;
+        most = c.self.invariant.table.most;
+      };
       capacity = c.self.invariant.capacity;
       open_hint = subst (λ (ss : List TaskState). IsHint OpenOnes ss c.self.inside.unclosed_hint) (sym e) h.1;
       unclosed_hint = subst (λ (ss : List TaskState). IsHint Unclosed ss c.self.inside.unclosed_hint) (sym e) h.0;

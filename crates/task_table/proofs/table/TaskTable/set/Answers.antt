@@ -16,7 +16,11 @@ invariant_of-self c =
     let w = number_within c.args.task c.self.inside.count k in
     let at : number_of c.args.task < length c.self.inside.states.items = omega (arith, w, c.self.invariant.table.states) in
     rw c.number-at.ensures (record {
-      table = record { states = length-set c.self.inside.states.items (number_of c.args.task) c.args.state ∙ c.self.invariant.table.states; within = c.self.invariant.table.within; most = c.self.invariant.table.most };
+      table = record {
+        states = length-set c.self.inside.states.items (number_of c.args.task) c.args.state ∙ c.self.invariant.table.states;
+        within = c.self.invariant.table.within;
+        most = c.self.invariant.table.most;
+      };
       capacity = c.self.invariant.capacity;
       open_hint = c.after-self-inside.ensures c.self.inside.states.items at c.self.invariant.open_hint;
       unclosed_hint = c.after-self-inside-2.ensures c.self.inside.states.items at c.self.invariant.unclosed_hint;

@@ -15,4 +15,5 @@ returns c =
     let P : Table → Type 0 = λ t. IsTask t.count c.args.task in let k = subst P (sym c.self.view_is) c.requires in
     let w = number_within c.args.task c.self.inside.count k in
     let at : c.number.result < length c.self.inside.states.items = omega (arith, w, c.number.ensures, c.self.invariant.table.states) in
-    is_state c.self.inside.states.items c.args.task c.number.result c.index.result.now c.number.ensures at c.index.ensures ∙ ap (λ (t : Table). state_of t c.args.task) c.self.view_is
+    is_state c.self.inside.states.items c.args.task c.number.result c.index.result.now c.number.ensures at c.index.ensures
+    ∙ ap (λ (t : Table). state_of t c.args.task) c.self.view_is

@@ -19,10 +19,12 @@ returns-clause-draft c =
     let h = c.in_ok-self-inside.ensures in
     let e : c.self.inside.brackets.items ≡ c.unwrap-bracket.result ∷ c.pop_front.new.self.items =
     c.pop_front.ensures.items ∙ ap (λ (o : Option Bracket). option_to_list o ++ c.pop_front.new.self.items) c.unwrap-bracket.ensures in
-    let first : word_of c.self.inside.program c.first_word_of.result ≡ first_word (innermost (map (frame_of c.self.inside.program) c.self.inside.brackets.items)).opening =
+    let first : word_of c.self.inside.program c.first_word_of.result
+    ≡ first_word (innermost (map (frame_of c.self.inside.program) c.self.inside.brackets.items)).opening =
     rw (c.first_word_of.ensures) (sym (first_seen c.self.inside.program c.self.inside.brackets.items)) in
     let atom : word_of c.commutator.new.self c.in_ok-self-inside.field-0
-    ≡ commutator (first_word (innermost (map (frame_of c.self.inside.program) c.self.inside.brackets.items)).opening) (word_of c.self.inside.program c.self.inside.product_at) =
+    ≡ commutator (first_word (innermost (map (frame_of c.self.inside.program) c.self.inside.brackets.items)).opening)
+    (word_of c.self.inside.program c.self.inside.product_at) =
     rw (← first) h.2 in
     rw (← c.self.view_is) (closed_seen c.self.inside.program c.commutator.new.self c.unwrap-bracket.result c.self.inside.brackets.items
     c.pop_front.new.self.items c.self.inside.product_at c.self.inside.atom_at c.in_ok-self-inside.field-0 _ c.self.invariant e h.0 atom)

@@ -25,4 +25,5 @@ invariant_of-result c =
     let is = c.terms.ensures.is in
     let empty : length c.in-Ok.v ≡ 0 = grind arith in
     let closed = closes b c.count.ensures.entries c.args.i c.args.j pair c.in-Ok.v c.in-Ok.ensures (none c.in-Ok.v empty) in
-    subst (AreClosedPairs b) (sym c.in_ok-push.ensures.items) (all_append (λ p. IsClosedPair b p.0 p.1) c.self.inside.pairs.items ((c.args.i, c.args.j) ∷ []) c.self.invariant (closed, tt))
+    subst (AreClosedPairs b) (sym c.in_ok-push.ensures.items) (all_append (λ p. IsClosedPair b p.0 p.1) c.self.inside.pairs.items ((c.args.i, c.args.j) ∷ [])
+    c.self.invariant (closed, tt))
