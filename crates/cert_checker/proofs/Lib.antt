@@ -1,10 +1,14 @@
+-- lists, steps and signs
 pub mod Lists
 pub mod Passing
-pub mod Images
 pub mod Signs
-pub mod Agreeing
 pub mod ShortWords
-pub mod Telling
+pub mod Images
+-- what entries and proofs come to
+pub mod Agreeing
 pub mod Members
+-- texts, line by line
+pub mod Telling
+-- what a yes says, and the places that faults name
 pub mod Soundness
 pub mod Named

@@ -1,17 +1,21 @@
+-- pieces, and letters with a gap
 pub mod Inverses
 pub mod PieceLemmas
-pub mod Deciding
-pub mod MoveLemmas
-pub mod Runs
 pub mod GapLemmas
-pub mod Reaching
-pub mod TrivialLaws
+pub mod MoveLemmas
+-- a move has one answer, and a list one outcome
+pub mod Deciding
 pub mod OneAnswer
 pub mod OneOutcome
+-- what moves reach
+pub mod Runs
+pub mod Reaching
 pub mod Staying
+pub mod TrivialLaws
+-- texts
 pub mod Lines
-pub mod WordEnds
 pub mod LineLists
+pub mod WordEnds
 pub mod Spelled
 pub mod ReadAgain
 pub mod TextLaws

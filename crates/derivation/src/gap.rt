@@ -99,7 +99,7 @@ impl GapWord {
     }
 }
 
-// Moves the gap of these letters to a place of the word, and answers where it ends then.
+/// Moves the gap of these letters to a place of the word, and answers where it ends then.
 #[tactic(auto, using(crate::proofs::GapLemmas::gap_goes_left, crate::proofs::GapLemmas::gap_goes_right))]
 fn move_gap(letters: &mut [Letter], start: usize, end: usize, at: usize) -> usize
     requires ordered { start ≤ end }
@@ -120,7 +120,7 @@ fn move_gap(letters: &mut [Letter], start: usize, end: usize, at: usize) -> usiz
     }
 }
 
-// Writes letters over those from a place on.
+/// Writes letters over those from a place on.
 fn write_at(letters: &mut [Letter], at: usize, piece: &[Letter])
     requires { at + length piece.now ≤ length letters.old }
     ensures length { length letters.new ≡ length letters.old }
@@ -129,7 +129,7 @@ fn write_at(letters: &mut [Letter], at: usize, piece: &[Letter])
     letters[at..at + piece.len()].copy_from_slice(piece);
 }
 
-// Takes the gap out of the letters.
+/// Takes the gap out of the letters.
 fn close_gap(letters: &mut Vec<Letter>, start: usize, end: usize)
     requires { (start ≤ end) × (end ≤ length letters.old.items) }
     ensures { letters.new.items ≡ take start letters.old.items ++ drop end letters.old.items }
@@ -139,7 +139,7 @@ fn close_gap(letters: &mut Vec<Letter>, start: usize, end: usize)
     letters.truncate(left);
 }
 
-// Whether the letters begin with a piece.
+/// Whether the letters begin with a piece.
 #[tactic(auto, using(crate::proofs::Deciding::begins))]
 fn begins_with(letters: &[Letter], piece: &[Letter]) -> bool
     ensures begins { IsTrue result ↔ ((back : List Letter) × (letters.now ≡ piece.now ++ back)) }

@@ -13,7 +13,7 @@ use presentation::{Presentation, WordReader};
 use std::alloc::Global;
 use word_text::ReadFault;
 
-// Whether a piece is taken out, or put in.
+/// Whether a piece is taken out, or put in.
 #[tactic(auto, unfolding(crate::specs::Reading::direction_at))]
 fn direction(reader: &mut WordReader) -> Result<bool, ReadFault>
     requires { reader.old.at ≤ length reader.old.text.now }
@@ -32,7 +32,7 @@ fn direction(reader: &mut WordReader) -> Result<bool, ReadFault>
     }
 }
 
-// The comma that is due.
+/// The comma that is due.
 #[tactic(auto, unfolding(crate::specs::Reading::comma_at))]
 fn comma(reader: &mut WordReader) -> Result<(), ReadFault>
     requires { reader.old.at ≤ length reader.old.text.now }
@@ -50,7 +50,7 @@ fn comma(reader: &mut WordReader) -> Result<(), ReadFault>
     }
 }
 
-// A word behind a comma.
+/// A word behind a comma.
 #[tactic(auto, unfolding(crate::specs::Reading::next_word))]
 fn next_word(alloc: Global, reader: &mut WordReader, p: &Presentation) -> Result<Word, ReadFault>
     requires { reader.old.at ≤ length reader.old.text.now }
@@ -65,7 +65,7 @@ fn next_word(alloc: Global, reader: &mut WordReader, p: &Presentation) -> Result
     reader.at_word(alloc, p)
 }
 
-// Two words with a comma between them.
+/// Two words with a comma between them.
 #[tactic(auto, unfolding(crate::specs::Reading::two_words))]
 fn two_words(
     alloc: Global,
@@ -85,7 +85,7 @@ fn two_words(
     Ok((first, second))
 }
 
-// A relator's number, and `inv` where its inverse is meant.
+/// A relator's number, and `inv` where its inverse is meant.
 #[tactic(auto, unfolding(crate::specs::Reading::relator_at))]
 fn relator(reader: &mut WordReader) -> Result<Insert, ReadFault>
     requires { reader.old.at ≤ length reader.old.text.now }
@@ -101,7 +101,7 @@ fn relator(reader: &mut WordReader) -> Result<Insert, ReadFault>
     Ok(Insert::Rel { relator, inverse })
 }
 
-// Four words.
+/// Four words.
 #[tactic(auto, unfolding(crate::specs::Reading::double_at))]
 fn double(alloc: Global, reader: &mut WordReader, p: &Presentation) -> Result<Insert, ReadFault>
     requires { reader.old.at ≤ length reader.old.text.now }
@@ -118,7 +118,7 @@ fn double(alloc: Global, reader: &mut WordReader, p: &Presentation) -> Result<In
     Ok(Insert::Dbl(a, b, c, d))
 }
 
-// Two words whose commutator is raised to the modulus.
+/// Two words whose commutator is raised to the modulus.
 #[tactic(auto, unfolding(crate::specs::Reading::power_at))]
 fn power(alloc: Global, reader: &mut WordReader, p: &Presentation) -> Result<Insert, ReadFault>
     requires { reader.old.at ≤ length reader.old.text.now }
@@ -133,7 +133,7 @@ fn power(alloc: Global, reader: &mut WordReader, p: &Presentation) -> Result<Ins
     Ok(Insert::Pow(a, b))
 }
 
-// What is put in or taken out.
+/// What is put in or taken out.
 #[tactic(auto, unfolding(crate::specs::Reading::insert_at))]
 fn insert(alloc: Global, reader: &mut WordReader, p: &Presentation) -> Result<Insert, ReadFault>
     requires { reader.old.at ≤ length reader.old.text.now }
@@ -157,7 +157,7 @@ fn insert(alloc: Global, reader: &mut WordReader, p: &Presentation) -> Result<In
     }
 }
 
-// Blanks alone, to the end of the line.
+/// Blanks alone, to the end of the line.
 #[tactic(auto, unfolding(crate::specs::Reading::ending_at))]
 fn ending(reader: &WordReader) -> Result<(), ReadFault>
     requires { reader.now.at ≤ length reader.now.text.now }

@@ -73,7 +73,7 @@ impl MovingWord {
         }
     }
 
-    // Puts a piece in at a place, where the word stays within the limit.
+    /// Puts a piece in at a place, where the word stays within the limit.
     #[tactic(auto, using(crate::proofs::MoveLemmas::put_at))]
     fn put_in(&mut self, at: usize, piece: &Piece) -> Result<(), MoveFault>
         requires at { at ≤ length self.old }
@@ -91,7 +91,7 @@ impl MovingWord {
         Ok(())
     }
 
-    // Takes a piece out from a place on, where it stands there.
+    /// Takes a piece out from a place on, where it stands there.
     #[tactic(auto, using(crate::proofs::MoveLemmas::too_long_to_stand))]
     fn take_out(&mut self, at: usize, piece: &Piece) -> Result<(), MoveFault>
         requires at { at ≤ length self.old }

@@ -23,7 +23,7 @@ pub enum Piece<'a> {
     Power(&'a Word, &'a Word, u32),
 }
 
-// The relator of that number, from 1.
+/// The relator of that number, from 1.
 fn find_relator(relators: &[Word], number: u32) -> Option<&Word>
     ensures { option_copied result ≡ relator_at relators.now number }
 {
@@ -92,7 +92,7 @@ impl Piece<'_> {
     }
 }
 
-// The length of the commutator of two words.
+/// The length of the commutator of two words.
 #[tactic(auto, using(free_words::proofs::WordLemmas::length_commutator))]
 fn commutator_len(a: &Word, b: &Word) -> u64
     ensures length { result ≡ length (commutator a.now b.now) }
@@ -131,7 +131,7 @@ fn put_commutator(a: &Word, b: &Word, letters: &mut Vec<Letter>) -> Result<(), A
     put_inverse(b.letters(), letters)
 }
 
-// The commutator so many times. However often the empty word is taken, nothing is put.
+/// The commutator so many times. However often the empty word is taken, nothing is put.
 #[tactic(auto, using(crate::proofs::PieceLemmas::nothing_put))]
 fn put_power(a: &Word, b: &Word, times: u32, letters: &mut Vec<Letter>) -> Result<(), AllocError>
     ensures { OnOk result (letters.new.items ≡ letters.old.items ++ copies times (commutator a.now b.now)) }

@@ -14,14 +14,14 @@ use presentation::{Presentation, WordReader};
 use std::alloc::Global;
 use word_text::{ReadFault, after_first};
 
-// How many bytes stand before the first LF, or before the end where there is none.
+/// How many bytes stand before the first LF, or before the end where there is none.
 fn line_len(text: &[u8]) -> usize
     ensures { result ≡ length (take_while (λ b. not (b == 10)) text.now) }
 {
     text.iter().take_while(|b| **b != b'\n').count()
 }
 
-// The first line, and what follows it, with its LF in front.
+/// The first line, and what follows it, with its LF in front.
 fn split_line(text: &[u8]) -> (&[u8], &[u8])
     ensures line { result.0.now ≡ take (prefix_len (λ b. not (b == 10)) text.now) text.now }
     ensures rest { result.1.now ≡ drop (prefix_len (λ b. not (b == 10)) text.now) text.now }
@@ -30,7 +30,7 @@ fn split_line(text: &[u8]) -> (&[u8], &[u8])
     text.split_at(line_len(text))
 }
 
-// Puts the move of the line of this number, if it has one, behind those before.
+/// Puts the move of the line of this number, if it has one, behind those before.
 fn read_line(
     alloc: Global,
     p: &Presentation,
@@ -58,7 +58,7 @@ fn read_line(
     }
 }
 
-// The moves that the text spells, or the first fault.
+/// The moves that the text spells, or the first fault.
 fn read_exactly(alloc: Global, p: &Presentation, text: &[u8]) -> Result<Vec<Move>, ReadFault>
     ensures exact { ReadsMoves (derivation_text p.now text.now) result }
     ensures over { IfOk result (λ moves. All (λ m. IsInsertOver p.now m.what) moves.items) }

@@ -39,7 +39,7 @@ pub fn check_steps(
     }
 }
 
-// Makes the moves one after another, up to the first that can't be made.
+/// Makes the moves one after another, up to the first that can't be made.
 fn make_all(moving: &mut MovingWord, p: &Presentation, moves: &[Move]) -> Result<(), StepsFault>
     requires { All (λ m. IsInsertOver p.now m.what) moves.now }
     ensures ok { OnOk result (Runs p.now moving.old moves.now moving.new) }
@@ -54,7 +54,7 @@ fn make_all(moving: &mut MovingWord, p: &Presentation, moves: &[Move]) -> Result
     Ok(())
 }
 
-// The fault of a move that stands behind so many others.
+/// The fault of a move that stands behind so many others.
 fn at_move(before: usize, fault: MoveFault) -> StepsFault
     requires { before < 2 ^ 63 }
     ensures { IsAtMove before fault result }

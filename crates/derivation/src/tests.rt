@@ -18,7 +18,7 @@ fn word_of(rt: &impl Abort, alloc: Global, p: &Presentation, text: &str) -> Word
     read_word(alloc, p, text.as_bytes()).expect(rt, "a word")
 }
 
-// A letter: generators as a, b, inverses as A, B.
+/// A letter: generators as a, b, inverses as A, B.
 fn push_letter(out: &mut String, l: Letter) -> Result<(), AllocError> {
     out.push(match (l.g, l.inv) {
         (0, false) => 'a',
@@ -35,7 +35,7 @@ fn push_word(out: &mut String, w: &Word) -> Result<(), AllocError> {
     Ok(())
 }
 
-// The words, each in brackets.
+/// The words, each in brackets.
 fn push_words(out: &mut String, words: &[&Word]) -> Result<(), AllocError> {
     for w in words {
         out.push('(')?;
@@ -67,7 +67,7 @@ fn push_insert(alloc: Global, out: &mut String, what: &Insert) -> Result<(), All
     }
 }
 
-// The moves, each with a semicolon behind it.
+/// The moves, each with a semicolon behind it.
 fn shown(alloc: Global, moves: &[Move]) -> Result<String, AllocError> {
     let mut out = String::new(alloc);
     for m in moves {
@@ -205,7 +205,7 @@ fn moves_are_refused(rt: HostRuntime) {
     }
 }
 
-// What the derivation makes of the word.
+/// What the derivation makes of the word.
 fn carried_out(
     rt: &impl Abort,
     alloc: Global,

@@ -1,7 +1,9 @@
+-- the terms of a word, and that they are few and small
 pub mod Sums
-pub mod Turns
+pub mod LetterTerms
 pub mod Short
-pub mod Puts
+pub mod Over
+-- the list of generators, and its module
+pub mod GrowingLists
 pub mod Listed
 pub mod Members
-pub mod Over

@@ -29,7 +29,7 @@ pub fn generators(alloc: Global, p: &Presentation) -> Result<Vec<ModVec>, AllocE
     Ok(made)
 }
 
-// Puts the vector at the end, unless it is zero.
+/// Puts the vector at the end, unless it is zero.
 fn put(made: &mut Vec<ModVec>, v: ModVec) -> Result<(), AllocError>
     ensures { OnOk result ((fs : List (FormalSum Place)) (f : FormalSum Place) → IsWritten f v
         → AreWritten fs made.old.items → AreWritten (fs ++ f ∷ []) made.new.items) }
@@ -56,7 +56,7 @@ fn put_relator_vectors(
     Ok(())
 }
 
-// (m - 1)·e_c for each of so many components c.
+/// (m - 1)·e_c for each of so many components c.
 fn put_binomials(
     alloc: Global,
     made: &mut Vec<ModVec>,
@@ -116,7 +116,7 @@ fn put_modulus_vectors(
     put_constants(alloc, made, p.modulus(), p.count())
 }
 
-// n·e_c for each of so many components c.
+/// n·e_c for each of so many components c.
 fn put_constants(alloc: Global, made: &mut Vec<ModVec>, n: u32, count: u8) -> Result<(), AllocError>
     ensures { OnOk result ((fs : List (FormalSum Place)) → AreWritten fs made.old.items
         → AreWritten (fs ++ map (Rattle.fox_calculus.specs.Generators.constant n) (range_with_len 0 count))

@@ -26,7 +26,7 @@ pub fn letter_terms(alloc: Global, word: &[Letter]) -> Result<Vec<Term>, AllocEr
     Ok(terms)
 }
 
-// The term of a letter behind letters with these exponent sums, to which it is added.
+/// The term of a letter behind letters with these exponent sums, to which it is added.
 fn letter_term(sums: &mut [i32; 24], l: Letter) -> Term
     requires known { l.g < GENERATORS }
     requires small { sum_by unsigned_abs sums.old < DEGREE }
@@ -45,7 +45,7 @@ fn letter_term(sums: &mut [i32; 24], l: Letter) -> Term
     Term { at, k: 1 }
 }
 
-// The place of a generator behind letters with these exponent sums.
+/// The place of a generator behind letters with these exponent sums.
 fn place(sums: &[i32; 24], g: u8) -> Place
     requires { sum_by unsigned_abs sums.now ≤ DEGREE }
     ensures { result ≡ record { m = monomial_of sums.now; c = g } }

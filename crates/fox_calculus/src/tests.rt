@@ -6,17 +6,17 @@ use module_vec::{ModVec, Term};
 use presentation::{read_presentation, read_word};
 use std::alloc::Global;
 
-// A term: the exponent sums that its monomial stands for, its component, and its coefficient.
+/// A term: the exponent sums that its monomial stands for, its component, and its coefficient.
 type Row = (&'static [i32], u8, i128);
 
-// The Fox vector of a word over a presentation, given as texts.
+/// The Fox vector of a word over a presentation, given as texts.
 fn vector(alloc: Global, p: &str, w: &str) -> Option<ModVec> {
     let p = read_presentation(alloc, p.as_bytes()).ok()?;
     let w = read_word(alloc, &p, w.as_bytes()).ok()?;
     fox(alloc, &p, &w).ok()
 }
 
-// How many generators the module of a presentation has, and how many terms the first of them has.
+/// How many generators the module of a presentation has, and how many terms the first of them has.
 fn counts(alloc: Global, p: &str) -> Option<(usize, usize)> {
     let p = read_presentation(alloc, p.as_bytes()).ok()?;
     let made = generators(alloc, &p).ok()?;

@@ -1,3 +1,4 @@
+-- Words: lengths, inverses, powers and commutators, and what keeps a word reduced.
 use Rattle.std.proofs.lemmas.List.{length-map, length-reverse, map-append, reverse-append, append-nil}
 use Rattle.std.proofs.Common.{◌+◌, ◌≡◌, ℕ, zero, suc, ◌*◌, Bool, true, false, not, List, [], ◌∷◌, ◌++◌, length, refl, sym, ◌∙◌, ap, subst, arith, append_assoc}
 use Rattle.std.proofs.Common.{length-append, take, ◌-◌, ℤ, pos, negsuc, neg_ℤ, reverse, int_lt, if◌then◌else◌}
@@ -128,3 +129,6 @@ power-mul w m n =
 pub ruleset inverses = (inverse-append, inverse-inverse)
 
 pub ruleset powers = (power-add, power-mul, power-neg)
+
+-- what a letter at the end does to a reduced word
+pub ruleset ends = (IsReduced_push, IsReduced_pop, cancels_front, front_is_take)

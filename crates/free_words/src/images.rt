@@ -8,7 +8,7 @@ use crate::making::put_inverse;
 use crate::word::Word;
 use std::alloc::{AllocError, Global};
 
-// The length of the image. A word has fewer than 2^32 letters, and so has each image: the sum fits.
+/// The length of the image. A word has fewer than 2^32 letters, and so has each image: the sum fits.
 pub fn image_len(word: &[Letter], images: &[Word]) -> u64
     requires known { IsOver (length images.now) word.now }
     requires short { length word.now < 2 ^ 32 }
@@ -21,7 +21,7 @@ pub fn image_len(word: &[Letter], images: &[Word]) -> u64
     total
 }
 
-// The image. There is room for so many letters from the start.
+/// The image. There is room for so many letters from the start.
 pub fn image_of(
     alloc: Global,
     word: &[Letter],
@@ -38,7 +38,7 @@ pub fn image_of(
     Ok(letters)
 }
 
-// Puts the image of a letter at the end.
+/// Puts the image of a letter at the end.
 fn put_image(letters: &mut Vec<Letter>, l: Letter, images: &[Word]) -> Result<(), AllocError>
     requires { l.g < length images.now }
     ensures { OnOk result (letters.new.items ≡ letters.old.items ++ letter_image images.now l) }

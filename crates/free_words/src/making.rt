@@ -6,7 +6,7 @@ ghost use Rattle.free_words.specs.Words.{inverse, commutator, copies};
 use crate::letter::Letter;
 use std::alloc::{AllocError, Global};
 
-// So many copies, one after another. No time goes into copies of nothing, of which there may be 2^32.
+/// So many copies, one after another. No time goes into copies of nothing, of which there may be 2^32.
 #[tactic(auto, using(crate::proofs::WordLemmas::copies_of_nothing))]
 pub fn repeated(alloc: Global, base: &[Letter], times: u32) -> Result<Vec<Letter>, AllocError>
     requires { times * length base.now < 2 ^ 32 }
@@ -44,7 +44,7 @@ pub fn commutator_of(alloc: Global, u: &[Letter], v: &[Letter]) -> Result<Vec<Le
     Ok(letters)
 }
 
-// Puts the inverse of these letters at the end.
+/// Puts the inverse of these letters at the end.
 pub fn put_inverse(letters: &mut Vec<Letter>, u: &[Letter]) -> Result<(), AllocError>
     ensures { OnOk result (letters.new.items ≡ letters.old.items ++ inverse u.now) }
 {

@@ -7,7 +7,7 @@ ghost use Rattle.free_words.specs.Words.{flipped, IsReduced, Cancels};
 use crate::letter::Letter;
 use std::alloc::{AllocError, Global};
 
-// The letters that stay when each letter goes with its inverse before it.
+/// The letters that stay when each letter goes with its inverse before it.
 pub fn cancelled(alloc: Global, word: &[Letter]) -> Result<Vec<Letter>, AllocError>
     ensures reduced { IfOk result (λ v. IsReduced v.items) }
     ensures same { IfOk result (λ v. Cancels word.now v.items) }
@@ -20,8 +20,8 @@ pub fn cancelled(alloc: Global, word: &[Letter]) -> Result<Vec<Letter>, AllocErr
     Ok(letters)
 }
 
-// Puts one more letter at the end, where it goes with its inverse.
-#[tactic(auto, using(crate::proofs::WordLemmas::IsReduced_push, crate::proofs::WordLemmas::IsReduced_pop, crate::proofs::WordLemmas::cancels_front, crate::proofs::WordLemmas::front_is_take))]
+/// Puts one more letter at the end, where it goes with its inverse.
+#[tactic(auto, using(crate::proofs::WordLemmas::ends))]
 fn put(letters: &mut Vec<Letter>, l: Letter) -> Result<(), AllocError>
     ensures reduced { OnOk result (IsReduced letters.old.items → IsReduced letters.new.items) }
     ensures same { OnOk result ((t w : List Letter) → Cancels (letters.new.items ++ t) w
@@ -36,7 +36,7 @@ fn put(letters: &mut Vec<Letter>, l: Letter) -> Result<(), AllocError>
     Ok(())
 }
 
-// Whether the last letter is the inverse of this one.
+/// Whether the last letter is the inverse of this one.
 fn ends_with_inverse(letters: &[Letter], l: Letter) -> bool
     ensures { IsTrue result ↔ ((front : List Letter) × (letters.now ≡ front ++ flipped l ∷ [])) }
 {

@@ -6,7 +6,7 @@ ghost use Rattle.free_words.specs.Words.{IsOver, exponent_sum};
 use crate::letter::Letter;
 use crate::{COMPOSED, GENERATORS};
 
-// The exponent sum of each generator.
+/// The exponent sum of each generator.
 pub fn exponents_of(word: &[Letter]) -> [i32; 24]
     requires known { IsOver GENERATORS word.now }
     requires short { length word.now ≤ COMPOSED }
@@ -20,7 +20,7 @@ pub fn exponents_of(word: &[Letter]) -> [i32; 24]
     sums
 }
 
-// 1 for a generator, -1 for its inverse.
+/// 1 for a generator, -1 for its inverse.
 fn exponent(l: Letter) -> i32
     ensures { result ≡ (if l.inv then negsuc 0 else pos 1) }
 {

@@ -21,7 +21,7 @@ fn word(alloc: Global, letters: &[Letter]) -> Result<Word, AllocError>
     Ok(Word::of(letters.to_vec(alloc)?))
 }
 
-// a b^-1, by pushes
+/// a b^-1, by pushes
 fn pushed(alloc: Global) -> Result<Word, WordFault> {
     let mut w = Word::new(alloc);
     w.push(A, 2)?;
@@ -85,7 +85,7 @@ fn takes_powers(rt: HostRuntime) -> Result<(), Fail> {
     Ok(())
 }
 
-// How long the power is, or would be.
+/// How long the power is, or would be.
 fn power_len(alloc: Global, letters: &[Letter], k: i32, limit: u32) -> Result<u64, AllocError>
     requires { length letters.now < 2 ^ 32 }
 {
@@ -162,7 +162,7 @@ fn sums_exponents(rt: HostRuntime) -> Result<(), Fail> {
     Ok(())
 }
 
-// a for the first generator, and a^3 for the second
+/// a for the first generator, and a^3 for the second
 fn images(alloc: Global) -> Result<Vec<Word>, AllocError>
     ensures { IfOk result (λ v. length v.items ≡ 2) }
 {

@@ -202,7 +202,7 @@ impl Word {
     }
 }
 
-// This number of letters, where it is within the limit.
+/// This number of letters, where it is within the limit.
 fn within(letters: u64, limit: u32) -> Result<usize, WordFault>
     ensures ok { IfOk result (λ n. (n ≡ letters) × (letters ≤ limit)) }
     ensures err { IfErr result (λ e. (e ≡ WordFault.TooLong letters) × (limit < letters)) }

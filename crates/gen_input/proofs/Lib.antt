@@ -1,1 +1,2 @@
-pub mod Writing
+-- lines, one after another
+pub mod LineTexts

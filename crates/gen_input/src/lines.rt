@@ -83,7 +83,7 @@ pub fn put_line(out: &mut Vec<u8>, line: Line) -> Result<(), AllocError>
     }
 }
 
-// trivial [x^i,y^j]^m
+/// Appends `trivial [x^i,y^j]^m`.
 fn put_trivial(out: &mut Vec<u8>, line: Line) -> Result<(), AllocError>
     ensures { OnOk result (out.new.items ≡ out.old.items ++ form_text forms.Trivial line) }
 {
@@ -94,7 +94,7 @@ fn put_trivial(out: &mut Vec<u8>, line: Line) -> Result<(), AllocError>
     put_numbered(out, b"]^", line.m)
 }
 
-// equal x^i y^j = y^j x^i [x,y]^m
+/// Appends `equal x^i y^j = y^j x^i [x,y]^m`.
 fn put_equal(out: &mut Vec<u8>, line: Line) -> Result<(), AllocError>
     ensures { OnOk result (out.new.items ≡ out.old.items ++ form_text forms.Equal line) }
 {
@@ -106,7 +106,7 @@ fn put_equal(out: &mut Vec<u8>, line: Line) -> Result<(), AllocError>
     put_commutator(out, line.x, line.y, line.m)
 }
 
-// The product of two powers.
+/// The product of two powers.
 fn put_product(out: &mut Vec<u8>, u: (u8, u32), v: (u8, u32)) -> Result<(), AllocError>
     ensures { OnOk result (out.new.items ≡ out.old.items ++ product (power u.0 u.1) (power v.0 v.1)) }
 {
@@ -115,7 +115,7 @@ fn put_product(out: &mut Vec<u8>, u: (u8, u32), v: (u8, u32)) -> Result<(), Allo
     put_power(out, v.0, v.1)
 }
 
-// The power of the commutator of two generators.
+/// The power of the commutator of two generators.
 fn put_commutator(out: &mut Vec<u8>, x: u8, y: u8, m: u32) -> Result<(), AllocError>
     ensures { OnOk result (out.new.items ≡ out.old.items ++ commutator (x ∷ []) (y ∷ []) m) }
 {
@@ -126,7 +126,7 @@ fn put_commutator(out: &mut Vec<u8>, x: u8, y: u8, m: u32) -> Result<(), AllocEr
     put_numbered(out, b"]^", m)
 }
 
-// normal [x^i,y]^m
+/// Appends `normal [x^i,y]^m`.
 fn put_normal(out: &mut Vec<u8>, line: Line) -> Result<(), AllocError>
     ensures { OnOk result (out.new.items ≡ out.old.items ++ form_text forms.Normal line) }
 {
@@ -137,7 +137,7 @@ fn put_normal(out: &mut Vec<u8>, line: Line) -> Result<(), AllocError>
     put_numbered(out, b"]^", line.m)
 }
 
-// hom <s,u | [s,u]^m> -> x^i, y^j
+/// Appends `hom <s,u | [s,u]^m> -> x^i, y^j`.
 fn put_hom(out: &mut Vec<u8>, line: Line) -> Result<(), AllocError>
     ensures { OnOk result (out.new.items ≡ out.old.items ++ form_text forms.Hom line) }
 {

@@ -95,6 +95,13 @@ impl Mono {
         self.total
     }
 
+    /// What holds of every monomial: it has 48 exponents, which add up to at most [`DEGREE`].
+    pub fn known(&self)
+        ensures { IsMonomial self.now }
+    {
+        let _total = &self.total;
+    }
+
     /// Whether no exponent of `self` is above that of `other`.
     pub fn divides(&self, other: &Mono) -> bool
         ensures { result ≡ divides self.now other.now }

@@ -53,3 +53,5 @@ module _ (p : Presented) where
 
   pub congruent_sum : (v v' w w' : FormalSum Place) → AreCongruent p v v' → AreCongruent p w w' → AreCongruent p (v ++ w) (v' ++ w')
   congruent_sum v v' w w' h k = spanned_difference-append same_place moved HasVariables (IsGenerator p) v v' w w' h k
+
+pub ruleset member_sums = (member_nothing, member_sum, member_same)

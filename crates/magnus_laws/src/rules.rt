@@ -35,7 +35,7 @@ pub fn fox_of_cancelled()
 {}
 
 /// The module has 0, sums, multiples by integers and monomials, and each sum that is the same as one of its elements.
-#[tactic(auto, using(crate::proofs::Members::member_nothing, crate::proofs::Members::member_sum, crate::proofs::Members::member_same))]
+#[tactic(auto, using(crate::proofs::Members::member_sums))]
 pub fn members_form_a_module()
     ensures nothing { (p : Presented) → IsMember p [] }
     ensures sum { (p : Presented) (v w : FormalSum Place) → IsMember p v → IsMember p w → IsMember p (v ++ w) }

@@ -7,7 +7,7 @@ ghost use Rattle.mb_io.specs.declared.load.LoadFault.TheVariants.{ReadFault, NoM
 use crate::shelf::{Failed, Shelf};
 use std::alloc::{AllocError, AllocFailed, Global};
 
-// How many bytes one read asks for.
+/// How many bytes one read asks for.
 const PIECE: usize = 16_384;
 
 /// Why the bytes under a name were not read.
@@ -51,7 +51,7 @@ impl From<Failed> for LoadFault {
 ///
 /// It reads to the end, or stops at the first read that fails or passes the limit. Each turn takes at least one byte,
 /// so at most `limit` + 1 turns read bytes. The shelf then stands where the last read left it.
-#[tactic(auto, using(crate::proofs::Giving::gives_nothing, crate::proofs::Giving::gives_more, crate::proofs::Giving::gives_all, crate::proofs::Giving::gives_length, crate::proofs::Giving::rose_later))]
+#[tactic(auto, using(crate::proofs::Giving::pieces))]
 pub fn read_all<S: Shelf>(
     alloc: Global,
     shelf: &mut S,

@@ -108,7 +108,7 @@ impl Shelf for MemShelf {
     }
 }
 
-// The place of the first file of a name.
+/// The place of the first file of a name.
 #[tactic(auto, unfolding(crate::specs::Files::first_place))]
 fn place_of(files: &[NamedBytes], name: &str) -> Option<usize>
     ensures { result ≡ first_place files.now name.now }
@@ -116,7 +116,7 @@ fn place_of(files: &[NamedBytes], name: &str) -> Option<usize>
     files.iter().position(|f| f.name() == name)
 }
 
-// The bytes of the open file that were not given.
+/// The bytes of the open file that were not given.
 fn bytes_left(files: &[NamedBytes], place: Option<usize>, given: usize) -> &[u8]
     ensures rest { result.now ≡ rest_of files.now place given }
     ensures room { given + length result.now < 2 ^ 64 }
@@ -130,7 +130,7 @@ fn bytes_left(files: &[NamedBytes], place: Option<usize>, given: usize) -> &[u8]
     }
 }
 
-// Fills the buffer from its front with the next bytes, as far as it, they and the piece go.
+/// Fills the buffer from its front with the next bytes, as far as it, they and the piece go.
 fn fill(buf: &mut [u8], rest: &[u8], most: Option<u32>) -> usize
     ensures count { result ≡ min (piece.in_piece most (length buf.old)) (length rest.now) }
     ensures bytes { buf.new ≡ take result rest.now ++ drop result buf.old }

@@ -7,7 +7,7 @@ use crate::shelf::{Failed, Sink};
 
 /// Writes all the bytes, in at most as many turns as there are bytes. After a failure the sink has taken a front of
 /// them.
-#[tactic(auto, using(crate::proofs::Taking::takes_nothing, crate::proofs::Taking::takes_more, crate::proofs::Taking::takes_all, crate::proofs::Giving::rose_later))]
+#[tactic(auto, using(crate::proofs::Taking::pieces, crate::proofs::Giving::rose_later))]
 pub fn write_all<K: Sink>(out: &mut K, bytes: &[u8]) -> Result<(), Failed>
     ensures all { OnOk result (TakesPrefix (K.taken out.old) bytes.now (K.taken out.new)) }
     ensures front { OnErr result ((n : ℕ) × TakesPrefix (K.taken out.old) (take n bytes.now) (K.taken out.new)) }

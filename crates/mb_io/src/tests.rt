@@ -14,7 +14,7 @@ fn named(alloc: Global, name: &str, bytes: &[u8]) -> Result<NamedBytes, AllocErr
     Ok(NamedBytes::new(name, Vec::from_slice(alloc, bytes)?))
 }
 
-// Two files under `a`, of which the first counts, and an empty one under `b`.
+/// Two files under `a`, of which the first counts, and an empty one under `b`.
 fn shelf(alloc: Global, failing: &[u32]) -> Result<MemShelf, AllocError> {
     let mut files = Vec::new(alloc);
     files.push(named(alloc, "a", b"first")?)?;
@@ -132,7 +132,7 @@ fn reads_real_files(rt: HostRuntime) -> Result<(), Fail> {
     Ok(())
 }
 
-// A writer that takes nothing.
+/// A writer that takes nothing.
 #[derive(Drop)]
 struct Full;
 

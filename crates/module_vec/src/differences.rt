@@ -31,8 +31,7 @@ pub fn difference(
         × (length made.items ≤ length v.now + length g.now))
         (FailsBy IsWideAt) }
 {
-    // The proof needs that t is a monomial, and the call says so.
-    let _ = t.degree();
+    t.known();
     let mut made = Vec::with_capacity(alloc, v.len() + g.len())?;
     let mut rest = v;
     for term in g {

@@ -36,8 +36,7 @@ fn collect(alloc: Global, sorted: &[Term]) -> Result<Vec<Term>, VecFault>
     let mut rest = sorted;
     while let Some((first, others)) = rest.split_first() {
         let at = first.at;
-        // The proof needs that this is a monomial, and the call says so.
-        let _ = at.m.degree();
+        at.m.known();
         let (same, behind) = others.split_at(count_at(others, &at));
         let Some(k) = total(first.k, same) else {
             return Err(VecFault::Stop(Stop::Wide { at, step: 0 }));

@@ -61,6 +61,14 @@ impl ModVec {
         self.terms.as_slice()
     }
 
+    /// What holds of every vector: its terms fall strictly, none is zero, and there are at most
+    /// [`TERMS`](crate::TERMS).
+    pub fn known(&self)
+        ensures { IsVector self.now }
+    {
+        let _terms = &self.terms;
+    }
+
     /// The first term, at the greatest place. `None` exactly where the vector is empty.
     pub fn lead(&self) -> Option<Term>
         ensures { result ≡ slice_get self.now 0 }

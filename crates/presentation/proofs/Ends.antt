@@ -54,3 +54,6 @@ place bs rest t =
     let e : length rest ≡ length bs - t.0 = ap length t.2 ∙ length-drop t.0 bs in
     let n : length bs - length rest ≡ t.0 = omega (arith, e, t.1) in
     rw n (t.2)
+
+-- the place of what is left of a line
+pub ruleset places = (left_no_longer, left_at, place)

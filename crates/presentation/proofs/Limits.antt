@@ -15,7 +15,7 @@ use Rattle.word_text.proofs.Suffixes.{spelled}
 use Rattle.presentation.specs.Presented.{IsName, IsWritten, IsPresented}
 use Rattle.presentation.specs.Grammar.{NameAt, NamesAt, RelatorAt, SomeRelatorsAt, RelatorsAt, PresentationAt}
 use Rattle.presentation.proofs.Ends.{join, blanks, name, first}
-use Rattle.presentation.proofs.Written.{product_written}
+use Rattle.presentation.proofs.WordsRead.{product_written}
 
 -- a name is the name at its own head
 again_by : (p : ℕ → Bool) (b : ℕ) (bs : List ℕ) (t : Bool) → p b ≡ t → take_while p (take_while p bs) ≡ take_while p bs

@@ -6,7 +6,7 @@ ghost use Rattle.word_text.specs.Machine.{finding};
 
 use crate::presentation::Presentation;
 
-// The place of this name in the list.
+/// The place of this name in the list.
 fn place_of(names: &[String], name: &[u8]) -> Option<usize>
     ensures place { result ≡ position (λ n. bytes_eq (string_bytes n) name.now) names.now }
     ensures inside { IfSome result (λ g. g < length names.now) }
@@ -14,7 +14,7 @@ fn place_of(names: &[String], name: &[u8]) -> Option<usize>
     names.iter().position(|n| n.as_bytes() == name)
 }
 
-// The number that these names give to a name.
+/// The number that these names give to a name.
 fn number_of(names: &[String], name: &[u8]) -> Option<usize>
     ensures number { result ≡ finding (map string_bytes names.now) name.now }
     ensures inside { IfSome result (λ g. g < length names.now) }

@@ -26,7 +26,7 @@ pub struct WordReader<'a> {
     pub line: u32,
 }
 
-// The number that stands here, of one to six digits, and what follows it.
+/// The number that stands here, of one to six digits, and what follows it.
 #[tactic(auto, using(crate::proofs::Digits::six_fit))]
 fn six_digits(text: &[u8]) -> Result<(u32, &[u8]), Fault>
     ensures exact { Reads (λ x. (x.0, x.1.now)) result (six_digits text.now) }
@@ -46,7 +46,7 @@ fn six_digits(text: &[u8]) -> Result<(u32, &[u8]), Fault>
 }
 
 impl<'a> WordReader<'a> {
-    // What is left of the line.
+    /// What is left of the line.
     pub(crate) fn rest(&self) -> &'a [u8]
         requires { self.now.at ≤ length self.now.text.now }
         ensures { result.now ≡ drop self.now.at self.now.text.now }
@@ -54,8 +54,8 @@ impl<'a> WordReader<'a> {
         self.text.split_at(self.at).1
     }
 
-    // Goes on to what is left of the line behind what was read.
-    #[tactic(auto, using(crate::proofs::Ends::left_no_longer, crate::proofs::Ends::left_at, crate::proofs::Ends::place))]
+    /// Goes on to what is left of the line behind what was read.
+    #[tactic(auto, using(crate::proofs::Ends::places))]
     pub(crate) fn goes_to(&mut self, rest: &[u8])
         requires inside { self.old.at ≤ length self.old.text.now }
         requires end { IsEnd (drop self.old.at self.old.text.now) rest.now }

@@ -8,7 +8,7 @@ ghost use Rattle.presentation.specs.Reading.{ending, modulus_number, modulus_at}
 use crate::MODULUS;
 use word_text::{Fault, ReadError, TextKind, due, number, skip_blanks, split_digits, split_name};
 
-// The modulus, where only blanks follow.
+/// The modulus, where only blanks follow.
 #[tactic(auto, unfolding(crate::specs::Reading::ending))]
 fn ending(modulus: u32, text: &[u8]) -> Result<u32, ReadError>
     ensures exact { Gives (λ m. m) result (ending modulus text.now) }
@@ -21,7 +21,7 @@ fn ending(modulus: u32, text: &[u8]) -> Result<u32, ReadError>
     Ok(modulus)
 }
 
-// The number of a modulus, and blanks behind it.
+/// The number of a modulus, and blanks behind it.
 #[tactic(auto, unfolding(crate::specs::Reading::modulus_number))]
 fn modulus_number(text: &[u8]) -> Result<u32, ReadError>
     ensures exact { Gives (λ m. m) result (modulus_number text.now) }

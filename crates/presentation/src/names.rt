@@ -12,21 +12,21 @@ use word_text::{
     Fault, Mark, ReadError, TextKind, after_first, due, first_is, mark_at, skip_blanks, split_name,
 };
 
-// Whether one of the texts has these bytes.
+/// Whether one of the texts has these bytes.
 fn any_is(texts: &[String], bytes: &[u8]) -> bool
     ensures { result ≡ list_any (λ t. bytes_eq bytes.now (string_bytes t)) texts.now }
 {
     texts.iter().any(|t| bytes == t.as_bytes())
 }
 
-// Whether one of the names is this one.
+/// Whether one of the names is this one.
 fn has(names: &[String], name: &[u8]) -> bool
     ensures { result ≡ list_any (bytes_eq name.now) (map string_bytes names.now) }
 {
     any_is(names, name)
 }
 
-// The name as a text.
+/// The name as a text.
 fn text_of(alloc: Global, name: &[u8]) -> Result<String, AllocError>
     requires { IsUtf8 name.now }
     ensures { IfOk result (λ s. string_bytes s ≡ name.now) }
@@ -34,7 +34,7 @@ fn text_of(alloc: Global, name: &[u8]) -> Result<String, AllocError>
     String::from_str(alloc, str::from_utf8(name).unwrap())
 }
 
-// The name that stands here, where there is room for it behind the others and it isn't one of them.
+/// The name that stands here, where there is room for it behind the others and it isn't one of them.
 fn new_name<'a>(seen: &[String], text: &'a [u8]) -> Result<(&'a [u8], &'a [u8]), ReadError>
     ensures exact { Gives (λ x. (x.0.now, x.1.now)) result (new_name (map string_bytes seen.now) text.now) }
     ensures room { IfOk result (λ _. length seen.now < GENERATORS) }
@@ -56,7 +56,7 @@ fn new_name<'a>(seen: &[String], text: &'a [u8]) -> Result<(&'a [u8], &'a [u8]),
     Ok((name, rest))
 }
 
-// The name that is due behind the others, and what follows it and its blanks.
+/// The name that is due behind the others, and what follows it and its blanks.
 #[tactic(auto, unfolding(crate::specs::Reading::name_behind))]
 fn name_behind<'a>(seen: &[String], text: &'a [u8]) -> Result<(&'a [u8], &'a [u8]), ReadError>
     ensures exact { Gives (λ x. (x.0.now, x.1.now)) result (name_behind (map string_bytes seen.now) text.now) }

@@ -10,7 +10,7 @@ use free_words::{WRITTEN, Word};
 use std::alloc::Global;
 use word_text::{Fault, ReadError, TextKind, after_first, first_is, skip_blanks, word_at};
 
-// The word u v^-1, where it is within the limit.
+/// The word u v^-1, where it is within the limit.
 #[tactic(auto, using(crate::proofs::Quotients::quotient_fits, crate::proofs::Quotients::quotient_long))]
 fn quotient(alloc: Global, u: Word, v: &Word, start: usize) -> Result<Word, ReadError>
     ensures { Gives (λ w. w) result (quotient start u v.now) }
@@ -26,7 +26,7 @@ fn quotient(alloc: Global, u: Word, v: &Word, start: usize) -> Result<Word, Read
     Ok(w)
 }
 
-// The equation of this word with the one behind the `=` that stands here.
+/// The equation of this word with the one behind the `=` that stands here.
 #[tactic(auto, unfolding(crate::specs::Reading::equation_at))]
 fn equation<'a>(
     alloc: Global,
@@ -42,7 +42,7 @@ fn equation<'a>(
     Ok((w, rest))
 }
 
-// A word, or an equation of two words.
+/// A word, or an equation of two words.
 #[tactic(auto, unfolding(crate::specs::Reading::relator_at))]
 fn relator<'a>(
     alloc: Global,
@@ -60,7 +60,7 @@ fn relator<'a>(
     }
 }
 
-// One relator or more with commas between them.
+/// One relator or more with commas between them.
 fn some_relators<'a>(
     alloc: Global,
     names: &[String],

@@ -31,7 +31,7 @@ pub fn first_run(letters: &[Letter]) -> Option<(Run, &[Letter])>
     ))
 }
 
-// How many letters at the head are this one.
+/// How many letters at the head are this one.
 fn repeats(letter: Letter, letters: &[Letter]) -> usize
     ensures { result ≡ length (take_while (is_same letter) letters.now) }
 {

@@ -10,7 +10,7 @@ use std::process::Abort;
 use std::rt::HostRuntime;
 use word_text::{ReadFault, TextKind};
 
-// The letters of a word: generators as a, b, c, inverses as A, B, C.
+/// The letters of a word: generators as a, b, c, inverses as A, B, C.
 fn push_word(out: &mut String, w: &Word) -> Result<(), AllocError> {
     for l in w.letters() {
         out.push(match (l.g, l.inv) {
@@ -25,7 +25,7 @@ fn push_word(out: &mut String, w: &Word) -> Result<(), AllocError> {
     Ok(())
 }
 
-// The names, the relators' letters, each in brackets, and the modulus.
+/// The names, the relators' letters, each in brackets, and the modulus.
 fn shown(alloc: Global, p: &Presentation) -> Result<String, AllocError> {
     let mut out = String::new(alloc);
     for name in p.names() {
@@ -130,7 +130,7 @@ fn faults_have_their_places(rt: HostRuntime) {
     }
 }
 
-// A presentation's text with so many names, the last one being `last`, and so many commas between its relators.
+/// A presentation's text with so many names, the last one being `last`, and so many commas between its relators.
 fn long_text(alloc: Global, names: u32, last: &str, commas: u32) -> Result<String, AllocError> {
     let mut out = String::from_str(alloc, "<")?;
     for i in 1..names {

@@ -14,7 +14,7 @@ use crate::relators::relators;
 use std::alloc::Global;
 use word_text::{ReadError, ReadFault, after_first, due, first_is, placed, skip_blanks};
 
-// What follows the byte that is due.
+/// What follows the byte that is due.
 fn byte(b: u8, text: &[u8]) -> Result<&[u8], ReadError>
     ensures { Gives (λ rest. rest.now) result (byte_at b text.now) }
 {
@@ -35,7 +35,7 @@ pub fn presentation(alloc: Global, text: &[u8]) -> Result<(Presentation, &[u8]),
     Ok((Presentation::of(names, relators, 0), rest))
 }
 
-// The presentation that is the whole text.
+/// The presentation that is the whole text.
 #[tactic(auto, unfolding(crate::specs::Reading::presentation_text))]
 fn whole(alloc: Global, text: &[u8]) -> Result<Presentation, ReadError>
     ensures { Gives (λ p. p) result (presentation_text text.now) }
@@ -44,7 +44,7 @@ fn whole(alloc: Global, text: &[u8]) -> Result<Presentation, ReadError>
     Ok(p.with_modulus(modulus(rest)?))
 }
 
-// The presentation that the text spells, or the first fault.
+/// The presentation that the text spells, or the first fault.
 fn read_exactly(alloc: Global, text: &[u8]) -> Result<Presentation, ReadFault>
     ensures { ReadsText text.now (presentation_text text.now) result }
 {

@@ -11,7 +11,7 @@ use free_words::Word;
 use std::alloc::Global;
 use word_text::{ReadError, ReadFault, placed, whole_word};
 
-// The word that the text spells, or the first fault.
+/// The word that the text spells, or the first fault.
 fn read_exactly(alloc: Global, p: &Presentation, text: &[u8]) -> Result<Word, ReadFault>
     ensures { ReadsText text.now (word_text (finding p.now.names) text.now) result }
 {

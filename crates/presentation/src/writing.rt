@@ -89,7 +89,7 @@ fn append_word(out: &mut Vec<u8>, p: &Presentation, letters: &[Letter]) -> Resul
     append_more(out, p, after)
 }
 
-// The runs of these letters, each with a space before it.
+/// The runs of these letters, each with a space before it.
 fn append_more(out: &mut Vec<u8>, p: &Presentation, letters: &[Letter]) -> Result<(), AllocError>
     requires { AreOver (length p.now.names) (runs letters.now) }
     ensures { OnOk result (out.new.items ≡ out.old.items ++ led_by (codes " ")

@@ -54,7 +54,7 @@ fn may_answer(question: &Question, verdict: &Verdict) -> bool
     }
 }
 
-// Whether the question has a subject of this number.
+/// Whether the question has a subject of this number.
 fn is_subject(question: &Question, number: u32) -> bool
     ensures { IsTrue result ↔ IsSubject question.now number }
 {

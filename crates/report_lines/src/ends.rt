@@ -33,7 +33,7 @@ pub fn read_end(p: &Presentation, text: &[u8]) -> Option<End>
     None
 }
 
-// The end that the text spells behind `stopped `.
+/// The end that the text spells behind `stopped `.
 fn stopped(p: &Presentation, text: &[u8]) -> Option<End>
     ensures { IsRead (end_text p.now.names) (IsEndOf (length p.now.names)) (codes "stopped " ++ text.now) result }
 {
@@ -42,7 +42,7 @@ fn stopped(p: &Presentation, text: &[u8]) -> Option<End>
     Some(End::Stopped { task, stop })
 }
 
-// The end that the text spells behind `full `.
+/// The end that the text spells behind `full `.
 fn full(p: &Presentation, text: &[u8]) -> Option<End>
     ensures { IsRead (end_text p.now.names) (IsEndOf (length p.now.names)) (codes "full " ++ text.now) result }
 {
@@ -51,7 +51,7 @@ fn full(p: &Presentation, text: &[u8]) -> Option<End>
     Some(End::Full { measure, count })
 }
 
-// The end that the text spells behind `spent `.
+/// The end that the text spells behind `spent `.
 fn spent(p: &Presentation, text: &[u8]) -> Option<End>
     ensures { IsRead (end_text p.now.names) (IsEndOf (length p.now.names)) (codes "spent " ++ text.now) result }
 {

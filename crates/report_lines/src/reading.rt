@@ -27,7 +27,7 @@ pub fn read_line(alloc: Global, p: &Presentation, text: &[u8]) -> Result<Option<
     }
 }
 
-// The line that the text spells.
+/// The line that the text spells.
 fn line_of(alloc: Global, p: &Presentation, text: &[u8]) -> Result<Line, SpellFault>
     ensures { Reads (line_text p.now) (IsLineOf p.now) text.now result }
 {
@@ -55,7 +55,7 @@ fn line_of(alloc: Global, p: &Presentation, text: &[u8]) -> Result<Line, SpellFa
     Err(SpellFault::Spelling)
 }
 
-// The line that the text spells behind `entry `.
+/// The line that the text spells behind `entry `.
 fn entry(alloc: Global, p: &Presentation, text: &[u8]) -> Result<Line, SpellFault>
     ensures { Reads (line_text p.now) (IsLineOf p.now) (codes "entry " ++ text.now) result }
 {
@@ -75,7 +75,7 @@ fn entry(alloc: Global, p: &Presentation, text: &[u8]) -> Result<Line, SpellFaul
     })
 }
 
-// The line that the text spells behind `live `.
+/// The line that the text spells behind `live `.
 fn live(alloc: Global, p: &Presentation, text: &[u8]) -> Result<Line, SpellFault>
     ensures { Reads (line_text p.now) (IsLineOf p.now) (codes "live " ++ text.now) result }
 {
@@ -98,7 +98,7 @@ fn live(alloc: Global, p: &Presentation, text: &[u8]) -> Result<Line, SpellFault
     })
 }
 
-// The line that the text spells behind `proof `.
+/// The line that the text spells behind `proof `.
 fn proof(alloc: Global, p: &Presentation, text: &[u8]) -> Result<Line, SpellFault>
     ensures { Reads (line_text p.now) (IsLineOf p.now) (codes "proof " ++ text.now) result }
 {
@@ -109,7 +109,7 @@ fn proof(alloc: Global, p: &Presentation, text: &[u8]) -> Result<Line, SpellFaul
     Ok(Line::Proof { subject, steps })
 }
 
-// The line that the text spells behind `end `.
+/// The line that the text spells behind `end `.
 fn end(p: &Presentation, text: &[u8]) -> Result<Line, SpellFault>
     ensures { Reads (line_text p.now) (IsLineOf p.now) (codes "end " ++ text.now) result }
 {
@@ -119,7 +119,7 @@ fn end(p: &Presentation, text: &[u8]) -> Result<Line, SpellFault>
     Ok(Line::End(end))
 }
 
-// The line that the text spells behind `close `.
+/// The line that the text spells behind `close `.
 fn close(alloc: Global, p: &Presentation, text: &[u8]) -> Result<Line, SpellFault>
     ensures { Reads (line_text p.now) (IsLineOf p.now) (codes "close " ++ text.now) result }
 {

@@ -31,7 +31,7 @@ pub fn read_stop(p: &Presentation, text: &[u8]) -> Option<Stop>
     None
 }
 
-// The stop that the text spells behind `wide `.
+/// The stop that the text spells behind `wide `.
 fn wide(p: &Presentation, text: &[u8]) -> Option<Stop>
     ensures { IsRead (stop_text p.now.names) (IsStopOf (length p.now.names)) (codes "wide " ++ text.now) result }
 {
@@ -42,7 +42,7 @@ fn wide(p: &Presentation, text: &[u8]) -> Option<Stop>
     Some(Stop::Wide { at, step })
 }
 
-// The stop that the text spells behind `long `.
+/// The stop that the text spells behind `long `.
 fn long(p: &Presentation, text: &[u8]) -> Option<Stop>
     ensures { IsRead (stop_text p.now.names) (IsStopOf (length p.now.names)) (codes "long " ++ text.now) result }
 {
@@ -51,7 +51,7 @@ fn long(p: &Presentation, text: &[u8]) -> Option<Stop>
     Some(Stop::Long { terms, step })
 }
 
-// The stop that the text spells behind `steep `.
+/// The stop that the text spells behind `steep `.
 fn steep(p: &Presentation, text: &[u8]) -> Option<Stop>
     ensures { IsRead (stop_text p.now.names) (IsStopOf (length p.now.names)) (codes "steep " ++ text.now) result }
 {

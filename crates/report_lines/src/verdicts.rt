@@ -43,7 +43,7 @@ pub fn read_verdict(alloc: Global, p: &Presentation, text: &[u8]) -> Result<Verd
     stop(p, rest).ok_or(SpellFault::Spelling)
 }
 
-// The verdict that the text spells behind `stop `.
+/// The verdict that the text spells behind `stop `.
 fn stop(p: &Presentation, text: &[u8]) -> Option<Verdict>
     ensures { IsRead (verdict_text p.now.names) (IsVerdictOf (length p.now.names)) (codes "stop " ++ text.now) result }
 {

@@ -200,7 +200,7 @@ pub fn put_closing(
     put_answer(alloc, out, p, question, verdict)
 }
 
-// A word that ends with a space, and the numbers of a session and of a question with a space behind each.
+/// A word that ends with a space, and the numbers of a session and of a question with a space behind each.
 fn put_word_and_numbers(
     out: &mut Vec<u8>,
     word: &[u8],

@@ -69,3 +69,6 @@ cut_joins c (b ∷ bs) front rest e = by (b == c) refl (cut c bs) refl (λ f r k
 pub cut_here : (c : ℕ) (front rest : List ℕ) → AllByRecursion (λ b. (b == c) ≡ false) front → cut c (front ++ c ∷ rest) ≡ Some (front, rest)
 cut_here c [] rest h = grind (arith, nat_tests)
 cut_here c (b ∷ front) rest h = rw (h.0, cut_here c front rest h.1) refl
+
+-- the course of a search for the separator
+pub ruleset search_for_cut = (cut_starts, cut_goes_on, cut_found, cut_ends)

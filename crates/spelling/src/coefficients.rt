@@ -7,7 +7,7 @@ use crate::number::read_wide;
 use itoa::Buffer;
 use std::alloc::AllocError;
 
-// The number from 1 to 2^127 - 1 that the text spells.
+/// The number from 1 to 2^127 - 1 that the text spells.
 #[tactic(auto, using(crate::proofs::Numbers::not_positive))]
 fn read_positive(text: &[u8]) -> Option<u128>
     ensures { IsRead decimal IsPositive text.now result }

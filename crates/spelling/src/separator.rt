@@ -5,7 +5,7 @@ ghost use Rattle.spelling.specs.Spelling.{cut, first_part};
 
 /// What stands before the first byte `separator` of the text, and what stands behind it; None where there is no such
 /// byte.
-#[tactic(auto, using(crate::proofs::Cuts::cut_starts, crate::proofs::Cuts::cut_goes_on, crate::proofs::Cuts::cut_found, crate::proofs::Cuts::cut_ends))]
+#[tactic(auto, using(crate::proofs::Cuts::search_for_cut))]
 pub fn cut(text: &[u8], separator: u8) -> Option<(&[u8], &[u8])>
     ensures parts { cut separator text.now ≡ option_map (λ p. (p.0.now, p.1.now)) result }
     ensures shorter { IfSome result (λ p. length p.1.now < length text.now) }

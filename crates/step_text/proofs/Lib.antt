@@ -1,3 +1,6 @@
+-- single steps
 pub mod StepTexts
+-- lists of steps
 pub mod StepLists
+-- back again
 pub mod ReadingBack

@@ -56,7 +56,7 @@ pub fn read_steps(alloc: Global, p: &Presentation, text: &[u8]) -> Result<Steps,
     some_steps(alloc, p, text)
 }
 
-// The steps that the text spells, of which there is one at least.
+/// The steps that the text spells, of which there is one at least.
 fn some_steps(alloc: Global, p: &Presentation, text: &[u8]) -> Result<Steps, SpellFault>
     ensures { Reads (listed_text p.now.names) (AreSomeStepsOf (length p.now.names)) text.now result }
 {

@@ -231,3 +231,9 @@ factor_read names known text g e found lt good =
       record { variable = omega arith; exponent = good.0 },
       named text ∙ rw (name_is names (name_at text) g found, good.1, a.0, a.1, append-nil (name_of names g)) refl,
     )
+
+-- each way that a factor is read
+pub ruleset factors_read = (no_generator, no_inverse_exponent, no_exponent, inverse_read, factor_read)
+
+-- each way that an exponent is read
+pub ruleset exponents_read = (no_number, no_hat, one_written, past_degree, exponent_read)

@@ -66,3 +66,6 @@ coefficient_by (negsuc n) some h = omega (arith, h)
 
 pub spelled_coefficient : (t : Term) → IsTerm t → IsCoefficient t.k
 spelled_coefficient t h = coefficient_by t.k h.nonzero h.range
+
+-- the factors of a monomial, written one after another
+pub ruleset factors_written = (factor_left_out, factor_written, factors_end)

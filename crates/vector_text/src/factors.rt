@@ -50,7 +50,7 @@ fn put_exponent(out: &mut Vec<u8>, exponent: u16) -> Result<(), AllocError>
 }
 
 /// The factor that the text spells.
-#[tactic(auto, using(crate::proofs::FactorTexts::no_generator, crate::proofs::FactorTexts::no_inverse_exponent, crate::proofs::FactorTexts::no_exponent, crate::proofs::FactorTexts::inverse_read, crate::proofs::FactorTexts::factor_read))]
+#[tactic(auto, using(crate::proofs::FactorTexts::factors_read))]
 pub fn read_factor(p: &Presentation, text: &[u8]) -> Option<Factor>
     ensures { IsRead (factor_text p.now.names) (IsFactorOf (length p.now.names)) text.now result }
 {
@@ -71,7 +71,7 @@ pub fn read_factor(p: &Presentation, text: &[u8]) -> Option<Factor>
     })
 }
 
-#[tactic(auto, using(crate::proofs::FactorTexts::no_number, crate::proofs::FactorTexts::no_hat, crate::proofs::FactorTexts::one_written, crate::proofs::FactorTexts::past_degree, crate::proofs::FactorTexts::exponent_read))]
+#[tactic(auto, using(crate::proofs::FactorTexts::exponents_read))]
 fn read_exponent(text: &[u8]) -> Option<u16>
     ensures { IsRead exponent_text IsExponent text.now result }
 {
@@ -104,7 +104,7 @@ pub fn power(f: Factor) -> Option<Mono>
     signed_power(f.variable / 2, -exponent)
 }
 
-// The monomial of an integer vector with one number that isn't 0.
+/// The monomial of an integer vector with one number that isn't 0.
 #[tactic(auto, using(crate::proofs::Powers::total_set))]
 fn signed_power(g: u8, exponent: i32) -> Option<Mono>
     requires { 2 * g < VARIABLES }

@@ -24,22 +24,20 @@ pub fn write_mono(alloc: Global, p: &Presentation, m: &Mono) -> Result<Vec<u8>, 
         m.now text.items) }
 {
     p.known();
-    // The proof needs that this is a monomial, and the call says so.
-    let _ = m.degree();
+    m.known();
     let mut out = Vec::new(alloc);
     put_mono(&mut out, p, m)?;
     Ok(out)
 }
 
 /// Appends the text of a monomial over the presentation's generators.
-#[tactic(auto, using(crate::proofs::Writing::factor_left_out, crate::proofs::Writing::factor_written, crate::proofs::Writing::factors_end))]
+#[tactic(auto, using(crate::proofs::Writing::factors_written))]
 pub fn put_mono(out: &mut Vec<u8>, p: &Presentation, m: &Mono) -> Result<(), AllocError>
     requires { MonoIsOver (length p.now.names) m.now }
     ensures { OnOk result (out.new.items ≡ out.old.items ++ monomial_text p.now.names m.now) }
 {
     p.known();
-    // The proof needs that this is a monomial, and the call says so.
-    let _ = m.degree();
+    m.known();
     let mut begun = false;
     for variable in 0..2 * p.count() {
         let exponent = m.exp(variable);
@@ -77,7 +75,7 @@ pub fn mono_of(p: &Presentation, text: &[u8]) -> Option<Mono>
     product_of(p, text)
 }
 
-// The product of the factors that the text spells, in the order of their variables.
+/// The product of the factors that the text spells, in the order of their variables.
 fn product_of(p: &Presentation, text: &[u8]) -> Option<Mono>
     ensures { IsRead (factors_text p.now.names) (IsProductOf (length p.now.names)) text.now result }
 {
@@ -99,7 +97,7 @@ fn product_of(p: &Presentation, text: &[u8]) -> Option<Mono>
     Some(made)
 }
 
-// Appends the point before a further factor.
+/// Appends the point before a further factor.
 fn put_point(out: &mut Vec<u8>, begun: bool) -> Result<(), AllocError>
     ensures { OnOk result (out.new.items ≡ out.old.items ++ (if begun then codes "." else [])) }
 {

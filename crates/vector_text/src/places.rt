@@ -22,8 +22,7 @@ pub fn write_place(alloc: Global, p: &Presentation, at: &Place) -> Result<Vec<u8
         at.now text.items) }
 {
     p.known();
-    // The proof needs that this is a monomial, and the call says so.
-    let _ = at.m.degree();
+    at.m.known();
     let mut out = Vec::new(alloc);
     put_place(&mut out, p, at)?;
     Ok(out)
@@ -52,7 +51,6 @@ pub fn read_place(p: &Presentation, text: &[u8]) -> Result<Place, SpellFault>
 }
 
 /// The place that the text spells.
-
 pub fn place_of(p: &Presentation, text: &[u8]) -> Option<Place>
     ensures { IsRead (place_text p.now.names) (IsPlaceOf (length p.now.names)) text.now result }
 {

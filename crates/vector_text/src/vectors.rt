@@ -22,8 +22,7 @@ pub fn write_vector(alloc: Global, p: &Presentation, v: &ModVec) -> Result<Vec<u
         v.now text.items) }
 {
     p.known();
-    // The proof needs that the terms are a vector's, and the call says so.
-    let _ = v.terms();
+    v.known();
     let mut out = Vec::new(alloc);
     put_vector(&mut out, p, v)?;
     Ok(out)
@@ -57,7 +56,7 @@ pub fn read_vector(alloc: Global, p: &Presentation, text: &[u8]) -> Result<ModVe
     sum_of(alloc, p, text)
 }
 
-// The sum of the terms that the text spells, in falling order.
+/// The sum of the terms that the text spells, in falling order.
 fn sum_of(alloc: Global, p: &Presentation, text: &[u8]) -> Result<ModVec, SpellFault>
     ensures { Reads (terms_text p.now.names) (IsSumOf (length p.now.names)) text.now result }
 {

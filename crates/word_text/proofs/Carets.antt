@@ -10,8 +10,8 @@ use Rattle.word_text.specs.Faults.{IsSomeWord}
 use Rattle.word_text.proofs.Inside.{Inside}
 use Rattle.word_text.proofs.Exponents.{SizePlace}
 use Rattle.word_text.proofs.Swaps.{Halts, Swap, both, Past, past_nothing, taken}
-use Rattle.word_text.proofs.Lexed.{halts_digit, past_blanks, Token, token_gap, both_gaps, then_gap}
-use Rattle.word_text.proofs.Moved.{Raises_behind, behind_blanks, raised_moves, raised_wider, Parts, moves, wider}
+use Rattle.word_text.proofs.TokensStay.{halts_digit, past_blanks, Token, token_gap, both_gaps, then_gap}
+use Rattle.word_text.proofs.PartsStay.{Raises_behind, behind_blanks, raised_moves, raised_wider, Parts, moves, wider}
 use Rattle.word_text.proofs.Completed.{SomeFactor, by_factor, closers, halts_closers, halts_clear, halts_caret, Makes_word, text_completes, Splits}
 
 -- powers behind powers

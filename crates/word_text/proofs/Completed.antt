@@ -14,8 +14,8 @@ use Rattle.word_text.proofs.Lexing.{skip_false, no_blanks}
 use Rattle.word_text.proofs.Inside.{Opened, Inside}
 use Rattle.word_text.proofs.Turns.{attach_here}
 use Rattle.word_text.proofs.Swaps.{Halts, Fits, Swap, both, weaker}
-use Rattle.word_text.proofs.Lexed.{Skips, skipped}
-use Rattle.word_text.proofs.Moved.{wider, So_far, so_far_moves, so_far_wider, Opens, opened_moves}
+use Rattle.word_text.proofs.TokensStay.{Skips, skipped}
+use Rattle.word_text.proofs.PartsStay.{wider, So_far, so_far_moves, so_far_wider, Opens, opened_moves}
 
 -- parts of words of any length
 abbrev pub SomeProduct : Find → List ℕ → List ℕ → Type 0

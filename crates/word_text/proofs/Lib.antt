@@ -1,35 +1,42 @@
+-- bytes and names
 pub mod Numbers
 pub mod Marks
 pub mod Finding
 pub mod Naming
+pub mod Ends
+pub mod Swaps
+-- programs, and the loops that make them
 pub mod Algebra
 pub mod Closing
 pub mod Programs
-pub mod Limits
 pub mod Raising
 pub mod Drafts
-pub mod Spelling
 pub mod Turning
-pub mod Factors
+-- the parts of the grammar
+pub mod Limits
+pub mod Spelling
 pub mod Lexing
-pub mod Suffixes
 pub mod Exponents
-pub mod PowersRead
+pub mod TokensStay
+pub mod BadBytes
+-- factors, and what a state of the reading stands for
+pub mod Factors
+pub mod Suffixes
 pub mod Inside
+-- one turn of the reading
+pub mod PowersRead
+pub mod PartsStay
 pub mod Turns
+pub mod Again
+-- whole words
 pub mod Reached
 pub mod Tails
-pub mod Again
 pub mod Reading
 pub mod Letters
-pub mod Swaps
-pub mod Lexed
-pub mod Moved
+-- the first fault
 pub mod Completed
 pub mod Carets
-pub mod Ends
 pub mod Refused
 pub mod RefusedNumbers
 pub mod RefusedLengths
-pub mod BadBytes
 pub mod FirstFault

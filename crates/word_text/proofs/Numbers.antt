@@ -1,3 +1,4 @@
+-- Numbers of decimal digits, digit by digit.
 use Rattle.std.proofs.lemmas.List.Sums.{prefix_len_passes}
 use Rattle.std.proofs.lemmas.List.Folds.{length-prefix_len}
 use Rattle.std.specs.List.{prefix_len}
@@ -43,3 +44,6 @@ digits_all bs i lt =
     let k : i < prefix_len is_digit bs = omega (arith, length-prefix_len is_digit bs) in
     let same : get_or (take_while is_digit bs) i 0 ≡ get_or bs i 0 = get_or-take (prefix_len is_digit bs) bs i 0 k in
     rw same (prefix_len_passes is_digit bs i 0 k)
+
+-- a number, digit by digit
+pub ruleset digit_by_digit = (number_more, number_past, number_done)

@@ -22,8 +22,8 @@ use Rattle.word_text.proofs.Again.{at, Onward, last_turn, turn_at, inside_reache
 use Rattle.word_text.proofs.Swaps.{Fits, Swap, both, weaker, taken, none_taken}
 use Rattle.word_text.proofs.Ends.{before_is}
 use Rattle.word_text.proofs.Marks.{name_some}
-use Rattle.word_text.proofs.Lexed.{Skips, skipped}
-use Rattle.word_text.proofs.Moved.{wider, So_far, so_far_moves, Opens, opened_moves}
+use Rattle.word_text.proofs.TokensStay.{Skips, skipped}
+use Rattle.word_text.proofs.PartsStay.{wider, So_far, so_far_moves, Opens, opened_moves}
 
 -- a place behind blanks
 so_far_clear : (limit : ℕ) (find : Find) (spot : Spot) (begin : List ℕ) (w : List Letter) (bs : List ℕ) → SoFar limit find spot begin w bs

@@ -21,8 +21,8 @@ use Rattle.word_text.proofs.Inside.{Inside}
 use Rattle.word_text.proofs.PowersRead.{powers_again, powers_long}
 use Rattle.word_text.proofs.Again.{at, complete, closes_at, no_star}
 use Rattle.word_text.proofs.Swaps.{Swap, both}
-use Rattle.word_text.proofs.Lexed.{Marked, marked, Token, token, Exponent, exponent}
-use Rattle.word_text.proofs.Moved.{Parts, moves, Pair, pair_moves}
+use Rattle.word_text.proofs.TokensStay.{Marked, marked, Token, token, Exponent, exponent}
+use Rattle.word_text.proofs.PartsStay.{Parts, moves, Pair, pair_moves}
 use Rattle.word_text.proofs.Ends.{before_is}
 use Rattle.word_text.proofs.Refused.{TextInside, text_moves, read_through, not_read, stuck, SameFirst, same_fits}
 use Rattle.word_text.proofs.RefusedNumbers.{AtCaret, caret_moves}

@@ -15,8 +15,8 @@ use Rattle.word_text.proofs.Exponents.{NoSize, SizePlace, NoExponent}
 use Rattle.word_text.proofs.PowersRead.{powers_fault}
 use Rattle.word_text.proofs.Again.{at, complete}
 use Rattle.word_text.proofs.Swaps.{Swap, both, Past, taken, none_taken}
-use Rattle.word_text.proofs.Lexed.{past_blanks, Token, token_gap, both_gaps, then_gap}
-use Rattle.word_text.proofs.Moved.{Raises_behind, behind_blanks, raised_moves, Parts, moves}
+use Rattle.word_text.proofs.TokensStay.{past_blanks, Token, token_gap, both_gaps, then_gap}
+use Rattle.word_text.proofs.PartsStay.{Raises_behind, behind_blanks, raised_moves, Parts, moves}
 use Rattle.word_text.proofs.Ends.{before_is}
 use Rattle.word_text.proofs.Refused.{TextInside, text_moves, read_through, not_read, SameFirst, longer}
 

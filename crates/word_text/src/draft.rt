@@ -242,7 +242,7 @@ impl Draft {
     }
 }
 
-// The number of a square bracket's first word, where the innermost bracket is behind its comma.
+/// The number of a square bracket's first word, where the innermost bracket is behind its comma.
 fn first_word_of(brackets: &VecDeque<Bracket>) -> usize
     ensures { result ≡ first_number brackets.now.items }
 {

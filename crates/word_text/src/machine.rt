@@ -36,14 +36,14 @@ pub struct State {
     spot: Spot,
 }
 
-// The place of this name in the list.
+/// The place of this name in the list.
 fn place_of(names: &[String], name: &[u8]) -> Option<usize>
     ensures { result ≡ position (λ n. bytes_eq (string_bytes n) name.now) names.now }
 {
     names.iter().position(|n| n.as_bytes() == name)
 }
 
-// The number of the generator of this name.
+/// The number of the generator of this name.
 fn generator(names: &[String], name: &[u8]) -> Option<usize>
     ensures { result ≡ finding (map string_bytes names.now) name.now }
 {
@@ -69,7 +69,7 @@ impl State {
         }
     }
 
-    // An atom has been read: its powers follow, and the factor joins the product.
+    /// An atom has been read: its powers follow, and the factor joins the product.
     #[tactic(auto, unfolding(crate::specs::Machine::factor_ends))]
     fn factor_ends<'a>(
         &mut self,
@@ -91,7 +91,7 @@ impl State {
         Ok((false, rest))
     }
 
-    // A round bracket opens here.
+    /// A round bracket opens here.
     fn opens_round<'a>(&mut self, text: &'a [u8]) -> Result<(bool, &'a [u8]), ReadError>
         requires { 0 < length text.now }
         ensures exact { Gives (λ x. record {
@@ -106,7 +106,7 @@ impl State {
         Ok((false, after_first(text)))
     }
 
-    // A square bracket opens here.
+    /// A square bracket opens here.
     fn opens_square<'a>(&mut self, text: &'a [u8]) -> Result<(bool, &'a [u8]), ReadError>
         requires { 0 < length text.now }
         ensures exact { Gives (λ x. record {
@@ -121,7 +121,7 @@ impl State {
         Ok((false, after_first(text)))
     }
 
-    // A round bracket has to close here.
+    /// A round bracket has to close here.
     #[tactic(auto, using(crate::proofs::Closing::closes_round))]
     fn closes_round<'a>(&mut self, text: &'a [u8]) -> Result<(bool, &'a [u8]), ReadError>
         requires { awaited_in self.old.draft.frames ≡ Some Awaited.Parenthesis }
@@ -136,7 +136,7 @@ impl State {
         self.factor_ends(start, after_first(text))
     }
 
-    // The comma of a square bracket has to stand here.
+    /// The comma of a square bracket has to stand here.
     #[tactic(auto, using(crate::proofs::Closing::closes_comma))]
     fn passes_comma<'a>(&mut self, text: &'a [u8]) -> Result<(bool, &'a [u8]), ReadError>
         requires { awaited_in self.old.draft.frames ≡ Some Awaited.Comma }
@@ -152,7 +152,7 @@ impl State {
         Ok((false, after_first(text)))
     }
 
-    // A square bracket has to close here.
+    /// A square bracket has to close here.
     #[tactic(auto, using(crate::proofs::Closing::closes_square))]
     fn closes_square<'a>(&mut self, text: &'a [u8]) -> Result<(bool, &'a [u8]), ReadError>
         requires { awaited_in self.old.draft.frames ≡ Some Awaited.Bracket }
@@ -170,7 +170,7 @@ impl State {
         self.factor_ends(start, after_first(text))
     }
 
-    // No factor stands here: the word ends, or the innermost bracket goes on.
+    /// No factor stands here: the word ends, or the innermost bracket goes on.
     fn closes<'a>(&mut self, text: &'a [u8]) -> Result<(bool, &'a [u8]), ReadError>
         ensures exact { Gives (λ x. record { state = reading self.new; ended = x.0; rest = x.1.now }) result
             (closes written self.old.draft.frames (reading self.old) text.now) }
@@ -261,7 +261,7 @@ impl State {
         }
     }
 
-    // One token, or a whole factor's end.
+    /// One token, or a whole factor's end.
     #[tactic(auto, unfolding(crate::specs::Machine::turn))]
     fn turn<'a>(&mut self, names: &[String], text: &'a [u8]) -> Result<(bool, &'a [u8]), ReadError>
         requires { length names.now ≤ 24 }

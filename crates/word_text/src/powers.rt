@@ -10,7 +10,7 @@ use crate::raise::Raise;
 use crate::scan::{after_first, due, first_is, number, skip_blanks, split_digits};
 use free_words::WRITTEN;
 
-// A number that an exponent may have.
+/// A number that an exponent may have.
 #[tactic(auto, unfolding(crate::specs::Powers::size_at))]
 fn size(negative: bool, text: &[u8]) -> Result<(Raise, &[u8]), Fault>
     ensures exact { Tells (λ x. record {
@@ -34,7 +34,7 @@ fn size(negative: bool, text: &[u8]) -> Result<(Raise, &[u8]), Fault>
     }
 }
 
-// What stands behind `^`.
+/// What stands behind `^`.
 #[tactic(auto, unfolding(crate::specs::Powers::exponent_at))]
 fn exponent(text: &[u8]) -> Result<(Raise, &[u8]), Fault>
     ensures exact { Tells (λ x. record {
@@ -52,7 +52,7 @@ fn exponent(text: &[u8]) -> Result<(Raise, &[u8]), Fault>
     }
 }
 
-// One more power of an atom of so many letters, where the word is within the limit.
+/// One more power of an atom of so many letters, where the word is within the limit.
 fn raise_more(letters: u32, so_far: Raise, next: Raise, start: usize) -> Result<Raise, Fault>
     requires so_far { so_far.times ≤ 16384 }
     requires next { next.times ≤ 16384 }

@@ -69,7 +69,7 @@ impl Program {
         }
     }
 
-    // One more line.
+    /// One more line.
     fn add(&mut self, line: Line, letters: u32) -> Result<usize, AllocError>
         requires earlier { Speaks (length self.old) line }
         requires letters { letters ≡ length (made self.old line) }
@@ -121,8 +121,8 @@ impl Program {
         self.add(line, letters)
     }
 
-    // The line of a power. A power of a power is one power where one of the two only turns signs: so a line of many
-    // powers is short.
+    /// The line of a power. A power of a power is one power where one of the two only turns signs: so a line of many
+    /// powers is short.
     fn raised(&self, base: usize, raise: Raise) -> Line
         requires { base ≤ length self.now }
         ensures earlier { Speaks (length self.now) result }
@@ -150,7 +150,7 @@ impl Program {
         self.add(Line::Commutator(left, right), letters)
     }
 
-    // The line that makes a word, or none for the empty word.
+    /// The line that makes a word, or none for the empty word.
     pub fn line(&self, word: usize) -> Option<Line>
         requires { word ≤ length self.now }
         ensures earlier { IfSome result (λ x. (0 < word) × Speaks (word - 1) x) }

@@ -69,7 +69,7 @@ pub fn skip_blanks(text: &[u8]) -> &[u8]
 }
 
 /// The name that stands here, and what follows it.
-#[tactic(auto, using(crate::proofs::Marks::name_some), unfolding(crate::specs::Scan::name_at, crate::specs::Scan::after_name))]
+#[tactic(auto, unfolding(crate::specs::Scan::name_at, crate::specs::Scan::after_name))]
 pub fn split_name(text: &[u8]) -> (&[u8], &[u8])
     ensures name { result.0.now ≡ name_at text.now }
     ensures rest { result.1.now ≡ after_name text.now }
@@ -160,7 +160,7 @@ pub fn due(text: &[u8]) -> Fault
 }
 
 /// The number that the digits spell, where it is within the limit.
-#[tactic(auto, using(crate::proofs::Numbers::number_more, crate::proofs::Numbers::number_past, crate::proofs::Numbers::number_done), unfolding(crate::specs::Scan::is_digit))]
+#[tactic(auto, using(crate::proofs::Numbers::digit_by_digit), unfolding(crate::specs::Scan::is_digit))]
 pub fn number(digits: &[u8], limit: u32) -> Option<u32>
     requires all { (i : _) → i < length digits.now → IsTrue (is_digit (slice_index digits.now i)) }
     requires small { limit < 2 ^ 31 }

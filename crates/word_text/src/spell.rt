@@ -35,7 +35,7 @@ pub fn spelled(alloc: Global, program: &Program, word: usize) -> Result<Word, Al
     Ok(Word::of(letters))
 }
 
-// Writes the letter of a line, or puts the parts of its word first among the tasks.
+/// Writes the letter of a line, or puts the parts of its word first among the tasks.
 fn write(
     line: Line,
     inverted: bool,

@@ -8,7 +8,7 @@ use std::alloc::{AllocError, Global};
 use std::process::Abort;
 use std::rt::HostRuntime;
 
-// Three names.
+/// Three names.
 fn names(alloc: Global) -> Result<Vec<String>, AllocError>
     ensures { IfOk result (λ v. length v.items ≤ 24) }
 {
@@ -19,7 +19,7 @@ fn names(alloc: Global) -> Result<Vec<String>, AllocError>
     Ok(names)
 }
 
-// The letters of a word: the names as a, b, c, inverses as A, B, C.
+/// The letters of a word: the names as a, b, c, inverses as A, B, C.
 fn shown(alloc: Global, word: &Word) -> Result<String, AllocError> {
     let mut out = String::new(alloc);
     for l in word.letters() {
@@ -201,7 +201,7 @@ fn faulty_names_and_numbers_have_their_places(rt: HostRuntime) {
     }
 }
 
-// A piece so many times between two others.
+/// A piece so many times between two others.
 fn repeated(
     alloc: Global,
     front: &str,
@@ -217,7 +217,7 @@ fn repeated(
     Ok(out)
 }
 
-// A letter inside so many brackets, with the same behind each of them.
+/// A letter inside so many brackets, with the same behind each of them.
 fn nested(
     alloc: Global,
     bracket: &str,
@@ -229,7 +229,7 @@ fn nested(
     repeated(alloc, "", bracket, depth, inside.as_str())
 }
 
-// `[a,a]`, `[[a,a],[a,a]]`, and so on: its word has 4^height letters.
+/// `[a,a]`, `[[a,a],[a,a]]`, and so on: its word has 4^height letters.
 fn tower(alloc: Global, height: u32) -> Result<String, AllocError> {
     let mut out = String::from_str(alloc, "a")?;
     for _ in 0..height {

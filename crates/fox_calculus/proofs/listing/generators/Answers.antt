@@ -1,5 +1,5 @@
 use Rattle.fox_calculus.specs.Generators.{relator_vectors, relator_binomials, unit_binomials, modulus_vectors}
-use Rattle.fox_calculus.proofs.Puts.{puts_kinds}
+use Rattle.fox_calculus.proofs.GrowingLists.{puts_kinds}
 use Rattle.fox_calculus.proofs.listing.generators.Goals as goal
 
 pub returns : goal.returns

@@ -1,4 +1,4 @@
-use Rattle.fox_calculus.proofs.Puts.{put_zero, put_one}
+use Rattle.fox_calculus.proofs.GrowingLists.{put_zero, put_one}
 use Rattle.fox_calculus.proofs.listing.put.Goals as goal
 
 pub returns-then-is_empty : goal.returns-then-is_empty

@@ -1,7 +1,7 @@
 use Rattle.std.proofs.Common.{map}
 use Rattle.std.specs.List.{range_with_len}
 use Rattle.fox_calculus.specs.Generators.{binomial}
-use Rattle.fox_calculus.proofs.Puts.{puts_none, puts_number, puts_up_to}
+use Rattle.fox_calculus.proofs.GrowingLists.{puts_none, puts_number, puts_up_to}
 use Rattle.fox_calculus.proofs.listing.put_binomials.Goals as goal
 
 pub loop-c-init : goal.loop-c-init

@@ -1,7 +1,7 @@
 use Rattle.std.proofs.Common.{map}
 use Rattle.std.specs.List.{range_with_len}
 use Rattle.fox_calculus.specs.Generators.{binomial}
-use Rattle.fox_calculus.proofs.Puts.{Puts}
+use Rattle.fox_calculus.proofs.GrowingLists.{Puts}
 use Rattle.fox_calculus.proofs.listing.put_binomials.Given as goal
 
 abbrev pub invariant-loop-c : goal.invariant-loop-c

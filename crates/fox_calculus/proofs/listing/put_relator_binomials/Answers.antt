@@ -3,7 +3,7 @@ use Rattle.std.specs.List.{flat_map}
 use Rattle.free_words.specs.declared.letter.Letter.{Letter}
 use Rattle.fox_calculus.specs.Fox.{image}
 use Rattle.fox_calculus.specs.Generators.{binomial, components}
-use Rattle.fox_calculus.proofs.Puts.{puts_none, puts_list_item, puts_all, binomials_as}
+use Rattle.fox_calculus.proofs.GrowingLists.{puts_none, puts_list_item, puts_all, binomials_as}
 use Rattle.fox_calculus.proofs.listing.put_relator_binomials.Goals as goal
 
 pub loop-r-init : goal.loop-r-init

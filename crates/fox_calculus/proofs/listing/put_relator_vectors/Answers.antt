@@ -1,6 +1,6 @@
 use Rattle.std.proofs.Common.{map}
 use Rattle.fox_calculus.specs.Fox.{fox}
-use Rattle.fox_calculus.proofs.Puts.{puts_none, puts_item, puts_all}
+use Rattle.fox_calculus.proofs.GrowingLists.{puts_none, puts_item, puts_all}
 use Rattle.fox_calculus.proofs.listing.put_relator_vectors.Goals as goal
 
 pub loop-r-init : goal.loop-r-init

@@ -1,6 +1,6 @@
 use Rattle.std.proofs.Common.{map}
 use Rattle.fox_calculus.specs.Generators.{binomial, unit_monomial, components}
-use Rattle.fox_calculus.proofs.Puts.{lists_number, binomials_as}
+use Rattle.fox_calculus.proofs.GrowingLists.{lists_number, binomials_as}
 use Rattle.fox_calculus.proofs.listing.put_unit_binomials.Goals as goal
 
 pub loop-g-preserved : goal.loop-g-preserved

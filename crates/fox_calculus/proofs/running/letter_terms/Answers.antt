@@ -1,7 +1,7 @@
 use Rattle.std.proofs.Common.{refl, rules, false}
 use Rattle.free_words.specs.declared.letter.Letter.{Letter}
 use Rattle.free_words.proofs.OverLemmas.{IsOver-get_or}
-use Rattle.fox_calculus.proofs.Turns.{sums_begin, sums_small, sums_next, terms_next}
+use Rattle.fox_calculus.proofs.LetterTerms.{sums_begin, sums_small, sums_next, terms_next}
 use Rattle.fox_calculus.proofs.running.letter_terms.Goals as goal
 
 -- the letter that the code reads past the end

@@ -1,7 +1,7 @@
 use Rattle.std.proofs.Common.{rules, ◌≡◌, ◌++◌, ◌-◌, ◌+◌, ℕ, ◌<◌, List, [], ◌∷◌, sym, subst}
 use Rattle.gen_input.specs.declared.TheConstants.{QUESTIONS}
 use Rattle.gen_input.specs.Texts.{line_text, line_from, after_line, lines_text}
-use Rattle.gen_input.proofs.Writing.{one_more, all_lines}
+use Rattle.gen_input.proofs.LineTexts.{one_more, all_lines}
 use Rattle.gen_input.proofs.texts.put_session.Goals as goal
 
 pub loop-preserved : goal.loop-preserved

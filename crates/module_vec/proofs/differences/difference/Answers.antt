@@ -39,7 +39,7 @@ returns-in_default c =
           c.term-item.result c.pass.new.made.items passed.from c.in_ok-before.behind.now c.in_ok-before.before place
           (found_at c.args.v.now c.args.q c.args.t.now c.args.g.now c.loop-term.made.items c.loop-term.rest.now c.loop-term.term-index c.term-item.result
           c.pass.new.made.items passed.from c.in_ok-before.behind.now c.in_ok-before.before place state c.requires.g.sparse c.loop-term-test.true
-          c.term-item.is c.degree.ensures.monomial.variables (λ j. record {
+          c.term-item.is c.known.ensures.variables (λ j. record {
             m = c.product.ensures.is j;
             c = c.term-item.result.at.c;
           }) passed.passed passed.taken)
@@ -62,7 +62,7 @@ loop-term-preserved c =
     passed.from c.in_ok-before.behind.now c.in_ok-before.before place =
     found_at c.args.v.now c.args.q c.args.t.now c.args.g.now c.loop-term.made.items c.loop-term.rest.now c.loop-term.term-index c.term-item.result
     c.pass.new.made.items passed.from c.in_ok-before.behind.now c.in_ok-before.before place state c.requires.g.sparse c.loop-term-test.true c.term-item.is
-    c.degree.ensures.monomial.variables (λ j. record { m = c.product.ensures.is j; c = c.term-item.result.at.c }) passed.passed passed.taken in
+    c.known.ensures.variables (λ j. record { m = c.product.ensures.is j; c = c.term-item.result.at.c }) passed.passed passed.taken in
     let count : length c.pass.new.made.items + length c.in_ok-before.behind.now ≤ length c.loop-term.made.items + length c.loop-term.rest.now =
     passed_count place c.loop-term.made.items c.loop-term.rest.now c.pass.new.made.items passed.from c.in_ok-before.behind.now c.in_ok-before.before
     passed.passed passed.taken in

@@ -39,7 +39,7 @@ loop-first-preserved-in_ok-push c =
     } in
     let nonzero : c.in-Some-total.k ≢ pos 0 = λ none. absurd (omega (arith, ints, none, c.if-k-ne0.true)) in
     let term : IsTerm (record { at = c.in-Some.first.now.at; k = c.in-Some-total.k }) =
-    record { place = c.degree.ensures.monomial; nonzero = nonzero; range = found.1 } in
+    record { place = c.known.ensures; nonzero = nonzero; range = found.1 } in
     let push = simp to_z-of_z at c.in_ok-push.ensures.items in
     keeps c.args.sorted.now c.loop-first.made.items c.in-Some.first.now c.in-Some.others.now c.split_at.result.0.now c.split_at.result.1.now c.count_at.result
     run c.in-Some-total.k found.0 term c.push.new.self.items push

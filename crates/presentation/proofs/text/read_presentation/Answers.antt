@@ -1,4 +1,4 @@
-use Rattle.presentation.proofs.Found.{is_found, is_only}
+use Rattle.presentation.proofs.WholeTexts.{is_found, is_only}
 use Rattle.presentation.proofs.text.read_presentation.Goals as goal
 
 pub returns-clause-found : goal.returns-clause-found

@@ -1,6 +1,6 @@
 use Rattle.word_text.specs.Machine.{finding}
 use Rattle.word_text.proofs.Reading.{is_found, is_only}
-use Rattle.presentation.proofs.Written.{text_written}
+use Rattle.presentation.proofs.WordsRead.{text_written}
 use Rattle.presentation.proofs.word.read_word.Goals as goal
 
 pub returns-clause-found : goal.returns-clause-found

@@ -1,5 +1,5 @@
 use Rattle.presentation.proofs.Ends.{word}
-use Rattle.presentation.proofs.Written.{word_written}
+use Rattle.presentation.proofs.WordsRead.{word_written}
 use Rattle.presentation.proofs.line.WordReader.at_word.Goals as goal
 
 pub goes_to-requires-clause-end : goal.goes_to-requires-clause-end

@@ -12,7 +12,7 @@ use Rattle.word_text.specs.Grammar.{IsExponent, Raised, PowersWithin, Part, Prod
 use Rattle.word_text.specs.Fronts.{SoFar}
 use Rattle.word_text.proofs.Inside.{Opened}
 use Rattle.word_text.proofs.Swaps.{Fits, Swap, both, weaker, stays, unmoved}
-use Rattle.word_text.proofs.Lexed.{Skips, skipped, Marked, marked, Token, token, Single, single, Byte, byte, Named, named, Exponent, exponent}
+use Rattle.word_text.proofs.TokensStay.{Skips, skipped, Marked, marked, Token, token, Single, single, Byte, byte, Named, named, Exponent, exponent}
 
 -- where no power stands, none does behind other bytes
 not_caret : (bs cs : List ℕ) → Fits bs cs → first_is 94 bs ≡ false → first_is 94 cs ≡ false
