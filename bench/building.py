@@ -16,8 +16,8 @@ def below(used, name):
     return found
 
 
-def build(folder, name, uses):
-    """The program NAME.rattle, which uses these libraries, built in the folder."""
+def build(folder, name, uses, proofs=None):
+    """The program NAME.rattle, which uses these libraries, built in the folder. `proofs` has its files of proofs."""
     with open(os.path.join(TOP, "crates.txt")) as file:
         lines = [line for line in file if ":" in line and not line.startswith("#")]
     used = {line.split(":")[0]: line.split(":")[1].split() for line in lines}
@@ -32,6 +32,11 @@ def build(folder, name, uses):
     program = os.path.join(crates, f"{name}_bench")
     os.makedirs(os.path.join(program, "src"))
     shutil.copy(os.path.join(BENCH, f"{name}.rattle"), os.path.join(program, "src", "main.rt"))
+    for file, text in (proofs or {}).items():
+        path = os.path.join(program, "proofs", file)
+        os.makedirs(os.path.dirname(path), exist_ok=True)
+        with open(path, "w") as written:
+            written.write(text)
     ran = subprocess.run(["rt", "run"], cwd=program, capture_output=True, text=True)
     made = os.path.join(program, "out", f"{name}_bench")
     if not os.access(made, os.X_OK):

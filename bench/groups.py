@@ -6,11 +6,10 @@ import tempfile
 import time
 
 from calculus import singular_text
-from runs import timed
+from runs import best
 
 HERE = os.path.dirname(os.path.abspath(__file__))
 FOLDER = os.path.join(HERE, "groups")
-RUNS = 5
 PATIENCE = 120
 HEAD = (f"{'group':<16} {'entries':>7} {'end':<8} {'complete':>9} {'questions':>9} {'MB':>6} {'check':>6} "
         f"{'Singular: basis, reductions, whole run':>40} {'ratio':>6} {'growth':>6}")
@@ -22,10 +21,6 @@ def rows():
         for line in file:
             name, family, size, options, _ = (part.strip() for part in line.split("|"))
             yield name, family, int(size), options.split()
-
-
-def best(folder, words):
-    return min((timed(folder, words) for _ in range(RUNS)), key=lambda run: run.seconds)
 
 
 def singular(name):

@@ -8,6 +8,7 @@ from collections import namedtuple
 TOP = os.path.dirname(os.path.dirname(os.path.abspath(__file__)))
 PROGRAM = os.path.join(TOP, "crates", "metab_cli", "out", "metab_cli")
 TIME = "/usr/bin/time"
+RUNS = 5
 
 Run = namedtuple("Run", "seconds memory status answer")
 
@@ -31,3 +32,8 @@ def timed(folder, words):
         lines = memory.read().split()
     peak = int(lines[-1]) if lines else usage.ru_maxrss
     return Run(seconds, peak / 1024, os.waitstatus_to_exitcode(status), answer)
+
+
+def best(folder, words):
+    """The fastest of all runs in a folder."""
+    return min((timed(folder, words) for _ in range(RUNS)), key=lambda run: run.seconds)

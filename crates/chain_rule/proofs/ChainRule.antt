@@ -26,7 +26,7 @@ use Rattle.strong_pairs.proofs.Members.{scaled, steps_at-append, steps_at-scaled
 use Rattle.strong_pairs.proofs.Shifted.{shifted, taken_is, at_append, at_scaled}
 use Rattle.chain_rule.specs.ClosedPairs.{IsClosedEither, AreClosedPairs}
 use Rattle.chain_rule.specs.Chaining.{DividesMultiple, IsChained, ChainRule}
-use Rattle.chain_rule.proofs.Closed.{either}
+use Rattle.chain_rule.proofs.ClosedPairs.{either}
 use Rattle.chain_rule.proofs.Gauss.{exchanged, divisor_of, divisor_some, Combined, combined, gauss}
 
 -- ---- the factors

@@ -1,6 +1,9 @@
+-- integers: greatest common divisors and least common multiples
 pub mod Gauss
-pub mod Multiples
+pub mod GcdQuotients
+pub mod CommonMultiples
+-- the rule
 pub mod ChainRule
-pub mod Parts
-pub mod Closed
+-- lists of closed pairs
+pub mod ClosedPairs
 pub mod Selected

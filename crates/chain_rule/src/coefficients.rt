@@ -2,10 +2,10 @@
 
 ghost use Rattle.std.specs.Int.{IsGcd};
 ghost use Rattle.std.specs.Prelude.{◌≡◌, ◌↔◌, ℤ, pos, ◌<ℤ◌, ◌*ℤ◌, unsigned_abs, IsTrue};
-ghost use Rattle.strong_pairs.specs.Covering.{Divides};
 ghost use Rattle.chain_rule.specs.Chaining.{DividesMultiple};
 
 use laurent_terms::bezout;
+use strong_pairs::divides;
 
 /// Whether a lead coefficient divides the least common multiple of two others, which may leave the range. It does
 /// exactly where its part that is not in the second one divides the part of the first that is not in the second.
@@ -27,13 +27,4 @@ fn part_beside(k: i128, l: i128) -> i128
 {
     let (divisor, _, _) = bezout(k, l);
     k / divisor
-}
-
-/// Whether `by` divides k.
-fn divides(by: i128, k: i128) -> bool
-    requires by { pos 0 <ℤ by }
-    requires k { pos 0 <ℤ k }
-    ensures { IsTrue result ↔ Divides by k }
-{
-    k % by == 0
 }

@@ -120,10 +120,13 @@ all_take P (suc n) [] h = tt
 all_take P (suc n) (x ∷ v) h = (h.0, all_take P n v h.1)
 
 -- no term of the multiple passes the greatest degree
-pub room_behind : (t : List ℕ) (entry terms : List Term) (n : ℕ) → Falls entry → HasRoom t entry → terms ≡ entry
-    → AllByRecursion (λ u. degree t + degree u.at.m ≤ DEGREE) (take n (drop 1 terms))
-room_behind t entry terms n f h same = subst (λ w. AllByRecursion (λ u. degree t + degree u.at.m ≤ DEGREE) (take n (drop 1 w))) (sym same)
-    (all_take _ n (drop 1 entry) (all_drop _ 1 entry (room_each t entry f h)))
+pub room_behind : (t : List ℕ) (entry terms : List Term) (n : ℕ) → Falls entry → HasRoom t entry → terms ≡ entry → HasRoom t (take n (drop 1 terms))
+room_behind t entry terms n f h same = subst (λ w. HasRoom t (take n (drop 1 w))) (sym same)
+    (first_room (take n (drop 1 entry)) (all_take _ n (drop 1 entry) (all_drop _ 1 entry (room_each t entry f h))))
+  where
+    first_room : (g : List Term) → AllByRecursion (λ u. degree t + degree u.at.m ≤ DEGREE) g → HasRoom t g
+    first_room [] all = tt
+    first_room (e ∷ g) all = all.0
 
 -- the number of the reducer is in the list
 pub in_list : (vs : List (List Term)) (front i : ℕ) (e : Term) (g : List Term) → Entry (take front vs) i e g → i < length vs

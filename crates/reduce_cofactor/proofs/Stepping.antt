@@ -35,14 +35,16 @@ use Rattle.module_vec.proofs.FallingTerms.{at_above, at_below}
 use Rattle.module_vec.proofs.Merging.{in_range, in_range_not_wide}
 use Rattle.module_vec.proofs.Scans.{read_within}
 use Rattle.reduce_cofactor.specs.Steps.{IsStepAt, RestsWith}
-use Rattle.reduce_cofactor.specs.Running.{Running, IsKept, stop_at}
+use Rattle.reduce_cofactor.specs.Running.{Running, IsKept, stop_at, fault_in}
 use Rattle.reduce_cofactor.specs.Answers.{IsRest, Fails}
-use Rattle.reduce_cofactor.specs.Dividends.{FailsAt}
+use Rattle.changed_terms.specs.declared.faults.TakeFault.{TakeFault}
+use Rattle.changed_terms.specs.declared.faults.TakeFault.TheVariants as taking
+use Rattle.changed_terms.specs.Taking.{CannotTake}
 use Rattle.reduce_cofactor.specs.declared.faults.ReduceFault.{ReduceFault}
 use Rattle.reduce_cofactor.specs.declared.faults.ReduceFault.TheVariants as faults
-use Rattle.reduce_cofactor.proofs.Joins.{above_next, falls_front, falls_join}
-use Rattle.reduce_cofactor.proofs.Differences.{multiple_below}
-use Rattle.reduce_cofactor.proofs.Rows.{same_front}
+use Rattle.changed_terms.proofs.Joins.{above_next, falls_front, falls_join}
+use Rattle.changed_terms.proofs.Differences.{multiple_below}
+use Rattle.reduce_cofactor.proofs.FallingFronts.{same_front}
 use Rattle.reduce_cofactor.proofs.Resting.{entry_at, rests_at, rests_zero, rests_left, lead_positive}
 
 -- ---- runs
@@ -285,13 +287,10 @@ module _ (b : List (List Term)) (v : Coefficients) (ss : List Step) (rest : List
       → ChainStops b v (Wide p (length ss + 1))
   stops_others few k e p wide = record { steps = ss; last = before; step = s; runs = r.runs; next = next; stops = (few, (refl, wide_others k e p wide)) }
 
-  pub stops_changes : length ss < STEPS → (k : ℤ) → Subtracts t.k s.q due.lead.k (Some k) → (fault : ReduceFault) → FailsAt (length ss + 1) IsWideBelow fault
-      → Fails b v fault
-  stops_changes few k e (faults.Stop (Wide p n)) h = subst (λ m. ChainStops b v (Wide p m)) (sym h.0) (stops_others few k e p h.1)
-  stops_changes few k e (faults.Stop (Long terms n)) h = absurd h
-  stops_changes few k e (faults.Stop Deep) h = absurd h
-  stops_changes few k e (faults.Stop (Steep d)) h = absurd h
-  stops_changes few k e faults.NoMemory h = tt
+  pub stops_taking : length ss < STEPS → (k : ℤ) → Subtracts t.k s.q due.lead.k (Some k) → (fault : TakeFault) → CannotTake IsWideBelow fault
+      → Fails b v (fault_in fault (length ss + 1))
+  stops_taking few k e (taking.Wide p) h = stops_others few k e p h
+  stops_taking few k e taking.NoMemory h = tt
 
   -- ---- the vector after the step, where k is left at t
 

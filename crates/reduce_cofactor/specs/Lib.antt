@@ -1,4 +1,3 @@
 pub mod Answers
-pub mod Dividends
 pub mod Steps
 pub mod Running

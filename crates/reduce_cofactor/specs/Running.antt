@@ -9,6 +9,8 @@ use Rattle.module_vec.specs.declared.faults.Stop.{Stop}
 use Rattle.module_vec.specs.declared.faults.Stop.TheVariants.{Wide, Long, Deep, Steep}
 use Rattle.module_vec.specs.declared.faults.VecFault.{VecFault}
 use Rattle.module_vec.specs.declared.faults.VecFault.TheVariants as vector
+use Rattle.changed_terms.specs.declared.faults.TakeFault.{TakeFault}
+use Rattle.changed_terms.specs.declared.faults.TakeFault.TheVariants as taking
 use Rattle.reduce_cofactor.specs.declared.faults.ReduceFault.{ReduceFault}
 use Rattle.reduce_cofactor.specs.declared.faults.ReduceFault.TheVariants as reduction
 use Rattle.module_vec.specs.Vectors.{Coefficients, coefficient_at, IsSparse}
@@ -53,3 +55,8 @@ stop_at (Steep d) n = Steep d
 abbrev pub fault_at : VecFault → ℕ → ReduceFault
 fault_at (vector.Stop s) n = reduction.Stop (stop_at s n)
 fault_at vector.NoMemory n = reduction.NoMemory
+
+-- the fault of taking a multiple, in the step with this number
+abbrev pub fault_in : TakeFault → ℕ → ReduceFault
+fault_in (taking.Wide p) n = reduction.Stop (Wide p n)
+fault_in taking.NoMemory n = reduction.NoMemory

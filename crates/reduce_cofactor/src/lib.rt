@@ -8,8 +8,6 @@
 //! coefficient leaves its range, or the vector gets too long.
 #![tactic(auto)]
 
-mod changes;
-mod dividend;
 mod due;
 mod faults;
 pub mod laws;

@@ -75,8 +75,7 @@ impl Merged {
         ensures is { (result.vector ≡ None) × (result.passed ≡ 0) × (result.steps.items ≡ []) }
         ensures vector { IsVector v.now }
     {
-        // The proof needs that v is a vector, and the call says so.
-        let _ = v.terms();
+        v.known();
         Merged {
             vector: None,
             passed: 0,

@@ -11,10 +11,9 @@ ghost use Rattle.reduce_cofactor.specs.Steps.{IsStepAt};
 ghost use Rattle.reduce_cofactor.specs.Running.{Running, IsKept, HasPassed, IsOnWay};
 
 use crate::ReduceFault;
-use crate::changes::{changes, reduced};
-use crate::dividend::Dividend;
 use crate::due::due;
 use crate::merging::{Merged, merge};
+use changed_terms::{ChangedTerms, reduced};
 use module_vec::{ModVec, Place, STEPS, Step, Stop, TERMS, Term, VecList};
 use std::alloc::{AllocError, Global};
 
@@ -83,7 +82,7 @@ struct Reduction<'a> {
     /// The terms that were passed, in falling order.
     rest: Vec<Term>,
     /// The terms below them.
-    dividend: Dividend<'a>,
+    dividend: ChangedTerms<'a>,
     steps: Vec<Step>,
 }
 
@@ -97,13 +96,13 @@ impl<'a> Reduction<'a> {
     ) -> Result<Reduction<'a>, AllocError>
         requires { passed ≤ length v.now }
         ensures vector { IsVector v.now }
-        ensures is { IfOk result (λ r. (r.rest.items ≡ take passed v.now) × (r.dividend.0 ≡ drop passed v.now)
+        ensures is { IfOk result (λ r. (r.rest.items ≡ take passed v.now) × (r.dividend ≡ drop passed v.now)
             × (r.steps.items ≡ steps.items)) }
     {
         let (rest, dividend) = v.terms().split_at(passed);
         Ok(Reduction {
             rest: Vec::from_slice(alloc, rest)?,
-            dividend: Dividend::new(alloc, dividend),
+            dividend: ChangedTerms::new(alloc, dividend),
             steps,
         })
     }
@@ -118,18 +117,18 @@ impl<'a> Reduction<'a> {
         top: Term,
     ) -> Result<(), ReduceFault>
         requires made { length self.old.steps.items ≤ STEPS }
-        requires short { length self.old.rest.items + length self.old.dividend.0 < TERMS }
+        requires short { length self.old.rest.items + length self.old.dividend < TERMS }
         requires entry { IsEntry entry.now }
         requires range { InRange step.q }
         requires room { HasRoom step.t entry.now }
         ensures is { (b : List (List Term)) (v : Coefficients) → IsStepAt b top step
             → slice_get b step.by ≡ Some entry.now →
-            Running b v self.old.steps.items self.old.rest.items (top ∷ self.old.dividend.0) →
+            Running b v self.old.steps.items self.old.rest.items (top ∷ self.old.dividend) →
             MatchResult result (λ _. Running b v self.new.steps.items self.new.rest.items
-            self.new.dividend.0) (Fails b v) }
+            self.new.dividend) (Fails b v) }
         ensures step { IfOk result (λ _. self.new.steps.items ≡ self.old.steps.items ++ step ∷ []) }
         ensures limits { IfOk result (λ _. (length self.new.steps.items ≤ STEPS)
-            × (length self.new.rest.items + length self.new.dividend.0 ≤ TERMS)) }
+            × (length self.new.rest.items + length self.new.dividend ≤ TERMS)) }
     {
         let made = self.steps.len() as u32;
         if made == STEPS {
@@ -144,8 +143,10 @@ impl<'a> Reduction<'a> {
                 step: number,
             }));
         };
-        let changes = changes(alloc, &self.dividend, step.q, &step.t, &terms[1..], number)?;
-        self.dividend.change(changes.as_slice())?;
+        match self.dividend.take(alloc, step.q, &step.t, &terms[1..]) {
+            Ok(()) => {}
+            Err(fault) => return Err(ReduceFault::in_step(fault, number)),
+        }
         keep(&mut self.rest, top.at, k)?;
         let count = self.rest.len() + self.dividend.len();
         if count > TERMS as usize {

@@ -1,6 +1,5 @@
-pub mod Joins
-pub mod Overlays
-pub mod Differences
-pub mod Parting
+-- one step, and where a sum parts from a vector
 pub mod Stepping
+pub mod Parting
+-- many steps
 pub mod AddingUp

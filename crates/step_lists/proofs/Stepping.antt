@@ -10,31 +10,29 @@ use Rattle.module_vec.specs.declared.places.Term.{Term}
 use Rattle.module_vec.specs.Places.{same_place, moved}
 use Rattle.module_vec.specs.Vectors.{Coefficients, coefficient_at, multiple_at, difference_at, IsWide, IsSparse}
 use Rattle.module_vec.specs.Results.{Nowhere, DifferenceIsWide, HasTerms, IsMade}
+use Rattle.module_vec.specs.Merging.{IsFound}
+use Rattle.changed_terms.specs.declared.faults.TakeFault.{TakeFault}
+use Rattle.changed_terms.specs.declared.faults.TakeFault.TheVariants as taking
+use Rattle.changed_terms.specs.Taking.{CannotTake}
 use Rattle.step_lists.specs.declared.faults.SumFault.{SumFault}
 use Rattle.step_lists.specs.declared.faults.SumFault.TheVariants.{Wide, Long, NoMemory}
-use Rattle.step_lists.specs.Overlays.{overwritten, AreChanges}
 use Rattle.step_lists.specs.declared.way.Way.TheVariants.{Add, Take}
 use Rattle.step_lists.specs.Sums.{combined, IsWideAt}
-use Rattle.step_lists.specs.Partial.{Makes}
+use Rattle.step_lists.specs.Partial.{Makes, fault_of}
 
--- the changes that a step makes in terms, and the terms then
-module _ (f m : Coefficients) (old new changes : List Term) (is : (x : Place)
-    → coefficient_at old x ≡ f x) (are : AreChanges (coefficient_at old) m changes) (made : (x : Place)
-    → coefficient_at new x ≡ overwritten changes (coefficient_at old) x) (sparse : IsSparse new) where
-  same : coefficient_at old ≡ f
-  same i x = is x i
-
-  reaches : (x : Place) → coefficient_at new x ≡ difference_at f m x
-  reaches x = made x ∙ are.is x ∙ ap (λ z. z -ℤ m x) (is x)
-
-  narrow : Nowhere (DifferenceIsWide f m)
-  narrow = subst (λ h. Nowhere (DifferenceIsWide h m)) same are.narrow
-
+-- the terms from which a multiple was taken
+module _ (f m : Coefficients) (new : List Term) (found : IsFound (DifferenceIsWide f m) (difference_at f m) new) where
   pub step_made : length new ≤ TERMS → IsMade (DifferenceIsWide f m) (difference_at f m) new
-  step_made most = record { vector = record { sparse = sparse; most = most }; is = reaches; narrow = narrow }
+  step_made most = record { vector = record { sparse = found.sparse; most = most }; is = found.is; narrow = found.narrow }
 
   pub step_long : (count : ℕ) → count ≡ length new → TERMS < count → Nowhere (DifferenceIsWide f m) × ((n : ℕ) × HasTerms (difference_at f m) n × (TERMS < n))
-  step_long count e more = (narrow, (count, record { v = new; sparse = sparse; is = reaches; count = sym e }, more))
+  step_long count e more = (found.narrow, (count, record { v = new; sparse = found.sparse; is = found.is; count = sym e }, more))
+
+-- why a multiple isn't taken
+pub step_fails : (f m : Coefficients) (fault : TakeFault) → CannotTake (DifferenceIsWide f m) fault
+    → Makes (IsWideAt Take f m) (combined Take f m) (Err (fault_of fault))
+step_fails f m (taking.Wide p) h = (p, h.here)
+step_fails f m taking.NoMemory h = tt
 
 -- ---- the negative of a step
 

@@ -1,4 +1,3 @@
 pub mod Sums
-pub mod Overlays
 pub mod Partial
 pub mod Laws

@@ -6,6 +6,8 @@ use Rattle.module_vec.specs.declared.places.Term.{Term}
 use Rattle.module_vec.specs.Places.{IsBelow}
 use Rattle.module_vec.specs.Vectors.{Coefficients, coefficient_at}
 use Rattle.module_vec.specs.Results.{Nowhere, HasTerms, IsMade}
+use Rattle.changed_terms.specs.declared.faults.TakeFault.{TakeFault}
+use Rattle.changed_terms.specs.declared.faults.TakeFault.TheVariants as taking
 use Rattle.step_lists.specs.declared.way.Way.{Way}
 use Rattle.step_lists.specs.declared.faults.SumFault.{SumFault}
 use Rattle.step_lists.specs.declared.faults.SumFault.TheVariants.{Wide, Long, NoMemory}
@@ -34,3 +36,8 @@ IsGreater x y p = ((p ≡ x) × (IsBelow x y → ⊥)) ⊎ ((p ≡ y) × IsBelow
 abbrev pub IsParting : Option Term → Term → Place → Type 0
 IsParting None u p = p ≡ u.at
 IsParting (Some t) u p = (t ≢ u) × IsGreater t.at u.at p
+
+-- the fault of taking a multiple, without its place
+abbrev pub fault_of : TakeFault → SumFault
+fault_of (taking.Wide p) = Wide
+fault_of taking.NoMemory = NoMemory

@@ -5,10 +5,8 @@
 //! that each step has to keep.
 #![tactic(auto)]
 
-mod changes;
 mod faults;
 pub mod laws;
-mod overlay;
 mod steps;
 mod sum;
 mod way;

@@ -6,9 +6,8 @@ ghost use Rattle.module_vec.specs.Results.{IsGreatest};
 ghost use Rattle.step_lists.specs.declared.way.Way.TheVariants.{Add, Take};
 ghost use Rattle.step_lists.specs.Partial.{Combines, Differ, IsParting};
 
-use crate::changes::changes;
-use crate::overlay::Overlay;
 use crate::{SumFault, Way};
+use changed_terms::ChangedTerms;
 use laurent_terms::Mono;
 use module_vec::{ModVec, Place, Step, TERMS, Term};
 use std::alloc::Global;
@@ -18,7 +17,7 @@ use std::marker::Model;
 /// each with a logarithm. Contracts see the terms in falling order, as those of a vector.
 #[derive(Drop)]
 pub struct Sum<'a> {
-    terms: Overlay<'a>,
+    terms: ChangedTerms<'a>,
 }
 
 impl<'a> Model for Sum<'a> {
@@ -28,9 +27,9 @@ impl<'a> Model for Sum<'a> {
 
     ghost Value = { List Term };
 
-    ghost view = { λ s. s.terms.0 };
+    ghost view = { λ s. s.terms };
 
-    ghost invariant = { λ s. IsVector s.terms.0 };
+    ghost invariant = { λ s. IsVector s.terms };
 }
 
 impl<'a> Sum<'a> {
@@ -39,7 +38,7 @@ impl<'a> Sum<'a> {
         ensures { result ≡ [] }
     {
         Sum {
-            terms: Overlay::new(alloc, &[]),
+            terms: ChangedTerms::new(alloc, &[]),
         }
     }
 
@@ -48,7 +47,7 @@ impl<'a> Sum<'a> {
         ensures { result ≡ vector.now }
     {
         Sum {
-            terms: Overlay::new(alloc, vector.terms()),
+            terms: ChangedTerms::new(alloc, vector.terms()),
         }
     }
 
@@ -60,8 +59,7 @@ impl<'a> Sum<'a> {
         ensures { Combines Take (coefficient_at self.entry) (multiple_at q t.now g.now) result }
     {
         let mut terms = self.terms;
-        let changes = changes(alloc, &terms, q, t, g.terms())?;
-        terms.change(changes.as_slice())?;
+        terms.take(alloc, q, t, g.terms())?;
         if terms.len() > TERMS as usize {
             return Err(SumFault::Long);
         }

@@ -24,7 +24,9 @@ use Rattle.std.specs.Result.{IsErr, IsErrAnd}
 use Rattle.strong_pairs.specs.declared.faults.PairFault.{PairFault}
 use Rattle.strong_pairs.specs.declared.faults.PairFault.TheVariants as faults
 use Rattle.strong_pairs.specs.Pairs.{lead_at, pair_place, AreFactors, both_at}
-use Rattle.strong_pairs.specs.Results.{FindsSteps, IsInReach, AdditionIsWide, BothStop, IsPairVector, MakesPair, pair_fault}
+use Rattle.step_lists.specs.declared.way.Way.TheVariants.{Add}
+use Rattle.step_lists.specs.Sums.{IsWideAt}
+use Rattle.strong_pairs.specs.Results.{FindsSteps, IsInReach, BothStop, IsPairVector, MakesPair, pair_fault}
 use Rattle.strong_pairs.proofs.LeadTerms.{room_of}
 
 -- ---- the same numbers leave the range
@@ -71,30 +73,30 @@ module _ (f g h : Coefficients) (turned : (x : Place) → h x ≡ neg_ℤ (g x))
   sums : (x : Place) → f x -ℤ h x ≡ f x +ℤ g x
   sums x = omega (arith, ints, turned x)
 
-  forth : (x : Place) → DifferenceIsWide f h x → AdditionIsWide f g x
+  forth : (x : Place) → DifferenceIsWide f h x → IsWideAt Add f g x
   forth x (inl w) = inl (omega (arith, w, sizes x))
   forth x (inr w) = inr (subst IsWide (sums x) w)
 
-  back : (x : Place) → AdditionIsWide f g x → DifferenceIsWide f h x
+  back : (x : Place) → IsWideAt Add f g x → DifferenceIsWide f h x
   back x (inl w) = inl (omega (arith, w, sizes x))
   back x (inr w) = inr (subst IsWide (sym (sums x)) w)
 
-  pub added : (r : Result (List Term) VecFault) → Makes (DifferenceIsWide f h) (difference_at f h) r → Makes (AdditionIsWide f g) (λ x. f x +ℤ g x) r
-  added r made = makes_alike (DifferenceIsWide f h) (AdditionIsWide f g) (difference_at f h) (λ x. f x +ℤ g x) forth back sums r made
+  pub added : (r : Result (List Term) VecFault) → Makes (DifferenceIsWide f h) (difference_at f h) r → Makes (IsWideAt Add f g) (λ x. f x +ℤ g x) r
+  added r made = makes_alike (DifferenceIsWide f h) (IsWideAt Add f g) (difference_at f h) (λ x. f x +ℤ g x) forth back sums r made
 
 -- added to the empty vector
 nothing_added : (z : ℤ) → pos 0 +ℤ z ≡ z
 nothing_added z = omega (arith, ints)
 
 pub first_added : (empty : List Term) → empty ≡ [] → (g : Coefficients) (r : Result (List Term) VecFault)
-    → Makes (AdditionIsWide (coefficient_at empty) g) (λ x. coefficient_at empty x +ℤ g x) r → Makes (SumIsWide g) g r
-first_added empty is g r made = makes_alike (AdditionIsWide (coefficient_at empty) g) (SumIsWide g) (λ x. coefficient_at empty x +ℤ g x) g forth
+    → Makes (IsWideAt Add (coefficient_at empty) g) (λ x. coefficient_at empty x +ℤ g x) r → Makes (SumIsWide g) g r
+first_added empty is g r made = makes_alike (IsWideAt Add (coefficient_at empty) g) (SumIsWide g) (λ x. coefficient_at empty x +ℤ g x) g forth
     (λ x w. inl w) none r made
   where
     none : (x : Place) → coefficient_at empty x +ℤ g x ≡ g x
     none x = ap (λ v. coefficient_at v x +ℤ g x) is ∙ nothing_added (g x)
 
-    forth : (x : Place) → AdditionIsWide (coefficient_at empty) g x → SumIsWide g x
+    forth : (x : Place) → IsWideAt Add (coefficient_at empty) g x → SumIsWide g x
     forth x (inl w) = w
     forth x (inr w) = subst IsWide (none x) w
 
@@ -142,16 +144,16 @@ module _ (kind : PairKind) (b : List (List Term)) (i j : ℕ) (first second : St
 
   module _ (v : List Term) (made : Makes (SumIsWide (taken_at b first)) (taken_at b first) (Ok v)) where
     -- the second is added to the first as it was made
-    second_added : (r : Result (List Term) VecFault) → Makes (AdditionIsWide (coefficient_at v) (taken_at b second))
-        (λ x. coefficient_at v x +ℤ taken_at b second x) r → Makes (AdditionIsWide (taken_at b first) (taken_at b second)) (both_at b first second) r
-    second_added r h = subst (λ (f : Coefficients). Makes (AdditionIsWide f (taken_at b second)) (λ x. f x +ℤ taken_at b second x) r) (λ n x. made.is x n) h
+    second_added : (r : Result (List Term) VecFault) → Makes (IsWideAt Add (coefficient_at v) (taken_at b second))
+        (λ x. coefficient_at v x +ℤ taken_at b second x) r → Makes (IsWideAt Add (taken_at b first) (taken_at b second)) (both_at b first second) r
+    second_added r h = subst (λ (f : Coefficients). Makes (IsWideAt Add f (taken_at b second)) (λ x. f x +ℤ taken_at b second x) r) (λ n x. made.is x n) h
 
-    pub second_stops : (fault : VecFault) → Makes (AdditionIsWide (coefficient_at v) (taken_at b second)) (λ x. coefficient_at v x +ℤ taken_at b second x)
+    pub second_stops : (fault : VecFault) → Makes (IsWideAt Add (coefficient_at v) (taken_at b second)) (λ x. coefficient_at v x +ℤ taken_at b second x)
         (Err fault) → MakesPair kind b i j (Err (pair_fault fault))
     second_stops (of_vector.Stop stop) h = by_stop stop (inr ((v, made), second_added (Err (of_vector.Stop stop)) h))
     second_stops of_vector.NoMemory h = tt
 
-    pub both_made : (w : List Term) → Makes (AdditionIsWide (coefficient_at v) (taken_at b second)) (λ x. coefficient_at v x +ℤ taken_at b second x) (Ok w)
+    pub both_made : (w : List Term) → Makes (IsWideAt Add (coefficient_at v) (taken_at b second)) (λ x. coefficient_at v x +ℤ taken_at b second x) (Ok w)
         → IsPairVector kind b i j w
     both_made w h = record { reach = steps.0; first = first; second = second; steps = steps.1; made = ((v, made), second_added (Ok w) h) }
 

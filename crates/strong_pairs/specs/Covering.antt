@@ -1,5 +1,5 @@
 -- Entries that cover a pair.
-use Rattle.std.specs.Prelude.{◌≡◌, ℕ, ◌<◌, ℤ, ◌*ℤ◌, List, length, Option, Some, None}
+use Rattle.std.specs.Prelude.{◌≡◌, ℕ, ◌<◌, ◌%◌, ℤ, ◌*ℤ◌, unsigned_abs, Bool, nat_eq, List, length, Option, Some, None}
 use Rattle.module_vec.specs.declared.places.Term.{Term}
 use Rattle.module_vec.specs.Reducers.{Reduces}
 use Rattle.strong_pairs.specs.Pairs.{lead_at, meeting_place}
@@ -7,6 +7,10 @@ use Rattle.strong_pairs.specs.Pairs.{lead_at, meeting_place}
 -- k divides l
 abbrev pub Divides : ℤ → ℤ → Type 0
 Divides k l = (factor : ℤ) × (l ≡ factor *ℤ k)
+
+-- whether k divides l, as a test of positive numbers
+abbrev pub divides_number : ℤ → ℤ → Bool
+divides_number k l = nat_eq (unsigned_abs l % unsigned_abs k) 0
 
 -- a lead d covers the leads e and f: it divides the place at which they meet, and both coefficients, hence their
 -- greatest common divisor

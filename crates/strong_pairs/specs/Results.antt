@@ -1,8 +1,7 @@
 -- What the call for a pair's vector answers: the vector, or the first of its limits that is met.
-use Rattle.std.specs.Prelude.{◌≡◌, ℕ, ◌<◌, ◌≤◌, ◌⊎◌, ◌+ℤ◌, List, length, Result, Ok, Err}
+use Rattle.std.specs.Prelude.{◌≡◌, ℕ, ◌<◌, ◌≤◌, ◌⊎◌, List, length, Result, Ok, Err}
 use Rattle.laurent_terms.specs.declared.TheConstants.{DEGREE}
 use Rattle.laurent_terms.specs.Monomials.{degree, IsMonomial}
-use Rattle.module_vec.specs.declared.places.Place.{Place}
 use Rattle.module_vec.specs.declared.places.Term.{Term}
 use Rattle.module_vec.specs.declared.steps.Step.{Step}
 use Rattle.module_vec.specs.declared.faults.Stop.{Stop}
@@ -12,7 +11,9 @@ use Rattle.module_vec.specs.declared.faults.VecFault.TheVariants as of_vector
 use Rattle.module_vec.specs.Chains.{taken_at}
 use Rattle.module_vec.specs.Modules.{vector_at}
 use Rattle.module_vec.specs.Results.{SumIsWide, StopsBy, IsMade}
-use Rattle.module_vec.specs.Vectors.{Coefficients, IsWide, InRange, HasRoom}
+use Rattle.module_vec.specs.Vectors.{InRange, HasRoom}
+use Rattle.step_lists.specs.declared.way.Way.TheVariants.{Add}
+use Rattle.step_lists.specs.Sums.{IsWideAt}
 use Rattle.outcomes.specs.declared.kinds.PairKind.{PairKind}
 use Rattle.strong_pairs.specs.declared.faults.PairFault.{PairFault}
 use Rattle.strong_pairs.specs.declared.faults.PairFault.TheVariants as faults
@@ -37,10 +38,6 @@ pub record IsInReach (b : List (List Term)) (s : Step) : Type 0 where
   pub monomial : IsMonomial s.t
   pub room : HasRoom s.t (vector_at b s.by)
 
--- where the multiple g is added to f: the product or the sum is wide at x
-abbrev pub AdditionIsWide : Coefficients → Coefficients → Place → Type 0
-AdditionIsWide f g x = IsWide (g x) ⊎ IsWide (f x +ℤ g x)
-
 -- the first multiple can be made
 abbrev pub FirstIsMade : List (List Term) → Step → Type 0
 FirstIsMade b first = (v : List Term) × IsMade (SumIsWide (taken_at b first)) (taken_at b first) v
@@ -48,12 +45,12 @@ FirstIsMade b first = (v : List Term) × IsMade (SumIsWide (taken_at b first)) (
 -- v is the sum of both multiples, on the way to which nothing met a limit
 abbrev pub BothAreMade : List (List Term) → Step → Step → List Term → Type 0
 BothAreMade b first second v = FirstIsMade b first
-    × IsMade (AdditionIsWide (taken_at b first) (taken_at b second)) (both_at b first second) v
+    × IsMade (IsWideAt Add (taken_at b first) (taken_at b second)) (both_at b first second) v
 
 -- the first multiple meets a limit, or the second one does when it is added to it
 abbrev pub BothStop : List (List Term) → Step → Step → Stop → Type 0
 BothStop b first second stop = StopsBy 0 (SumIsWide (taken_at b first)) (taken_at b first) stop
-    ⊎ (FirstIsMade b first × StopsBy 0 (AdditionIsWide (taken_at b first) (taken_at b second))
+    ⊎ (FirstIsMade b first × StopsBy 0 (IsWideAt Add (taken_at b first) (taken_at b second))
     (both_at b first second) stop)
 
 -- why a pair whose degree is in reach has no vector

@@ -3,10 +3,10 @@
 ghost use Rattle.std.specs.Prelude.{◌≡◌, ◌≤◌, ◌↔◌, pos, ◌<ℤ◌, IsTrue, length};
 ghost use Rattle.laurent_terms.specs.Monomials.{IsMonomial, common_multiple, divides};
 ghost use Rattle.module_vec.specs.Vectors.{IsTerm};
-ghost use Rattle.strong_pairs.specs.Covering.{Divides, CoversLeads, FindsCover};
+ghost use Rattle.strong_pairs.specs.Covering.{CoversLeads, FindsCover};
 ghost use Rattle.strong_pairs.specs.Pairs.{IsPair};
 
-use crate::leads::lead;
+use crate::leads::{divides, lead};
 use laurent_terms::{Mono, VARIABLES};
 use module_vec::{Term, VecList};
 
@@ -37,23 +37,14 @@ fn covers_leads(by: &Term, first: &Term, second: &Term) -> bool
     ensures { IsTrue result ↔ CoversLeads by.now first.now second.now }
 {
     by.at.c == first.at.c
-        && divides_multiple(&by.at.m, &first.at.m, &second.at.m)
+        && divides_common_multiple(&by.at.m, &first.at.m, &second.at.m)
         && divides(by.k, first.k)
         && divides(by.k, second.k)
 }
 
-/// Whether a lead coefficient divides another one.
-fn divides(by: i128, k: i128) -> bool
-    requires by { pos 0 <ℤ by }
-    requires k { pos 0 <ℤ k }
-    ensures { IsTrue result ↔ Divides by k }
-{
-    k % by == 0
-}
-
 /// Whether `by` divides the least common multiple, whose degree may be out of reach. The loop doesn't leave early, so
 /// that it compiles to a few vector instructions.
-fn divides_multiple(by: &Mono, first: &Mono, second: &Mono) -> bool
+fn divides_common_multiple(by: &Mono, first: &Mono, second: &Mono) -> bool
     requires by { IsMonomial by.now }
     requires first { IsMonomial first.now }
     requires second { IsMonomial second.now }

@@ -1,7 +1,8 @@
-//! The lead of an entry.
+//! The lead of an entry, and division of lead coefficients.
 
-ghost use Rattle.std.specs.Prelude.{◌≡◌, ◌<◌, pos, ◌<ℤ◌, length};
+ghost use Rattle.std.specs.Prelude.{◌≡◌, ◌<◌, ◌↔◌, pos, ◌<ℤ◌, IsTrue, length};
 ghost use Rattle.module_vec.specs.Vectors.{IsTerm};
+ghost use Rattle.strong_pairs.specs.Covering.{Divides, divides_number};
 ghost use Rattle.strong_pairs.specs.Pairs.{lead_at};
 
 use module_vec::{Term, VecList};
@@ -14,4 +15,14 @@ pub fn lead<L: VecList>(list: &L, at: u32) -> Term
     ensures positive { pos 0 <ℤ result.k }
 {
     list.vector(at).terms()[0]
+}
+
+/// Whether a lead coefficient divides another one.
+pub fn divides(by: i128, k: i128) -> bool
+    requires by { pos 0 <ℤ by }
+    requires k { pos 0 <ℤ k }
+    ensures test { result ≡ divides_number by k }
+    ensures divides { IsTrue result ↔ Divides by k }
+{
+    k % by == 0
 }

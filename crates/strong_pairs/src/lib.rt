@@ -15,9 +15,9 @@ mod pairs;
 
 pub use covering::covers;
 pub use faults::PairFault;
-pub use leads::lead;
+pub use leads::{divides, lead};
 pub use outcomes::PairKind;
-pub use pairs::{g_vector, is_pair, pair_steps, pair_vector, s_vector};
+pub use pairs::{g_vector, is_pair, pair_steps, pair_sum, pair_vector, s_vector};
 
 #[cfg(test)]
 mod tests;

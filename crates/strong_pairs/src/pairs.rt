@@ -1,12 +1,15 @@
 //! S- and G-vectors.
 
-ghost use Rattle.std.specs.Prelude.{◌+ℤ◌, ◌↔◌, IsTrue, IfOk};
+ghost use Rattle.std.specs.Prelude.{ℕ, ◌+ℤ◌, ◌↔◌, IsTrue, IfOk, Ok};
 ghost use Rattle.module_vec.specs.Chains.{taken_at};
 ghost use Rattle.module_vec.specs.Results.{Makes};
 ghost use Rattle.module_vec.specs.Vectors.{coefficient_at};
+ghost use Rattle.outcomes.specs.declared.kinds.PairKind.{PairKind};
 ghost use Rattle.outcomes.specs.declared.kinds.PairKind.TheVariants.{S, G};
+ghost use Rattle.step_lists.specs.declared.way.Way.TheVariants.{Add};
+ghost use Rattle.step_lists.specs.Sums.{IsWideAt};
 ghost use Rattle.strong_pairs.specs.Pairs.{IsPair};
-ghost use Rattle.strong_pairs.specs.Results.{FindsSteps, IsInReach, AdditionIsWide, MakesPair};
+ghost use Rattle.strong_pairs.specs.Results.{FindsSteps, IsInReach, MakesPair};
 
 use crate::factors::factors;
 use crate::leads::lead;
@@ -50,8 +53,24 @@ pub fn pair_vector<L: VecList>(
     ensures { MakesPair kind (L.vectors list.now) i j result }
 {
     let (first, second) = pair_steps(list, kind, i, j)?;
-    let multiple = plus(alloc, list, &ModVec::empty(alloc), &first)?;
-    Ok(plus(alloc, list, &multiple, &second)?)
+    pair_sum(alloc, list, &first, &second)
+}
+
+/// The sum of two steps, the first multiple and then the second, which is the pair's vector where [`pair_steps`] gave
+/// them. Its stops are `Wide` and `Long`, as those of [`s_vector`].
+pub fn pair_sum<L: VecList>(
+    alloc: Global,
+    list: &L,
+    first: &Step,
+    second: &Step,
+) -> Result<ModVec, PairFault>
+    requires first { IsInReach (L.vectors list.now) first.now }
+    requires second { IsInReach (L.vectors list.now) second.now }
+    ensures { (kind : PairKind) (i j : ℕ) → FindsSteps kind (L.vectors list.now) i j (Ok (first.now, second.now))
+        → MakesPair kind (L.vectors list.now) i j result }
+{
+    let multiple = plus(alloc, list, &ModVec::empty(alloc), first)?;
+    Ok(plus(alloc, list, &multiple, second)?)
 }
 
 /// Whether i and j, i below j, are numbers of entries whose leads have one component.
@@ -98,7 +117,7 @@ fn plus<L: VecList>(alloc: Global, list: &L, v: &ModVec, step: &Step) -> Result<
     requires { IsInReach (L.vectors list.now) step.now }
     ensures { let f = coefficient_at v.now in
         let g = taken_at (L.vectors list.now) step.now in
-        Makes (AdditionIsWide f g) (λ x. f x +ℤ g x) result }
+        Makes (IsWideAt Add f g) (λ x. f x +ℤ g x) result }
 {
     v.sub_multiple(alloc, -step.q, &step.t, list.vector(step.by))
 }

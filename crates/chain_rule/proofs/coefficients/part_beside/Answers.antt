@@ -1,7 +1,7 @@
 use Rattle.std.proofs.Common.{rules, FitsSigned}
 use Rattle.std.proofs.lemmas.Int.{to_z-of_z}
 use mir.Syntax.{w128}
-use Rattle.chain_rule.proofs.Parts.{part_is, part_positive}
+use Rattle.chain_rule.proofs.GcdQuotients.{part_is, part_positive}
 use Rattle.chain_rule.proofs.coefficients.part_beside.Goals as goal
 
 pub returns-clause-positive : goal.returns-clause-positive

@@ -13,19 +13,19 @@ pub loop-top-init : goal.loop-top-init
 loop-top-init g c =
     let new = c.in_ok-reduction.ensures in (
       λ f h. passed_parts (take c.args.front (g.L.VecList.vectors c.args.list.now)) f c.args.steps.items c.in_ok-reduction.reduction.steps.items c.args.w.now
-          c.in_ok-reduction.reduction.rest.items c.in_ok-reduction.reduction.dividend.0 c.args.passed new.is.0 new.is.1 new.is.2 h,
+          c.in_ok-reduction.reduction.rest.items c.in_ok-reduction.reduction.dividend c.args.passed new.is.0 new.is.1 new.is.2 h,
       omega (arith, c.requires.way.1.1.most, ap length new.is.2),
       omega (
         arith,
         new.vector.most,
-        length_parts c.args.w.now c.in_ok-reduction.reduction.rest.items c.in_ok-reduction.reduction.dividend.0 c.args.passed
+        length_parts c.args.w.now c.in_ok-reduction.reduction.rest.items c.in_ok-reduction.reduction.dividend c.args.passed
             new.is.0 new.is.1,
       ),
     )
 
 pub of_falling-requires : goal.of_falling-requires
 of_falling-requires g c = (ends (take c.args.front (g.L.VecList.vectors c.args.list.now)) c.requires.way.0 c.loop-top.reduction.steps.items
-    c.loop-top.reduction.rest.items c.loop-top.reduction.dividend.0 (c.loop-top.invariant.0 c.requires.way.0 c.requires.way.1) c.in_default.ensures.is).vector
+    c.loop-top.reduction.rest.items c.loop-top.reduction.dividend (c.loop-top.invariant.0 c.requires.way.0 c.requires.way.1) c.in_default.ensures.is).vector
 
 pub vector-requires : goal.vector-requires
 vector-requires g c = let due = c.in-Some-due.ensures
@@ -33,15 +33,15 @@ vector-requires g c = let due = c.in-Some-due.ensures
 
 pub make-requires-clause-room : goal.make-requires-clause-room
 make-requires-clause-room g c =
-    let all : IsSparse (c.in-Some.top ∷ c.pop.new.self.0) = subst IsSparse c.in-Some.ensures.is c.in-Some.ensures.sparse in
+    let all : IsSparse (c.in-Some.top ∷ c.pop.new.self) = subst IsSparse c.in-Some.ensures.is c.in-Some.ensures.sparse in
     room_at (g.L.VecList.vectors c.args.list.now) c.args.front c.in-Some.top c.in-Some-due.step c.vector.result.now c.count.ensures.entries all.terms.0.place
     c.in-Some-due.ensures c.vector.ensures.is
 
 pub loop-top-smaller-in-Continue-branch-2 : goal.loop-top-smaller-in-Continue-branch-2
 loop-top-smaller-in-Continue-branch-2 g c =
     let limits = c.in_ok-make-in-Some-due.ensures.limits in
-    fewer_left (length c.loop-top.reduction.steps.items) (length c.make.new.self.steps.items) (length c.loop-top.reduction.dividend.0)
-    (length c.make.new.self.dividend.0)
+    fewer_left (length c.loop-top.reduction.steps.items) (length c.make.new.self.steps.items) (length c.loop-top.reduction.dividend)
+    (length c.make.new.self.dividend)
     (ap length c.in_ok-make-in-Some-due.ensures.step ∙ length-append c.loop-top.reduction.steps.items (c.in-Some-due.step ∷ [])) limits.0
     (omega (arith, limits.1))
 
@@ -73,9 +73,9 @@ pub loop-top-preserved : goal.loop-top-preserved
 loop-top-preserved g c =
     let k : FitsSigned w128 c.in-Some.top.k = search rules in
     let push = c.in_ok-push-in-None.ensures.items in (
-      λ f h. subst (λ w. Running (take c.args.front (g.L.VecList.vectors c.args.list.now)) f c.loop-top.reduction.steps.items w c.pop.new.self.0) (sym push)
+      λ f h. subst (λ w. Running (take c.args.front (g.L.VecList.vectors c.args.list.now)) f c.loop-top.reduction.steps.items w c.pop.new.self) (sym push)
           (keeps (take c.args.front (g.L.VecList.vectors c.args.list.now)) f c.loop-top.reduction.steps.items c.loop-top.reduction.rest.items c.in-Some.top
-          c.pop.new.self.0
+          c.pop.new.self
           (subst (Running (take c.args.front (g.L.VecList.vectors c.args.list.now)) f c.loop-top.reduction.steps.items c.loop-top.reduction.rest.items)
           c.in-Some.ensures.is (c.loop-top.invariant.0 f h)) c.in-None.ensures),
       c.loop-top.invariant.1,
@@ -86,5 +86,5 @@ pub returns : goal.returns
 returns g c f h =
     let b : List (List Term) = take c.args.front (g.L.VecList.vectors c.args.list.now) in
     subst (λ w. IsRest b f w c.loop-top.reduction.steps.items) (sym c.of_falling.ensures)
-    (ends b f c.loop-top.reduction.steps.items c.loop-top.reduction.rest.items c.loop-top.reduction.dividend.0 (c.loop-top.invariant.0 f h)
+    (ends b f c.loop-top.reduction.steps.items c.loop-top.reduction.rest.items c.loop-top.reduction.dividend (c.loop-top.invariant.0 f h)
     c.in_default.ensures.is)

@@ -7,8 +7,8 @@ use Rattle.reduce_cofactor.proofs.reduction.finish.Given as goal
 abbrev pub invariant-loop-top : goal.invariant-loop-top
 invariant-loop-top g l =
     ((f : Coefficients) → HasPassed (take l.front (g.L.VecList.vectors l.list)) f l.fn.steps.items l.w l.passed
-    → Running (take l.front (g.L.VecList.vectors l.list)) f l.reduction.steps.items l.reduction.rest.items l.reduction.dividend.0)
-    × (length l.reduction.steps.items ≤ STEPS) × (length l.reduction.rest.items + length l.reduction.dividend.0 ≤ TERMS)
+    → Running (take l.front (g.L.VecList.vectors l.list)) f l.reduction.steps.items l.reduction.rest.items l.reduction.dividend)
+    × (length l.reduction.steps.items ≤ STEPS) × (length l.reduction.rest.items + length l.reduction.dividend ≤ TERMS)
 
 abbrev pub decreases-loop-top : goal.decreases-loop-top
-decreases-loop-top g l = (STEPS - length l.reduction.steps.items) * (TERMS + 1) + length l.reduction.dividend.0
+decreases-loop-top g l = (STEPS - length l.reduction.steps.items) * (TERMS + 1) + length l.reduction.dividend

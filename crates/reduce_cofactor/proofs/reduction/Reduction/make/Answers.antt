@@ -6,22 +6,21 @@ use Rattle.module_vec.specs.declared.places.Place.{Place}
 use Rattle.module_vec.specs.declared.places.Term.{Term}
 use Rattle.module_vec.specs.declared.steps.Step.{Step}
 use Rattle.module_vec.specs.declared.faults.Stop.TheVariants.{Wide, Long}
-use Rattle.module_vec.specs.Vectors.{Coefficients, coefficient_at, multiple_at, IsSparse}
+use Rattle.module_vec.specs.Vectors.{Coefficients, coefficient_at, multiple_at, difference_at}
 use Rattle.module_vec.specs.Results.{DifferenceIsWide}
 use Rattle.module_vec.specs.Chains.{ChainStops}
-use Rattle.module_vec.specs.Merging.{Subtracts}
-use Rattle.reduce_cofactor.specs.declared.dividend.Change.{Change}
+use Rattle.module_vec.specs.Merging.{Subtracts, IsFound}
+use Rattle.changed_terms.specs.Taking.{CannotTake}
 use Rattle.reduce_cofactor.specs.Answers.{Fails}
-use Rattle.reduce_cofactor.specs.Dividends.{FailsAt, AreChanges, overwritten}
-use Rattle.reduce_cofactor.specs.Running.{Running, IsKept}
+use Rattle.reduce_cofactor.specs.Running.{Running, IsKept, fault_in}
 use Rattle.reduce_cofactor.specs.Steps.{IsStepAt}
 use Rattle.reduce_cofactor.proofs.Resting.{read_parts, room_behind, err_matches}
-use Rattle.reduce_cofactor.proofs.Stepping.{stops_deep, stops_lead, stops_changes, stops_long, goes_on, Made}
+use Rattle.reduce_cofactor.proofs.Stepping.{stops_deep, stops_lead, stops_taking, stops_long, goes_on, Made}
 use Rattle.reduce_cofactor.proofs.reduction.Reduction.make.Goals as goal
 
 pub returns-then-made-eq-STEPS-clause-is : goal.returns-then-made-eq-STEPS-clause-is
 returns-then-made-eq-STEPS-clause-is c b v due entry r = stops_deep b v c.args.self.now.steps.items c.args.self.now.rest.items c.args.top
-    c.args.self.now.dividend.0 c.args.step r due (omega (arith, c.len-made.ensures, c.if-made-eq-STEPS.true))
+    c.args.self.now.dividend c.args.step r due (omega (arith, c.len-made.ensures, c.if-made-eq-STEPS.true))
 
 pub returns-in_default-clause-is : goal.returns-in_default-clause-is
 returns-in_default-clause-is c b v due entry r =
@@ -34,47 +33,48 @@ returns-in_default-clause-is c b v due entry r =
     let count : c.len-made.result ≡ length c.args.self.now.steps.items = omega (arith, c.len-made.ensures) in
     let few : length c.args.self.now.steps.items < STEPS = omega (arith, c.len-made.ensures, c.if-made-eq-STEPS.false, c.requires.made) in
     subst (λ n. ChainStops b v (Wide c.args.top.at (n + 1))) (sym count)
-    (stops_lead b v c.args.self.now.steps.items c.args.self.now.rest.items c.args.top c.args.self.now.dividend.0 c.args.step r due few
+    (stops_lead b v c.args.self.now.steps.items c.args.self.now.rest.items c.args.top c.args.self.now.dividend c.args.step r due few
     (subst (λ (u : Term). Subtracts c.args.top.k c.args.step.q u.k None) (sym parts.0) wide))
 
-pub changes-requires-clause-room : goal.changes-requires-clause-room
-changes-requires-clause-room c = room_behind c.args.step.t c.args.entry.now c.terms-terms.result.now (length c.terms-terms.result.now - 1)
+pub take-requires-clause-room : goal.take-requires-clause-room
+take-requires-clause-room c = room_behind c.args.step.t c.args.entry.now c.terms-terms.result.now (length c.terms-terms.result.now - 1)
     c.requires.entry.vector.sparse.falling c.requires.room c.terms-terms.ensures.is
 
-pub returns-in_err-changes-clause-is : goal.returns-in_err-changes-clause-is
-returns-in_err-changes-clause-is c b v due entry r =
+pub returns-in-Err-clause-is : goal.returns-in-Err-clause-is
+returns-in-Err-clause-is c b v due entry r =
     let q : FitsSigned w128 c.args.step.q = search rules in
     let k : FitsSigned w128 c.args.top.k = search rules in
     let l : FitsSigned w128 c.index-terms-0.result.k = search rules in
     let z : FitsSigned w128 c.in-Some.k = search rules in
     let reduced = simp to_z-of_z at c.in-Some.ensures in
-    let fault = simp to_z-of_z at c.in_err-changes.ensures in
+    let fault = simp to_z-of_z at c.in-Err.ensures.is in
     let parts = read_parts b c.args.step.by due.lead due.others c.args.entry.now c.terms-terms.result.now c.index-terms-0.result due.reducer.entry entry
     c.terms-terms.ensures.is c.index-terms-0.is in
     let count : c.len-made.result ≡ length c.args.self.now.steps.items = omega (arith, c.len-made.ensures) in
     let few : length c.args.self.now.steps.items < STEPS = omega (arith, c.len-made.ensures, c.if-made-eq-STEPS.false, c.requires.made) in
-    err_matches _ c.from_residual.result _ (Fails b v) c.from_residual.ensures.1 (λ e same. subst (Fails b v) (sym same)
-    (stops_changes b v c.args.self.now.steps.items c.args.self.now.rest.items c.args.top c.args.self.now.dividend.0 c.args.step r due few c.in-Some.k
-    (subst (λ (u : Term). Subtracts c.args.top.k c.args.step.q u.k (Some c.in-Some.k)) (sym parts.0) reduced) c.in_err-changes.field-0.0
-    (subst (λ n. FailsAt (n + 1) (DifferenceIsWide (coefficient_at c.args.self.now.dividend.0) (multiple_at c.args.step.q c.args.step.t due.others))
-    c.in_err-changes.field-0.0) count
-    (subst (λ w. FailsAt (c.len-made.result + 1) (DifferenceIsWide (coefficient_at c.args.self.now.dividend.0) (multiple_at c.args.step.q c.args.step.t w))
-    c.in_err-changes.field-0.0) (sym parts.1) fault))))
+    subst (Fails b v) (sym c.in_step.ensures) (subst (λ n. Fails b v (fault_in c.in-Err.fault (n + 1))) (sym count)
+    (stops_taking b v c.args.self.now.steps.items c.args.self.now.rest.items c.args.top c.args.self.now.dividend c.args.step r due few c.in-Some.k
+    (subst (λ (u : Term). Subtracts c.args.top.k c.args.step.q u.k (Some c.in-Some.k)) (sym parts.0) reduced) c.in-Err.fault
+    (subst (λ w. CannotTake (DifferenceIsWide (coefficient_at c.args.self.now.dividend) (multiple_at c.args.step.q c.args.step.t w)) c.in-Err.fault)
+    (sym parts.1) fault)))
 
 -- what the calls leave is the vector after the step
 made_by : (b : List (List Term)) (v : Coefficients) (ss : List Step) (rest : List Term) (top : Term) (dividend : List Term) (s : Step)
-    (r : Running b v ss rest (top ∷ dividend)) (due : IsStepAt b top s) (k : ℤ) (rest' dividend' others : List Term) (changes : List Change) (x : Term) →
-    due.lead ≡ x → due.others ≡ others → Subtracts top.k s.q x.k (Some k) → AreChanges (coefficient_at dividend) (multiple_at s.q s.t others) changes
-    → ((y : Place) → coefficient_at dividend' y ≡ overwritten changes (coefficient_at dividend) y) → IsSparse dividend' → IsKept rest top.at k rest'
-    → Made b v ss rest top dividend s r due k rest' dividend'
-made_by b v ss rest top dividend s r due k rest' dividend' others changes x lead same reduced are is sparse kept =
-    let taken : AreChanges (coefficient_at dividend) (multiple_at s.q s.t due.others) changes =
-    subst (λ w. AreChanges (coefficient_at dividend) (multiple_at s.q s.t w) changes) (sym same) are in
+    (r : Running b v ss rest (top ∷ dividend)) (due : IsStepAt b top s) (k : ℤ) (rest' dividend' others : List Term) (x : Term) →
+    due.lead ≡ x → due.others ≡ others → Subtracts top.k s.q x.k (Some k)
+    → IsFound (DifferenceIsWide (coefficient_at dividend) (multiple_at s.q s.t others))
+      (difference_at (coefficient_at dividend) (multiple_at s.q s.t others)) dividend'
+    → IsKept rest top.at k rest' → Made b v ss rest top dividend s r due k rest' dividend'
+made_by b v ss rest top dividend s r due k rest' dividend' others x lead same reduced found kept =
+    let taken : IsFound (DifferenceIsWide (coefficient_at dividend) (multiple_at s.q s.t due.others))
+    (difference_at (coefficient_at dividend) (multiple_at s.q s.t due.others)) dividend' =
+    subst (λ w. IsFound (DifferenceIsWide (coefficient_at dividend) (multiple_at s.q s.t w))
+    (difference_at (coefficient_at dividend) (multiple_at s.q s.t w)) dividend') (sym same) found in
     record {
       left = subst (λ (u : Term). Subtracts top.k s.q u.k (Some k)) (sym lead) reduced;
       narrow = taken.narrow;
-      sparse = sparse;
-      is = λ y. is y ∙ taken.is y;
+      sparse = taken.sparse;
+      is = taken.is;
       kept = kept;
     }
 
@@ -85,21 +85,20 @@ returns-then-count-clause-is c b v due entry r =
     let l : FitsSigned w128 c.index-terms-0.result.k = search rules in
     let z : FitsSigned w128 c.in-Some.k = search rules in
     let reduced = simp to_z-of_z at c.in-Some.ensures in
-    let are = simp to_z-of_z at c.in_ok-changes.ensures.0 in
+    let found = simp to_z-of_z at c.in-Ok.ensures.is in
     let kept = simp to_z-of_z at c.in_ok-keep.ensures in
     let parts = read_parts b c.args.step.by due.lead due.others c.args.entry.now c.terms-terms.result.now c.index-terms-0.result due.reducer.entry entry
     c.terms-terms.ensures.is c.index-terms-0.is in
     let count : c.len-made.result ≡ length c.args.self.now.steps.items = omega (arith, c.len-made.ensures) in
     let few : length c.args.self.now.steps.items < STEPS = omega (arith, c.len-made.ensures, c.if-made-eq-STEPS.false, c.requires.made) in
-    let total : c.len.result + c.len-2.result ≡ length c.keep.new.rest.items + length c.change.new.self.0 = omega (arith, c.len.ensures, c.len-2.ensures.is) in
-    let made = made_by b v c.args.self.now.steps.items c.args.self.now.rest.items c.args.top c.args.self.now.dividend.0 c.args.step r due c.in-Some.k
-    c.keep.new.rest.items c.change.new.self.0 (take (length c.terms-terms.result.now - 1) (drop 1 c.terms-terms.result.now)) c.in_ok-changes.changes.items
-    c.index-terms-0.result parts.0 parts.1 reduced are (subst (λ w. (y : Place) → coefficient_at c.change.new.self.0 y
-    ≡ overwritten w (coefficient_at c.args.self.now.dividend.0) y) c.as_slice.ensures.value c.in_ok-change.ensures.is) c.len-2.ensures.sparse kept in
+    let total : c.len.result + c.len-2.result ≡ length c.keep.new.rest.items + length c.take.new.self = omega (arith, c.len.ensures, c.len-2.ensures) in
+    let made = made_by b v c.args.self.now.steps.items c.args.self.now.rest.items c.args.top c.args.self.now.dividend c.args.step r due c.in-Some.k
+    c.keep.new.rest.items c.take.new.self (take (length c.terms-terms.result.now - 1) (drop 1 c.terms-terms.result.now))
+    c.index-terms-0.result parts.0 parts.1 reduced found kept in
     subst (λ n. ChainStops b v (Long n (c.len-made.result + 1))) (sym total)
-    (subst (λ n. ChainStops b v (Long (length c.keep.new.rest.items + length c.change.new.self.0) (n + 1))) (sym count)
-    (stops_long b v c.args.self.now.steps.items c.args.self.now.rest.items c.args.top c.args.self.now.dividend.0 c.args.step r due c.in-Some.k
-    c.keep.new.rest.items c.change.new.self.0 made few (omega (arith, total, c.if-count.true))))
+    (subst (λ n. ChainStops b v (Long (length c.keep.new.rest.items + length c.take.new.self) (n + 1))) (sym count)
+    (stops_long b v c.args.self.now.steps.items c.args.self.now.rest.items c.args.top c.args.self.now.dividend c.args.step r due c.in-Some.k
+    c.keep.new.rest.items c.take.new.self made few (omega (arith, total, c.if-count.true))))
 
 pub returns-clause-is : goal.returns-clause-is
 returns-clause-is c b v due entry r =
@@ -108,18 +107,17 @@ returns-clause-is c b v due entry r =
     let l : FitsSigned w128 c.index-terms-0.result.k = search rules in
     let z : FitsSigned w128 c.in-Some.k = search rules in
     let reduced = simp to_z-of_z at c.in-Some.ensures in
-    let are = simp to_z-of_z at c.in_ok-changes.ensures.0 in
+    let found = simp to_z-of_z at c.in-Ok.ensures.is in
     let kept = simp to_z-of_z at c.in_ok-keep.ensures in
     let parts = read_parts b c.args.step.by due.lead due.others c.args.entry.now c.terms-terms.result.now c.index-terms-0.result due.reducer.entry entry
     c.terms-terms.ensures.is c.index-terms-0.is in
     let count : c.len-made.result ≡ length c.args.self.now.steps.items = omega (arith, c.len-made.ensures) in
     let few : length c.args.self.now.steps.items < STEPS = omega (arith, c.len-made.ensures, c.if-made-eq-STEPS.false, c.requires.made) in
-    let total : c.len.result + c.len-2.result ≡ length c.keep.new.rest.items + length c.change.new.self.0 = omega (arith, c.len.ensures, c.len-2.ensures.is) in
-    let made = made_by b v c.args.self.now.steps.items c.args.self.now.rest.items c.args.top c.args.self.now.dividend.0 c.args.step r due c.in-Some.k
-    c.keep.new.rest.items c.change.new.self.0 (take (length c.terms-terms.result.now - 1) (drop 1 c.terms-terms.result.now)) c.in_ok-changes.changes.items
-    c.index-terms-0.result parts.0 parts.1 reduced are (subst (λ w. (y : Place) → coefficient_at c.change.new.self.0 y
-    ≡ overwritten w (coefficient_at c.args.self.now.dividend.0) y) c.as_slice.ensures.value c.in_ok-change.ensures.is) c.len-2.ensures.sparse kept in
+    let total : c.len.result + c.len-2.result ≡ length c.keep.new.rest.items + length c.take.new.self = omega (arith, c.len.ensures, c.len-2.ensures) in
+    let made = made_by b v c.args.self.now.steps.items c.args.self.now.rest.items c.args.top c.args.self.now.dividend c.args.step r due c.in-Some.k
+    c.keep.new.rest.items c.take.new.self (take (length c.terms-terms.result.now - 1) (drop 1 c.terms-terms.result.now))
+    c.index-terms-0.result parts.0 parts.1 reduced found kept in
     let push = c.in_ok-push.ensures.items in
-    subst (λ ss. Running b v ss c.keep.new.rest.items c.change.new.self.0) (sym push)
-    (goes_on b v c.args.self.now.steps.items c.args.self.now.rest.items c.args.top c.args.self.now.dividend.0 c.args.step r due c.in-Some.k
-    c.keep.new.rest.items c.change.new.self.0 made few (omega (arith, total, c.if-count.false)))
+    subst (λ ss. Running b v ss c.keep.new.rest.items c.take.new.self) (sym push)
+    (goes_on b v c.args.self.now.steps.items c.args.self.now.rest.items c.args.top c.args.self.now.dividend c.args.step r due c.in-Some.k
+    c.keep.new.rest.items c.take.new.self made few (omega (arith, total, c.if-count.false)))

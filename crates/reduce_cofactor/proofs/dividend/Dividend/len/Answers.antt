@@ -1,8 +1,0 @@
-use Rattle.std.proofs.Common.{subst}
-use Rattle.module_vec.specs.Vectors.{IsSparse}
-use Rattle.reduce_cofactor.proofs.Overlays.{sparse_overlay}
-use Rattle.reduce_cofactor.proofs.dividend.Dividend.len.Goals as goal
-
-pub returns-clause-sparse : goal.returns-clause-sparse
-returns-clause-sparse c = subst IsSparse (λ i. (c.self.view_is i).0) (sparse_overlay c.self.inside.changed.entries c.self.inside.given.now c.self.invariant.1
-    c.self.invariant.0)
