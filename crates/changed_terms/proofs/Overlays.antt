@@ -1,5 +1,5 @@
 -- The terms of a dividend: those that were given, with the coefficients of a map in their stead.
-use Rattle.std.proofs.Common.{◌≡◌, ◌≢◌, ℕ, zero, suc, ◌+◌, ◌≤◌, ℤ, pos, negsuc, ◌+ℤ◌, Bool, true, false, cond, List, [], ◌∷◌, ◌++◌, length, append-nil, refl}
+use Rattle.std.proofs.Common.{◌≡◌, ◌≢◌, ℕ, zero, suc, ◌+◌, ℤ, pos, negsuc, ◌+ℤ◌, Bool, true, false, cond, List, [], ◌∷◌, ◌++◌, length, append-nil, refl}
 use Rattle.std.proofs.Common.{sym, ap, ◌∙◌, subst, arith, ◌⊎◌, inl, inr}
 use Rattle.std.specs.Prelude.{Some, slice_get}
 use Rattle.std.specs.Option.{unwrap_or}
@@ -225,10 +225,6 @@ pub passes_given : (es : List (Place × ℤ)) (t : Term) (v given : List Term) �
     → Passes (overlay es given) t (overlay es v)
 passes_given es t v given h is below = inr ((subst IsSparse is h).terms.0.nonzero, ap (overlay es) is ∙ overlay_above t es v below)
 
-pub passes_count : (old new : List Term) (t : Term) → Passes old t new → length old ≡ length new + presence t.k
-passes_count old new t (inl h) = let none : presence t.k ≡ 0 = ap presence h.0 in omega (arith, ap length h.1, none)
-passes_count old new t (inr h) = omega (arith, ap length h.1, presence_one t.k h.0)
-
 -- ---- a change
 
 all_inserted : (es : List (Place × ℤ)) (p : Place) (k : ℤ) → AllByRecursion IsCoefficient es → IsPlace p → InRange k
@@ -314,16 +310,8 @@ greater_test p q e = by (place_cmp p q) refl e
 pub test_greater : (p q : Place) → IsBelow q p → is_gt (place_cmp p q) ≡ true
 test_greater p q h = ap is_gt (place_total.antisymm p q ∙ ap ordering_reverse h)
 
-pub presence_of : (t : Term) (v given : List Term) → IsSparse given → given ≡ t ∷ v → presence t.k ≡ 1
-presence_of t v given h is = presence_one t.k (subst IsSparse is h).terms.0.nonzero
-
 -- what is left of the given terms
 pub sparse_skips : (p : Place) (v left : List Term) → IsSparse v → Skips p v left → IsSparse left
 sparse_skips p [] left h s = subst IsSparse (sym s) h
 sparse_skips p (t ∷ v) left h (inl s) = subst IsSparse (sym s.1) (record { falling = h.falling.1; terms = h.terms.1 })
 sparse_skips p (t ∷ v) left h (inr s) = subst IsSparse (sym s.1) h
-
-pub presence_most : (z : ℤ) → presence z ≤ 1
-presence_most (pos zero) = omega arith
-presence_most (pos (suc n)) = omega arith
-presence_most (negsuc n) = omega arith

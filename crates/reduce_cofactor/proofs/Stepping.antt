@@ -40,8 +40,6 @@ use Rattle.reduce_cofactor.specs.Answers.{IsRest, Fails}
 use Rattle.changed_terms.specs.declared.faults.TakeFault.{TakeFault}
 use Rattle.changed_terms.specs.declared.faults.TakeFault.TheVariants as taking
 use Rattle.changed_terms.specs.Taking.{CannotTake}
-use Rattle.reduce_cofactor.specs.declared.faults.ReduceFault.{ReduceFault}
-use Rattle.reduce_cofactor.specs.declared.faults.ReduceFault.TheVariants as faults
 use Rattle.changed_terms.proofs.Joins.{above_next, falls_front, falls_join}
 use Rattle.changed_terms.proofs.Differences.{multiple_below}
 use Rattle.reduce_cofactor.proofs.FallingFronts.{same_front}

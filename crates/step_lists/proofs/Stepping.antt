@@ -8,7 +8,7 @@ use Rattle.module_vec.specs.declared.TheConstants.{TERMS}
 use Rattle.module_vec.specs.declared.places.Place.{Place}
 use Rattle.module_vec.specs.declared.places.Term.{Term}
 use Rattle.module_vec.specs.Places.{same_place, moved}
-use Rattle.module_vec.specs.Vectors.{Coefficients, coefficient_at, multiple_at, difference_at, IsWide, IsSparse}
+use Rattle.module_vec.specs.Vectors.{Coefficients, multiple_at, difference_at, IsWide}
 use Rattle.module_vec.specs.Results.{Nowhere, DifferenceIsWide, HasTerms, IsMade}
 use Rattle.module_vec.specs.Merging.{IsFound}
 use Rattle.changed_terms.specs.declared.faults.TakeFault.{TakeFault}

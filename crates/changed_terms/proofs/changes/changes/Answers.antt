@@ -1,4 +1,4 @@
-use Rattle.std.proofs.Common.{rules, ◌≡◌, ◌∙◌, sym, ap, subst, refl, ◌∷◌, ◌++◌, ◌+◌, take, drop, length, map, ◌-ℤ◌, ◌*ℤ◌, FitsSigned, None}
+use Rattle.std.proofs.Common.{rules, ◌≡◌, ◌∙◌, sym, ap, subst, ◌∷◌, ◌++◌, ◌+◌, take, drop, length, map, ◌-ℤ◌, ◌*ℤ◌, FitsSigned, None}
 use mir.Syntax.{w128}
 use Rattle.std.proofs.lemmas.Int.{to_z-of_z}
 use Rattle.std.proofs.lemmas.List.{take-append-drop, take_all, length-map}

@@ -1,4 +1,4 @@
-use Rattle.std.proofs.Common.{rules, ◌≡◌, ◌∙◌, ap, subst, length, FitsSigned}
+use Rattle.std.proofs.Common.{rules, ◌∙◌, ap, FitsSigned}
 use mir.Syntax.{w128}
 use Rattle.std.proofs.lemmas.Int.{to_z-of_z}
 use Rattle.module_vec.specs.Vectors.{coefficient_at}

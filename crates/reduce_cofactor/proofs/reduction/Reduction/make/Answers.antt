@@ -1,8 +1,7 @@
-use Rattle.std.proofs.Common.{rules, arith, ◌≡◌, ◌∙◌, sym, subst, List, ◌<◌, ◌+◌, ◌-◌, ◌∷◌, length, take, drop, ℤ, FitsSigned, Some, None}
+use Rattle.std.proofs.Common.{rules, arith, ◌≡◌, sym, subst, List, ◌<◌, ◌+◌, ◌-◌, ◌∷◌, length, take, drop, ℤ, FitsSigned, Some, None}
 use mir.Syntax.{w128}
 use Rattle.std.proofs.lemmas.Int.{to_z-of_z}
 use Rattle.module_vec.specs.declared.TheConstants.{STEPS}
-use Rattle.module_vec.specs.declared.places.Place.{Place}
 use Rattle.module_vec.specs.declared.places.Term.{Term}
 use Rattle.module_vec.specs.declared.steps.Step.{Step}
 use Rattle.module_vec.specs.declared.faults.Stop.TheVariants.{Wide, Long}
@@ -14,7 +13,7 @@ use Rattle.changed_terms.specs.Taking.{CannotTake}
 use Rattle.reduce_cofactor.specs.Answers.{Fails}
 use Rattle.reduce_cofactor.specs.Running.{Running, IsKept, fault_in}
 use Rattle.reduce_cofactor.specs.Steps.{IsStepAt}
-use Rattle.reduce_cofactor.proofs.Resting.{read_parts, room_behind, err_matches}
+use Rattle.reduce_cofactor.proofs.Resting.{read_parts, room_behind}
 use Rattle.reduce_cofactor.proofs.Stepping.{stops_deep, stops_lead, stops_taking, stops_long, goes_on, Made}
 use Rattle.reduce_cofactor.proofs.reduction.Reduction.make.Goals as goal
 
@@ -63,7 +62,7 @@ made_by : (b : List (List Term)) (v : Coefficients) (ss : List Step) (rest : Lis
     (r : Running b v ss rest (top ∷ dividend)) (due : IsStepAt b top s) (k : ℤ) (rest' dividend' others : List Term) (x : Term) →
     due.lead ≡ x → due.others ≡ others → Subtracts top.k s.q x.k (Some k)
     → IsFound (DifferenceIsWide (coefficient_at dividend) (multiple_at s.q s.t others))
-      (difference_at (coefficient_at dividend) (multiple_at s.q s.t others)) dividend'
+    (difference_at (coefficient_at dividend) (multiple_at s.q s.t others)) dividend'
     → IsKept rest top.at k rest' → Made b v ss rest top dividend s r due k rest' dividend'
 made_by b v ss rest top dividend s r due k rest' dividend' others x lead same reduced found kept =
     let taken : IsFound (DifferenceIsWide (coefficient_at dividend) (multiple_at s.q s.t due.others))
