@@ -1,6 +1,5 @@
 pub mod Lists
 pub mod Passing
-pub mod Images
 pub mod Signs
 pub mod Agreeing
 pub mod ShortWords
