@@ -4,4 +4,4 @@ pub mod Vectors
 pub mod Growing
 pub mod Sizes
 pub mod Over
-mod Firsts
+pub mod Firsts

@@ -113,7 +113,8 @@ module _ (p : Presented) (gens : List (List Term)) where
   entry_line b k e at few known over next = (
     omega (arith, at, few),
     (
-      made_read (length p.names) (made_by e.recipe) over.recipe (made_monomials e.recipe known.monomials) (next_small gens b (made_by e.recipe) e.vector few next.is),
+      made_read (length p.names) (made_by e.recipe) over.recipe (made_monomials e.recipe known.monomials)
+        (next_small gens b (made_by e.recipe) e.vector few next.is),
       record { vector = known.entry.vector; over = over.vector },
     ),
   )

@@ -16,7 +16,8 @@ use Rattle.report_text.specs.Reports.{Reported}
 
 -- ---- what holds of the parts of every report
 
--- what the types of its parts keep, and of the end, that its numbers are of 32 bits and that it names a place in reach, if any
+-- what the types of its parts keep, and of the end, that its numbers are of 32 bits and that it names a place in
+-- reach, if any
 pub record IsKnown (r : Reported) : Type 0 where
   pub presented : IsPresented r.pres
   pub entries : AllByRecursion IsBasisEntry r.entries

@@ -18,8 +18,8 @@ use crate::laws::{
 };
 use report_text::Report;
 
-/// The checker accepts the text that is written of a report: the laws, for a report as the program has it. The call does
-/// nothing.
+/// The checker accepts the text that is written of a report: the laws, for a report as the program has it. The call
+/// does nothing.
 pub fn report_is_accepted(r: &Report)
     requires { IsReportable (reported r.now) }
     ensures answered { (h : History) → IsHistoryOf (reported r.now) h
