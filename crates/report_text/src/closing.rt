@@ -30,13 +30,10 @@ pub fn put_closings<K: Sink>(
     sessions: &[Session],
     out: &mut K,
 ) -> Result<(), WriteFault>
-    requires replied { AllByRecursion (IsReplied log.now.pres log.now.entries log.now.seal)
-        sessions.now }
-    ensures text { (ts : List SessionAnswers) → AreAnswered log.now.pres log.now.entries
-        log.now.seal sessions.now ts →
+    requires replied { AllByRecursion (IsReplied log.now.pres log.now.entries log.now.seal) sessions.now }
+    ensures text { (ts : List SessionAnswers) → AreAnswered log.now.pres log.now.entries log.now.seal sessions.now ts →
         Puts (K.taken out.old) (lines_text log.now.pres (closing_of ts)) result (K.taken out.new) }
-    ensures told { OnOk result (AllByRecursion (HasClosings log.now.pres log.now.entries
-        log.now.seal) sessions.now) }
+    ensures told { OnOk result (AllByRecursion (HasClosings log.now.pres log.now.entries log.now.seal) sessions.now) }
     ensures counts { Counts (K.faults out.old) result (K.faults out.new) }
 {
     for session in sessions {
@@ -53,12 +50,10 @@ fn put_session<K: Sink>(
     out: &mut K,
 ) -> Result<(), WriteFault>
     requires replied { IsReplied log.now.pres log.now.entries log.now.seal session.now }
-    ensures text { (t : SessionAnswers) → IsSessionAnswered log.now.pres log.now.entries
-        log.now.seal session.now t →
+    ensures text { (t : SessionAnswers) → IsSessionAnswered log.now.pres log.now.entries log.now.seal session.now t →
         Puts (K.taken out.old) (lines_text log.now.pres (closing_from session.now.number 1 t.answers)) result
         (K.taken out.new) }
-    ensures told { OnOk result (HasClosings log.now.pres log.now.entries log.now.seal
-        session.now) }
+    ensures told { OnOk result (HasClosings log.now.pres log.now.entries log.now.seal session.now) }
     ensures counts { Counts (K.faults out.old) result (K.faults out.new) }
 {
     for place in 0..session.count() {

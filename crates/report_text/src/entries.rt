@@ -28,10 +28,8 @@ pub fn put_items<K: Sink>(
     sessions: &[Session],
     out: &mut K,
 ) -> Result<(), WriteFault>
-    requires replies { AllByRecursion (IsReplied log.now.pres log.now.entries log.now.seal)
-        sessions.now }
-    ensures text { (ts : List SessionAnswers) → AreAnswered log.now.pres log.now.entries
-        log.now.seal sessions.now ts →
+    requires replies { AllByRecursion (IsReplied log.now.pres log.now.entries log.now.seal) sessions.now }
+    ensures text { (ts : List SessionAnswers) → AreAnswered log.now.pres log.now.entries log.now.seal sessions.now ts →
         Puts (K.taken out.old) (lines_text log.now.pres (told_from ts 0
         (item_lines log.now.entries log.now.seal))) result (K.taken out.new) }
     ensures counts { Counts (K.faults out.old) result (K.faults out.new) }
@@ -50,10 +48,8 @@ fn put_seal<K: Sink>(
     sessions: &[Session],
     out: &mut K,
 ) -> Result<(), WriteFault>
-    requires replies { AllByRecursion (IsReplied log.now.pres log.now.entries log.now.seal)
-        sessions.now }
-    ensures text { (ts : List SessionAnswers) → AreAnswered log.now.pres log.now.entries
-        log.now.seal sessions.now ts →
+    requires replies { AllByRecursion (IsReplied log.now.pres log.now.entries log.now.seal) sessions.now }
+    ensures text { (ts : List SessionAnswers) → AreAnswered log.now.pres log.now.entries log.now.seal sessions.now ts →
         Puts (K.taken out.old) (lines_text log.now.pres (told_from ts (length log.now.entries)
         (seal_lines log.now.seal))) result (K.taken out.new) }
     ensures counts { Counts (K.faults out.old) result (K.faults out.new) }

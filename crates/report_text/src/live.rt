@@ -37,10 +37,8 @@ pub fn put_live_at<K: Sink>(
     front: u32,
     out: &mut K,
 ) -> Result<(), WriteFault>
-    requires replied { AllByRecursion (IsReplied log.now.pres log.now.entries log.now.seal)
-        sessions.now }
-    ensures text { (ts : List SessionAnswers) → AreAnswered log.now.pres log.now.entries
-        log.now.seal sessions.now ts →
+    requires replied { AllByRecursion (IsReplied log.now.pres log.now.entries log.now.seal) sessions.now }
+    ensures text { (ts : List SessionAnswers) → AreAnswered log.now.pres log.now.entries log.now.seal sessions.now ts →
         Puts (K.taken out.old) (lines_text log.now.pres (live_at front ts)) result (K.taken out.new) }
     ensures counts { Counts (K.faults out.old) result (K.faults out.new) }
 {
@@ -59,8 +57,7 @@ fn put_session_at<K: Sink>(
     out: &mut K,
 ) -> Result<(), WriteFault>
     requires replied { IsReplied log.now.pres log.now.entries log.now.seal session.now }
-    ensures text { (t : SessionAnswers) → IsSessionAnswered log.now.pres log.now.entries
-        log.now.seal session.now t →
+    ensures text { (t : SessionAnswers) → IsSessionAnswered log.now.pres log.now.entries log.now.seal session.now t →
         Puts (K.taken out.old) (lines_text log.now.pres (live_from front session.now.number 1 t.answers)) result
         (K.taken out.new) }
     ensures counts { Counts (K.faults out.old) result (K.faults out.new) }

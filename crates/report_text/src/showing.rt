@@ -43,8 +43,7 @@ pub fn put_proofs<K: Sink>(
     out: &mut K,
 ) -> Result<(), WriteFault>
     requires asked { CanBeAsked log.now.pres q.now }
-    requires shown { AllByRecursion (IsShown (vectors_below log.now.entries front))
-        (to_show q.now verdict.now) }
+    requires shown { AllByRecursion (IsShown (vectors_below log.now.entries front)) (to_show q.now verdict.now) }
     ensures text { (proofs : List (List Step))
         → AreProofsOf (vectors_below log.now.entries front) (to_show q.now verdict.now) proofs →
         Puts (K.taken out.old) (lines_text log.now.pres (proof_lines 1 proofs)) result (K.taken out.new) }

@@ -23,11 +23,7 @@ fn presentation(alloc: Global, text: &str) -> Result<Arc<Presentation>, Fail> {
     }
 }
 
-fn push(
-    list: &mut Vec<Arc<Entry>>,
-    p: &Arc<Presentation>,
-    entry: &Arc<Entry>,
-) -> Result<(), Fail>
+fn push(list: &mut Vec<Arc<Entry>>, p: &Arc<Presentation>, entry: &Arc<Entry>) -> Result<(), Fail>
     ensures { OnOk result (AreOf (arc_value p.now) (map arc_value list.old.items)
         → AreOf (arc_value p.now) (map arc_value list.new.items)) }
 {
