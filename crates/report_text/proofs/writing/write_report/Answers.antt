@@ -154,5 +154,5 @@ returns-clause-told g c =
     on_ok c.put_with_end.result (history_there (reported c.args.r.now) c.requires
     (moved_in (λ p es seal ss. AllByRecursion (HasClosings p es seal) ss) (reported c.args.r.now) c.in_ok-log.log.pres c.in_ok-log.log.entries
     c.in_ok-log.log.seal c.deref-sessions.result.now (ap (λ (l : LogItems). l.pres) x) (ap (λ (l : LogItems). l.entries) x)
-      (ap (λ (l : LogItems). l.seal) x) sessions
+    (ap (λ (l : LogItems). l.seal) x) sessions
     c.in_ok-put_closings.ensures.told))
