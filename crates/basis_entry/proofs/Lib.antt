@@ -4,3 +4,4 @@ pub mod Vectors
 pub mod Growing
 pub mod Sizes
 pub mod Over
+pub mod Firsts

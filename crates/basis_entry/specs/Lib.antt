@@ -1,3 +1,4 @@
 pub mod Entries
 pub mod Base
 pub mod Seals
+pub mod Items

@@ -23,7 +23,6 @@ pub fn generator_entries(
 ) -> Result<Vec<Arc<Entry>>, AllocError>
     ensures { IfOk result (λ made. AreBase (arc_value p.now) (map arc_value made.items)) }
 {
-    // The proof needs how many relators and generators there can be, and the call says so.
     p.known();
     let mut made = Vec::new(alloc);
     let mut number = 0;

@@ -1,5 +1,6 @@
 //! `Entry`: a vector of a module, with where it comes from.
 
+ghost use Rattle.std.specs.List.{AllByRecursion};
 ghost use Rattle.std.specs.Prelude.{◌≡◌, ◌↔◌, List, length, map, IsTrue, IfOk};
 ghost use Rattle.std.specs.Arc.{arc_value};
 ghost use Rattle.module_vec.specs.Modules.{AreSteps, steps_at};
@@ -69,8 +70,7 @@ impl Entry {
           recipe = Sum steps;
         }) }
     {
-        // The proof needs that the list's entries lie in the module, and the call says so.
-        let _ = list.front();
+        list.known();
         Entry::of(alloc, p, vector, Recipe::Sum { steps })
     }
 
@@ -91,6 +91,7 @@ impl Entry {
           recipe = recipe;
         }) }
     {
+        recipe.known();
         let entry = Entry {
             source: Arc::try_clone(p)?,
             vector,
@@ -104,6 +105,22 @@ impl Entry {
         ensures { result.now ≡ self.now.source }
     {
         &self.source
+    }
+
+    /// What holds of every entry. The call does nothing.
+    pub fn known(&self)
+        ensures { IsBasisEntry self.now }
+    {
+        let _source = &self.source;
+    }
+
+    /// What holds of each of these entries. The call does nothing: where it is compiled no loop is left of it.
+    pub fn all_known(entries: &[Arc<Entry>])
+        ensures { AllByRecursion IsBasisEntry (map arc_value entries.now) }
+    {
+        for entry in entries {
+            entry.known();
+        }
     }
 
     /// The vector.

@@ -33,6 +33,13 @@ pub trait Front: VecList {
         requires { at < length (entries self.now) }
         ensures { slice_get (entries self.now) at ≡ Some (arc_value result.now) };
 
+    /// What holds of the entries.
+    fn known(&self)
+        ensures { AllByRecursion IsBasisEntry (entries self.now) }
+    {
+        let _count = self.front();
+    }
+
     /// The vectors of the list are those of the entries.
     ghost vectors_are: { (x : Self) → Self.vectors x ≡ vectors_of (entries x) };
 }

@@ -12,14 +12,14 @@ ghost use Rattle.basis_entry.specs.declared.TheConstants.{BASE_TERMS};
 ghost use Rattle.basis_entry.specs.Base.{AreBase};
 ghost use Rattle.basis_entry.specs.Entries.{BasisEntry, IsBasisEntry, AreOf, vectors_of};
 
-use crate::{Entry, EntryList, Sealed};
+use crate::{Entry, Items, Sealed};
 use presentation::Presentation;
 
 /// Entries, their presentations and seals are shared by threads: each is `Send` and `Sync`.
 pub fn entries_are_shared_by_threads() {
     is_shared::<Presentation>();
     is_shared::<Entry>();
-    is_shared::<EntryList>();
+    is_shared::<Items<'_>>();
     is_shared::<Sealed>();
 }
 

@@ -7,17 +7,19 @@
 #![tactic(auto)]
 
 mod base;
+mod below;
 mod entries;
 mod fronts;
 mod indexed;
+mod items;
 pub mod laws;
-mod lists;
 mod recipes;
 mod seals;
 
+pub use below::Below;
 pub use entries::Entry;
 pub use fronts::Front;
-pub use lists::EntryList;
+pub use items::Items;
 pub use recipes::Recipe;
 pub use seals::Sealed;
 

@@ -1,7 +1,11 @@
 //! How an entry was made.
 
+ghost use Rattle.std.specs.List.{AllByRecursion};
 ghost use Rattle.std.specs.Prelude.{◌≡◌, ◌↔◌, IsTrue};
+ghost use Rattle.laurent_terms.specs.Monomials.{IsMonomial};
+ghost use Rattle.basis_entry.specs.Entries.{HasMonomials};
 
+use module_vec::Step;
 use step_lists::Steps;
 
 /// What an entry was made from.
@@ -14,6 +18,15 @@ pub enum Recipe {
 }
 
 impl Recipe {
+    /// What holds of the steps of every recipe. The call does nothing.
+    pub fn known(&self)
+        ensures { HasMonomials self.now }
+    {
+        if let Recipe::Sum { steps } = self {
+            steps_known(steps.steps());
+        }
+    }
+
     /// Whether the recipe is that of the other.
     pub fn same(&self, other: &Recipe) -> bool
         ensures { IsTrue result ↔ (self.now ≡ other.now) }
@@ -29,6 +42,15 @@ impl Recipe {
             (Recipe::Sum { steps }, Recipe::Sum { steps: others }) => same_steps(steps, others),
             _ => false,
         }
+    }
+}
+
+/// The steps have monomials.
+fn steps_known(steps: &[Step])
+    ensures { AllByRecursion (λ s. IsMonomial s.t) steps.now }
+{
+    for step in steps {
+        step.t.degree();
     }
 }
 

@@ -43,11 +43,19 @@ impl Sealed {
         requires strong { IsStrongBasis (arc_value p.now) (vectors_of (map arc_value entries.now)) }
         ensures { IfOk result (λ s. s ≡ record { source = arc_value p.now; entries = map arc_value entries.now }) }
     {
+        Entry::all_known(entries);
         let entries = shared(alloc, entries)?;
         Ok(Sealed {
             source: Arc::try_clone(p)?,
             entries,
         })
+    }
+
+    /// What holds of every seal. The call does nothing.
+    pub fn known(&self)
+        ensures { IsSeal self.now }
+    {
+        let _source = &self.source;
     }
 
     /// The presentation.
@@ -68,13 +76,10 @@ impl Sealed {
 
 /// One more reference to each of the entries.
 fn shared(alloc: Global, entries: &[Arc<Entry>]) -> Result<Vec<Arc<Entry>>, AllocError>
-    ensures is { IfOk result (λ made. map arc_value made.items ≡ map arc_value entries.now) }
-    ensures entries { IfOk result (λ made. AllByRecursion IsBasisEntry (map arc_value made.items)) }
+    ensures { IfOk result (λ made. map arc_value made.items ≡ map arc_value entries.now) }
 {
     let mut made = Vec::with_capacity(alloc, entries.len())?;
     for entry in entries {
-        // The proof needs what holds of the entry, and the call says so.
-        let _ = entry.vector();
         made.push(Arc::try_clone(entry)?)?;
     }
     Ok(made)

@@ -1,10 +1,10 @@
 //! Entries of small presentations, worked out by hand.
 
-ghost use Rattle.std.specs.Prelude.{◌<◌, length, IfOk};
+ghost use Rattle.std.specs.Prelude.{◌<◌, length, map, IfOk};
 ghost use Rattle.std.specs.Arc.{arc_value};
 ghost use Rattle.basis_entry.specs.Entries.{AreOf, vectors_of};
 
-use crate::{Entry, EntryList, Front, Recipe};
+use crate::{Entry, Front, Items, Recipe};
 use laurent_terms::Mono;
 use module_vec::{ModVec, Step, VecList};
 use presentation::{Presentation, read_presentation};
@@ -75,11 +75,11 @@ fn generators_have_their_entries(rt: HostRuntime) -> Result<(), Fail> {
     Ok(())
 }
 
-/// The list of the generators' entries.
-fn list(alloc: Global, p: &Arc<Presentation>) -> Result<EntryList, Fail>
-    ensures { IfOk result (AreOf (arc_value p.now)) }
+/// The generators' entries.
+fn list(alloc: Global, p: &Arc<Presentation>) -> Result<Vec<Arc<Entry>>, Fail>
+    ensures { IfOk result (λ es. AreOf (arc_value p.now) (map arc_value es.items)) }
 {
-    let mut list = EntryList::new(alloc);
+    let mut list = Vec::new(alloc);
     for entry in &Entry::base(alloc, p)? {
         put(&mut list, p, entry)?;
     }
@@ -87,11 +87,11 @@ fn list(alloc: Global, p: &Arc<Presentation>) -> Result<EntryList, Fail>
 }
 
 /// Puts the entry at the end, which is of the presentation.
-fn put(list: &mut EntryList, p: &Arc<Presentation>, entry: &Arc<Entry>) -> Result<(), Fail>
-    requires { AreOf (arc_value p.now) list.old }
-    ensures { IfOk result (λ _. AreOf (arc_value p.now) list.new) }
+fn put(list: &mut Vec<Arc<Entry>>, p: &Arc<Presentation>, entry: &Arc<Entry>) -> Result<(), Fail>
+    requires { AreOf (arc_value p.now) (map arc_value list.old.items) }
+    ensures { IfOk result (λ _. AreOf (arc_value p.now) (map arc_value list.new.items)) }
 {
-    if list.count() > 100 || !entry.presentation().same(p) {
+    if !entry.presentation().same(p) {
         return Err(Fail::from("no entry of the presentation"));
     }
     list.push(Arc::try_clone(entry)?)?;
@@ -99,9 +99,9 @@ fn put(list: &mut EntryList, p: &Arc<Presentation>, entry: &Arc<Entry>) -> Resul
 }
 
 /// The entry that is once the entry with this number.
-fn once(alloc: Global, p: &Arc<Presentation>, list: &EntryList, at: u32) -> Result<Arc<Entry>, Fail>
-    requires list { AreOf (arc_value p.now) list.now }
-    requires at { at < length (vectors_of list.now) }
+fn once(alloc: Global, p: &Arc<Presentation>, list: &Items<'_>, at: u32) -> Result<Arc<Entry>, Fail>
+    requires list { AreOf (arc_value p.now) list.now.entries }
+    requires at { at < length (vectors_of list.now.entries) }
 {
     let vector = ModVec::of_falling(list.vector(at).terms().to_vec(alloc)?);
     let mut steps = Vec::new(alloc);
@@ -117,10 +117,11 @@ fn once(alloc: Global, p: &Arc<Presentation>, list: &EntryList, at: u32) -> Resu
 fn sums_have_their_steps(rt: HostRuntime) -> Result<(), Fail> {
     let alloc = rt.alloc();
     let p = presentation(alloc, "<a,b|>")?;
-    let list = list(alloc, &p)?;
-    if list.count() != 4 {
+    let entries = list(alloc, &p)?;
+    if entries.len() != 4 {
         return Err(Fail::from("no four entries"));
     }
+    let list = Items::of(&entries, None);
     let entry = once(alloc, &p, &list, 2)?;
     assert!(rt; entry.vector().terms() == list.vector(2).terms());
     assert!(rt; entry.presentation().same(&p));
@@ -144,11 +145,15 @@ fn sums_have_their_steps(rt: HostRuntime) -> Result<(), Fail> {
 #[test]
 fn a_list_shows_its_entries(rt: HostRuntime) -> Result<(), Fail> {
     let alloc = rt.alloc();
-    let list = list(alloc, &presentation(alloc, "<a,b|>")?)?;
+    let entries = list(alloc, &presentation(alloc, "<a,b|>")?)?;
+    if entries.len() != 4 {
+        return Err(Fail::from("no four entries"));
+    }
+    let list = Items::of(&entries, None);
     assert_eq!(rt; list.count(), 4);
     assert_eq!(rt; list.front(), 4);
     assert!(rt; list.sealed().is_none());
-    assert!(rt; list.entry(3).same(&list.entries()[3]));
+    assert!(rt; list.entry(3).same(&entries[3]));
     assert!(rt; !list.entry(3).same(list.entry(1)));
     assert!(rt; list.vector(2).terms() == list.entry(2).vector().terms());
     Ok(())

@@ -5,7 +5,7 @@ ghost use Rattle.presentation.specs.Presented.{Presented};
 ghost use Rattle.module_vec.specs.declared.places.Term.{Term};
 ghost use Rattle.outcomes.specs.declared.ends.End.{End};
 ghost use Rattle.outcomes.specs.declared.verdicts.Verdict.{Verdict};
-ghost use Rattle.session_text.specs.Questions.{IsWritable, HasImages};
+ghost use Rattle.session_text.specs.Questions.{IsWritable};
 ghost use Rattle.report_lines.specs.Lines.{IsLineOf};
 ghost use Rattle.report_lines.specs.declared.lines.Line.TheVariants as lines;
 ghost use Rattle.cert_checker.specs.States.{IsInTurn, MayFollow};
@@ -15,7 +15,7 @@ use crate::phase::Phase;
 use crate::steps::are_near;
 use module_vec::{ModVec, Step};
 use report_lines::{Line, Made};
-use session_text::{Question, first_long_image};
+use session_text::{Question, has_images};
 
 impl Checker {
     /// Whether the line may follow.
@@ -105,12 +105,4 @@ fn is_in_turn(generators: &[ModVec], entries: &[ModVec], made: &Made) -> bool
             generators.len() <= entries.len() && are_near(entries, steps.steps())
         }
     }
-}
-
-/// Whether the images of a source's relators are within their limit.
-fn has_images(question: &Question) -> bool
-    requires { (p : Presented) × IsWritable p question.now }
-    ensures { IsTrue result ↔ HasImages question.now }
-{
-    first_long_image(question).is_none()
 }

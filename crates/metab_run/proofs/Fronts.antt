@@ -9,7 +9,7 @@ use Rattle.basis_entry.specs.Entries.{BasisEntry}
 use Rattle.basis_entry.specs.Seals.{Seal, item_count}
 use Rattle.session_core.specs.declared.kept.Kept.{Kept}
 use Rattle.session_core.specs.Sessions.{AreRising, front_after}
-use Rattle.report_text.specs.Answers.{seal_below}
+use Rattle.basis_entry.specs.Items.{seal_below}
 
 -- ---- lists
 

@@ -16,7 +16,7 @@ use Rattle.session_core.specs.Questions.{CanBeAsked}
 use Rattle.session_core.specs.Replies.{IsReply}
 use Rattle.session_core.specs.Sessions.{SessionState, AreRising, last_front}
 use Rattle.completion_solo.specs.Ends.{Ends}
-use Rattle.report_text.specs.Answers.{seal_below}
+use Rattle.basis_entry.specs.Items.{seal_below}
 use Rattle.metab_run.specs.Legal.{IsLegal, IsLegalSession, AreWithinLimits}
 use Rattle.metab_run.specs.Gathering.{questions_of, IsAsker, AreAskers, CanGoOn, IsAnsweredOn, AreAnsweredOn, IsCompleted, AreReplies}
 use Rattle.metab_run.proofs.Fronts.{split_get, map_get, last_low, all_get, seal_low, seal_all, take_items}

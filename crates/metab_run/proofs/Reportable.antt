@@ -29,7 +29,8 @@ use Rattle.pair_book.proofs.OverStops.{stop_over}
 use Rattle.session_core.specs.declared.kept.Kept.{Kept}
 use Rattle.session_core.specs.Replies.{IsReply}
 use Rattle.session_core.specs.Sessions.{SessionState, AreRising}
-use Rattle.report_text.specs.Answers.{seal_below, vectors_below, to_show}
+use Rattle.basis_entry.specs.Items.{seal_below, vectors_below}
+use Rattle.report_text.specs.Answers.{to_show}
 use Rattle.report_text.specs.Closing.{HasClosing, HasClosings}
 use Rattle.report_text.specs.Histories.{History, made_by}
 use Rattle.report_text.specs.Reports.{Reported, IsReportable, IsHistoryOf, IsRecord, IsSumOver, EntryIsOver, IsReplied, AreFrom}

@@ -21,7 +21,8 @@ use Rattle.session_core.specs.Sessions.{SessionState}
 use Rattle.session_core.specs.Verdicts.{IsSealedFor, IsVerdict}
 use Rattle.session_core.specs.Meaning.{IsExact}
 use Rattle.session_core.proofs.Exactness.{trivial_verdict, extends_verdict, strong_verdict}
-use Rattle.report_text.specs.Answers.{seal_below, IsReplyTo, IsClosing, IsAnswered, IsSessionAnswered}
+use Rattle.basis_entry.specs.Items.{seal_below}
+use Rattle.report_text.specs.Answers.{IsReplyTo, IsClosing, IsAnswered, IsSessionAnswered}
 use Rattle.report_text.specs.Histories.{Reply, Answered, SessionAnswers, History}
 use Rattle.report_text.specs.Reports.{Reported, IsHistoryOf}
 use Rattle.report_text.proofs.Lists.{all_first}

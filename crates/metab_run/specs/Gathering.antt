@@ -12,7 +12,7 @@ use Rattle.session_core.specs.Questions.{CanBeAsked}
 use Rattle.session_core.specs.Replies.{IsReply}
 use Rattle.session_core.specs.Sessions.{SessionState, IsSession, last_front}
 use Rattle.completion_solo.specs.Ends.{Ends}
-use Rattle.report_text.specs.Answers.{seal_below}
+use Rattle.basis_entry.specs.Items.{seal_below}
 use Rattle.metab_run.specs.Legal.{seal_at, AreByAll}
 
 abbrev pub questions_of : List SessionState → List (List Question)

@@ -5,7 +5,7 @@ use Rattle.presentation.specs.Presented.{Presented}
 use Rattle.outcomes.specs.declared.verdicts.Verdict.TheVariants.{Trivial, Extends}
 use Rattle.session_text.specs.declared.question.Question.{Question}
 use Rattle.session_core.specs.Meaning.{AllAreTrivial, MapExtends, IsExact}
-use Rattle.report_text.specs.Answers.{seal_below}
+use Rattle.basis_entry.specs.Items.{seal_below}
 use Rattle.report_text.specs.Histories.{Reply, Answered, History}
 use Rattle.report_text.specs.Reports.{Reported}
 

@@ -1,6 +1,6 @@
 //! Books that are worked by hand.
 
-ghost use Rattle.std.specs.Prelude.{◌≡◌, ◌↔◌, IsTrue, IfOk};
+ghost use Rattle.std.specs.Prelude.{◌≡◌, ◌↔◌, map, IsTrue, IfOk};
 ghost use Rattle.std.specs.Arc.{arc_value};
 ghost use Rattle.basis_entry.specs.Entries.{AreOf};
 
@@ -8,7 +8,7 @@ use crate::{
     Book, Close, CommitFault, Committed, Limits, Order, Outcome, PairKind, SealFault, Task,
     can_open, work,
 };
-use basis_entry::{Entry, EntryList, Front, Recipe};
+use basis_entry::{Entry, Front, Items, Recipe};
 use laurent_terms::Mono;
 use module_vec::{Step, VecList};
 use outcomes::Measure;
@@ -60,10 +60,10 @@ fn list(
     p: &Arc<Presentation>,
     entries: &[Arc<Entry>],
     numbers: &[usize],
-) -> Result<EntryList, Fail>
-    ensures { IfOk result (AreOf (arc_value p.now)) }
+) -> Result<Vec<Arc<Entry>>, Fail>
+    ensures { IfOk result (λ es. AreOf (arc_value p.now) (map arc_value es.items)) }
 {
-    let mut list = EntryList::new(alloc);
+    let mut list = Vec::new(alloc);
     for number in numbers {
         match entries.get(*number) {
             Some(entry) => put(&mut list, p, entry)?,
@@ -74,11 +74,15 @@ fn list(
 }
 
 /// Puts the entry at the end, which is of the presentation.
-fn put(list: &mut EntryList, p: &Arc<Presentation>, entry: &Arc<Entry>) -> Result<(), Fail>
-    requires { AreOf (arc_value p.now) list.old }
-    ensures { IfOk result (λ _. AreOf (arc_value p.now) list.new) }
+fn put(
+    list: &mut Vec<Arc<Entry>>,
+    p: &Arc<Presentation>,
+    entry: &Arc<Entry>,
+) -> Result<(), Fail>
+    requires { AreOf (arc_value p.now) (map arc_value list.old.items) }
+    ensures { IfOk result (λ _. AreOf (arc_value p.now) (map arc_value list.new.items)) }
 {
-    if list.count() > 100 || !entry.presentation().same(p) {
+    if !entry.presentation().same(p) {
         return Err(Fail::from("no entry of the presentation"));
     }
     list.push(Arc::try_clone(entry)?)?;
@@ -89,15 +93,19 @@ fn put(list: &mut EntryList, p: &Arc<Presentation>, entry: &Arc<Entry>) -> Resul
 fn worked(
     alloc: Global,
     p: &Arc<Presentation>,
-    list: &EntryList,
+    entries: &[Arc<Entry>],
     task: Task,
 ) -> Result<Outcome, Fail>
-    requires { AreOf (arc_value p.now) list.now }
+    requires { AreOf (arc_value p.now) (map arc_value entries.now) }
 {
-    if !is_pair(list, task.i, task.j) {
+    if entries.len() > 100 {
+        return Err(Fail::from("many entries"));
+    }
+    let list = Items::of(entries, None);
+    if !is_pair(&list, task.i, task.j) {
         return Err(Fail::from("no pair"));
     }
-    match work(alloc, p, list, task) {
+    match work(alloc, p, &list, task) {
         Ok(outcome) => Ok(outcome),
         Err(_) => Err(Fail::from("no outcome")),
     }
@@ -105,7 +113,7 @@ fn worked(
 
 /// The outcome of a task by the first entries of the log.
 fn outcome(alloc: Global, p: &Arc<Presentation>, book: &Book, task: Task) -> Result<Outcome, Fail> {
-    let mut all = EntryList::new(alloc);
+    let mut all = Vec::new(alloc);
     for entry in book.entries() {
         put(&mut all, p, entry)?;
     }

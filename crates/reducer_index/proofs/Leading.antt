@@ -1,5 +1,5 @@
 -- The leads of a list, and the reducer among them.
-use Rattle.std.proofs.Common.{◌≡◌, ℕ, zero, suc, ◌<◌, List, [], ◌∷◌, ◌++◌, length, map, take, refl, sym, ap, subst, ◌∙◌, arith}
+use Rattle.std.proofs.Common.{◌≡◌, ℕ, zero, suc, ◌+◌, ◌<◌, List, [], ◌∷◌, ◌++◌, length, map, take, refl, sym, ap, subst, ◌∙◌, arith}
 use Rattle.std.proofs.lemmas.List.{map-append, length-map}
 use Rattle.std.specs.Prelude.{Option, Some, None, slice_get}
 use Rattle.module_vec.specs.declared.places.Place.{Place}
@@ -9,6 +9,25 @@ use Rattle.reducer_index.specs.Leads.{lead_of, AreLeads, FindsLead}
 
 pub leads_more : (b : List (List Term)) (es : List Term) (e : Term) (g : List Term) → AreLeads b es → AreLeads (b ++ (e ∷ g) ∷ []) (es ++ e ∷ [])
 leads_more b es e g h = ap (λ (l : List Term). l ++ e ∷ []) h ∙ sym (map-append lead_of b ((e ∷ g) ∷ []))
+
+-- ---- the leads of the first vectors of a list
+take_next : (b : List (List Term)) (i : ℕ) (v : List Term) → slice_get b i ≡ Some v → take i b ++ v ∷ [] ≡ take (i + 1) b
+take_next [] i v read = absurd cc
+take_next (w ∷ b) zero v read = cc
+take_next (w ∷ b) (suc i) v read =
+    let next : suc (i + 1) ≡ suc i + 1 = omega arith in
+    subst (λ (n : ℕ). w ∷ (take i b ++ v ∷ []) ≡ take n (w ∷ b)) next (ap (λ (l : List (List Term)). w ∷ l) (take_next b i v read))
+
+lead_is : (v : List Term) (e : Term) → slice_get v 0 ≡ Some e → lead_of v ≡ e
+lead_is [] e read = absurd cc
+lead_is (f ∷ g) e read = cc
+
+-- one more of them
+pub taken_more : (b : List (List Term)) (i : ℕ) (es : List Term) (v : List Term) (e : Term) → slice_get b i ≡ Some v → slice_get v 0 ≡ Some e
+    → AreLeads (take i b) es
+    → AreLeads (take (i + 1) b) (es ++ e ∷ [])
+taken_more b i es v e read lead are =
+    (λ j. are j ++ sym (lead_is v e lead) j ∷ []) ∙ sym (map-append lead_of (take i b) (v ∷ [])) ∙ ap (map lead_of) (take_next b i v read)
 
 -- ---- the first elements of a list
 pub taken_read : {A : Type 0} (n : ℕ) (xs : List A) (i : ℕ) (x : A) → slice_get (take n xs) i ≡ Some x → (i < n) × (slice_get xs i ≡ Some x)
@@ -23,7 +42,7 @@ read_taken (suc n) [] i x lt e = absurd cc
 read_taken (suc n) (y ∷ xs) zero x lt e = e
 read_taken (suc n) (y ∷ xs) (suc i) x lt e = read_taken n xs i x (omega (arith, lt)) e
 
-entries_taken : (n : ℕ) (b : List (List Term)) → AreEntries b → AreEntries (take n b)
+pub entries_taken : (n : ℕ) (b : List (List Term)) → AreEntries b → AreEntries (take n b)
 entries_taken zero b h = tt
 entries_taken (suc n) [] h = tt
 entries_taken (suc n) (v ∷ b) h = (h.0, entries_taken n b h.1)

@@ -1,11 +1,11 @@
 //! `Index`: the leads of a list, in the order in which reducers are chosen.
 
 ghost use Rattle.std.specs.Prelude.{◌≡◌, ◌+◌, ◌<◌, ◌≤◌, ◌^◌, ◌++◌, ◌∷◌, [], length, take, IfOk, OnErr};
-ghost use Rattle.reducer_index.specs.Leads.{FindsLead};
+ghost use Rattle.reducer_index.specs.Leads.{AreLeads, FindsLead};
 
 use crate::candidates::Candidate;
 use crate::search::{first_reducer, from_component, place_of};
-use module_vec::{Place, Term};
+use module_vec::{Place, Term, VecList};
 use std::alloc::{AllocError, Global};
 use std::marker::Model;
 
@@ -38,6 +38,18 @@ impl Index {
             leads: Vec::new(alloc),
             candidates: Vec::new(alloc),
         }
+    }
+
+    /// The index of the leads of a whole list.
+    #[tactic(auto, using(crate::proofs::Leading::taken_more))]
+    pub fn of_list<L: VecList>(alloc: Global, list: &L) -> Result<Index, AllocError>
+        ensures { IfOk result (AreLeads (L.vectors list.now)) }
+    {
+        let mut index = Index::new(alloc);
+        for at in 0..list.count() {
+            index.push(list.vector(at).terms()[0])?;
+        }
+        Ok(index)
     }
 
     /// Puts a lead at the end. There are fewer than 2^32 - 1 before it.

@@ -27,7 +27,7 @@ use Rattle.report_acceptance.proofs.Told.{told_whole, alone_whole}
 use Rattle.report_acceptance.proofs.Proving.{IsAt}
 use Rattle.report_acceptance.proofs.Sessions.{IsSessionTold, sessions_told}
 use Rattle.report_acceptance.proofs.Answering.{all_closed}
-use Rattle.report_acceptance.proofs.Items.{AreKnown, phase_of, get_first, length_take, basis_entries, vectors_over, items_taken}
+use Rattle.report_acceptance.proofs.Items.{AreKnown, phase_of, get_first, length_take, vectors_over, items_taken}
 
 -- ---- the lines of a history
 
@@ -61,7 +61,7 @@ module _ (p : Presented) (gens : List (List Term)) (pres : IsPresented p) (es : 
   closed =
       let number = length-map es (λ (e : BasisEntry). e.vector) in
       let few = known.few in
-      all_closed p gens pres es seal base (vectors_of es) (are_entries es (basis_entries es known.entries)) (vectors_over (length p.names) es known.over)
+      all_closed p gens pres es seal base (vectors_of es) (are_entries es known.entries) (vectors_over (length p.names) es known.over)
       (omega (arith, number, few)) (ap vectors_of (all_below es seal)) ts told
 
   done : Leads p gens (IsAt Closing (vectors_of es)) (lines.Done ∷ []) (IsAt Finished (vectors_of es))

@@ -16,7 +16,8 @@ use Rattle.cert_checker.specs.declared.phase.Phase.{Phase}
 use Rattle.cert_checker.specs.declared.phase.Phase.TheVariants.{Closing}
 use Rattle.cert_checker.specs.States.{IsOpen, seals}
 use Rattle.report_text.specs.Histories.{Reply, Answered, SessionAnswers, live_lines, live_from, live_at, closing_lines, closing_from, closing_of}
-use Rattle.report_text.specs.Answers.{vectors_below, seal_below, to_show, AreProofsOf, IsReplyTo, IsClosing}
+use Rattle.basis_entry.specs.Items.{vectors_below, seal_below}
+use Rattle.report_text.specs.Answers.{to_show, AreProofsOf, IsReplyTo, IsClosing}
 use Rattle.report_acceptance.proofs.Taking.{Leads, nothing, both}
 use Rattle.report_acceptance.proofs.Proving.{IsAt}
 use Rattle.report_acceptance.proofs.Replying.{live_taken, close_taken}

@@ -15,7 +15,8 @@ use Rattle.step_lists.specs.Sums.{IsInReach}
 use Rattle.step_text.specs.Over.{StepsAreOver, AreStepsOf}
 use Rattle.basis_entry.specs.declared.recipes.Recipe.{Recipe}
 use Rattle.basis_entry.specs.Base.{has_negative_lead, IsOfGenerator}
-use Rattle.basis_entry.specs.Entries.{BasisEntry}
+use Rattle.basis_entry.specs.declared.recipes.Recipe.TheVariants as kinds
+use Rattle.basis_entry.specs.Entries.{BasisEntry, IsBasisEntry, HasMonomials as RecipeHasMonomials}
 use Rattle.report_lines.specs.declared.lines.Made.{Made}
 use Rattle.report_lines.specs.declared.lines.Made.TheVariants.{Gen, Sum}
 use Rattle.report_lines.specs.declared.lines.Line.TheVariants as lines
@@ -26,7 +27,6 @@ use Rattle.cert_checker.specs.Checking.{AreThere, IsMadeOf, signed}
 use Rattle.cert_checker.proofs.Signs.{negative}
 use Rattle.report_text.specs.Histories.{made_by}
 use Rattle.report_text.specs.Reports.{IsSumOver, EntryIsOver}
-use Rattle.report_acceptance.specs.Accepting.{HasMonomials, IsKnownEntry}
 use Rattle.report_acceptance.proofs.Taking.{Leads, one}
 use Rattle.report_acceptance.proofs.Proving.{IsAt}
 
@@ -85,6 +85,15 @@ steps_read n (s ∷ ss) over mono small = (
   steps_read n ss over.1 mono.1 small.1,
 )
 
+-- the steps of a recipe have monomials
+HasMonomials : Made → Type 0
+HasMonomials (Gen negated) = Unit {0}
+HasMonomials (Sum ss) = AllByRecursion (λ s. IsMonomial s.t) ss
+
+made_monomials : (r : Recipe) → RecipeHasMonomials r → HasMonomials (made_by r)
+made_monomials (kinds.Gen number negated) h = tt
+made_monomials (kinds.Sum ss) h = h
+
 made_read : (n : ℕ) (m : Made) → MadeIsOver n m → HasMonomials m → HasSmallNumbers m → IsMadeOver n m
 made_read n (Gen negated) over mono small = tt
 made_read n (Sum ss) over mono small = steps_read n ss over mono small
@@ -98,18 +107,19 @@ next_small gens b (Gen negated) v few h = tt
 next_small gens b (Sum ss) v few h = there_small b ss few h.0
 
 module _ (p : Presented) (gens : List (List Term)) where
-  entry_line : (b : List (List Term)) (k : ℕ) (e : BasisEntry) → k ≡ length b → length b < 2 ^ 32 → IsKnownEntry e → EntryIsOver (length p.names) e
+  entry_line : (b : List (List Term)) (k : ℕ) (e : BasisEntry) → k ≡ length b → length b < 2 ^ 32 → IsBasisEntry e → EntryIsOver (length p.names) e
       → IsNextEntry gens b e
       → IsLineOf p (lines.Entry k (made_by e.recipe) e.vector)
   entry_line b k e at few known over next = (
     omega (arith, at, few),
     (
-      made_read (length p.names) (made_by e.recipe) over.recipe known.recipe (next_small gens b (made_by e.recipe) e.vector few next.is),
-      record { vector = known.entry.entry.vector; over = over.vector },
+      made_read (length p.names) (made_by e.recipe) over.recipe (made_monomials e.recipe known.monomials)
+        (next_small gens b (made_by e.recipe) e.vector few next.is),
+      record { vector = known.entry.vector; over = over.vector },
     ),
   )
 
-  pub entry_taken : (b : List (List Term)) (k : ℕ) (e : BasisEntry) → k ≡ length b → length b < 2 ^ 32 → IsKnownEntry e → EntryIsOver (length p.names) e
+  pub entry_taken : (b : List (List Term)) (k : ℕ) (e : BasisEntry) → k ≡ length b → length b < 2 ^ 32 → IsBasisEntry e → EntryIsOver (length p.names) e
       → IsNextEntry gens b e
       → Leads p gens (IsAt Entries b) (lines.Entry k (made_by e.recipe) e.vector ∷ []) (IsAt Entries (b ++ e.vector ∷ []))
   entry_taken b k e at few known over next =

@@ -20,7 +20,6 @@ use Rattle.cert_checker.specs.declared.phase.Phase.TheVariants.{Entries, Sealed}
 use Rattle.report_text.specs.Histories.{SessionAnswers, made_by, live_at, entry_lines, seal_lines, told_from}
 use Rattle.report_text.specs.Reports.{IsSumOver, EntryIsOver}
 use Rattle.report_text.proofs.Lists.{all_first, at_place}
-use Rattle.report_acceptance.specs.Accepting.{IsKnownEntry}
 use Rattle.report_acceptance.proofs.Taking.{Leads, nothing, one, both}
 use Rattle.report_acceptance.proofs.Proving.{IsAt}
 use Rattle.report_acceptance.proofs.Entries.{IsNextEntry, generator_next, sum_next, entry_taken}
@@ -53,10 +52,6 @@ pub vectors_over : (n : ℕ) (es : List BasisEntry) → AllByRecursion (EntryIsO
 vectors_over n [] h = tt
 vectors_over n (e ∷ es) h = (h.0.vector, vectors_over n es h.1)
 
-pub basis_entries : (es : List BasisEntry) → AllByRecursion IsKnownEntry es → AllByRecursion IsBasisEntry es
-basis_entries [] h = tt
-basis_entries (e ∷ es) h = (h.0.entry, basis_entries es h.1)
-
 -- the phase in which all items were taken
 abbrev pub phase_of : Option Seal → Phase
 phase_of None = Entries
@@ -64,7 +59,7 @@ phase_of (Some seal) = Sealed
 
 -- what is known of all entries
 pub record AreKnown (p : Presented) (gens : List (List Term)) (base : ℕ) (es : List BasisEntry) : Type 0 where
-  pub entries : AllByRecursion IsKnownEntry es
+  pub entries : AllByRecursion IsBasisEntry es
   pub over : AllByRecursion (EntryIsOver (length p.names)) es
   pub few : length es + 1 < 2 ^ 32
   pub within : base ≤ length es
@@ -75,7 +70,7 @@ pub record AreKnown (p : Presented) (gens : List (List Term)) (base : ℕ) (es :
 module _ (p : Presented) (gens : List (List Term)) (pres : IsPresented p) (es : List BasisEntry) (seal : Option Seal) (base : ℕ)
     (known : AreKnown p gens base es) where
   first_entries : (k : ℕ) → AreEntries (vectors_of (take k es))
-  first_entries k = are_entries (take k es) (basis_entries (take k es) (all_first IsKnownEntry k es known.entries))
+  first_entries k = are_entries (take k es) (all_first IsBasisEntry k es known.entries)
 
   first_over : (k : ℕ) → AllByRecursion (VectorIsOver (length p.names)) (vectors_of (take k es))
   first_over k = vectors_over (length p.names) (take k es) (all_first (EntryIsOver (length p.names)) k es known.over)
@@ -106,7 +101,7 @@ module _ (p : Presented) (gens : List (List Term)) (pres : IsPresented p) (es : 
       sym (ap vectors_of (take_read es k e has) ∙ map-append (λ (x : BasisEntry). x.vector) (take k es) (e ∷ [])) in
       subst (λ c. Leads p gens (IsAt Entries (vectors_of (take k es))) (lines.Entry k (made_by e.recipe) e.vector ∷ []) (IsAt Entries c)) next
       (entry_taken p gens (vectors_of (take k es)) k e (sym number) (let few = known.few
-      in omega (arith, number, within, few)) (at_place IsKnownEntry es k e known.entries has)
+      in omega (arith, number, within, few)) (at_place IsBasisEntry es k e known.entries has)
       (at_place (EntryIsOver (length p.names)) es k e known.over has) (next_by k e (nat_lt k base) refl within has))
 
   module _ (ts : List SessionAnswers) (told : AllByRecursion (IsSessionTold p es seal base) ts) where

@@ -9,11 +9,10 @@ use Rattle.basis_entry.specs.Entries.{BasisEntry}
 use Rattle.basis_entry.specs.Seals.{Seal}
 use Rattle.session_core.specs.declared.kept.Kept.{Kept}
 use Rattle.session_core.specs.Questions.{CanBeAsked}
-use Rattle.session_core.specs.Sessions.{SessionState}
+use Rattle.session_core.specs.Sessions.{SessionState, IsSession}
 use Rattle.report_text.specs.Histories.{Answered, SessionAnswers}
 use Rattle.report_text.specs.Answers.{IsReplyTo, IsClosing, IsAnswered, IsSessionAnswered, AreAnswered}
 use Rattle.report_text.specs.Reports.{IsReplied, AreFrom}
-use Rattle.report_acceptance.specs.Accepting.{IsKnownSession}
 
 module _ (p : Presented) (es : List BasisEntry) (seal : Option Seal) (base : ℕ) where
   -- what is known of a question and its answers
@@ -51,15 +50,15 @@ module _ (p : Presented) (es : List BasisEntry) (seal : Option Seal) (base : ℕ
     all_told qs ks answers (omega (arith, m)) (omega (arith, n)) ask.1 source.1 low.1 (λ i r l b x y z. each (suc i) r l b x y z),
   )
 
-  session_told : (s : SessionState) (t : SessionAnswers) → IsKnownSession s → AreFrom base s → IsReplied p es seal s → IsSessionAnswered p es seal s t
+  session_told : (s : SessionState) (t : SessionAnswers) → IsSession s → AreFrom base s → IsReplied p es seal s → IsSessionAnswered p es seal s t
       → IsSessionTold t
   session_told s t known from replied is = record {
     number = let e = is.number in omega (arith, e, known.number);
-    few = let e = is.count in omega (arith, e, known.session.few);
+    few = let e = is.count in omega (arith, e, known.few);
     answers = all_told s.questions s.kept t.answers replied.count is.count replied.asked known.sources from is.each;
   }
 
-  sessions_from : (ss : List SessionState) (ts : List SessionAnswers) → length ts ≡ length ss → AllByRecursion IsKnownSession ss
+  sessions_from : (ss : List SessionState) (ts : List SessionAnswers) → length ts ≡ length ss → AllByRecursion IsSession ss
       → AllByRecursion (AreFrom base) ss → AllByRecursion (IsReplied p es seal) ss
       → ((j : ℕ) (s : SessionState) (t : SessionAnswers) → slice_get ss j ≡ Some s → slice_get ts j ≡ Some t → IsSessionAnswered p es seal s t)
       → AllByRecursion IsSessionTold ts
@@ -71,6 +70,6 @@ module _ (p : Presented) (es : List BasisEntry) (seal : Option Seal) (base : ℕ
         (λ j r u x y. each (suc j) r u x y),
   )
 
-  pub sessions_told : (ss : List SessionState) (ts : List SessionAnswers) → AllByRecursion IsKnownSession ss
+  pub sessions_told : (ss : List SessionState) (ts : List SessionAnswers) → AllByRecursion IsSession ss
       → AllByRecursion (AreFrom base) ss → AllByRecursion (IsReplied p es seal) ss → AreAnswered p es seal ss ts → AllByRecursion IsSessionTold ts
   sessions_told ss ts known from replied is = sessions_from ss ts is.count known from replied is.each

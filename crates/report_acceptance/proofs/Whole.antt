@@ -18,7 +18,7 @@ use Rattle.basis_entry.specs.Entries.{BasisEntry}
 use Rattle.basis_entry.specs.Seals.{Seal, item_count}
 use Rattle.module_vec.specs.Modules.{vector_at}
 use Rattle.session_core.specs.declared.kept.Kept.{Kept}
-use Rattle.session_core.specs.Sessions.{SessionState, AreRising}
+use Rattle.session_core.specs.Sessions.{SessionState, IsSession, AreRising}
 use Rattle.report_lines.specs.declared.lines.Line.TheVariants as lines
 use Rattle.report_lines.specs.Lines.{IsLineOf}
 use Rattle.report_lines.specs.Texts.{report_text}
@@ -29,9 +29,10 @@ use Rattle.report_reading.specs.declared.replies.ReplyData.{ReplyData}
 use Rattle.report_reading.specs.Telling.{Told, nothing, IsDataOf, IsShown, is_open, proof_count, recipe_of}
 use Rattle.report_reading.specs.Reading.{IsReport, IsFirstFault, Answers}
 use Rattle.report_text.specs.Histories.{Reply, Answered, SessionAnswers, History, made_by, item_lines, told_from, closing_of, lines_of}
-use Rattle.report_text.specs.Answers.{to_show, seal_below, IsOpen, IsClosing, IsSessionAnswered}
+use Rattle.basis_entry.specs.Items.{seal_below}
+use Rattle.report_text.specs.Answers.{to_show, IsOpen, IsClosing, IsSessionAnswered}
 use Rattle.report_text.specs.Reports.{Reported, IsReportable, IsHistoryOf, IsReplied, AreFrom, text_of}
-use Rattle.report_acceptance.specs.Accepting.{IsKnown, IsKnownSession}
+use Rattle.report_acceptance.specs.Accepting.{IsKnown}
 use Rattle.report_acceptance.specs.Saying.{entry_data, replies_at, closing_replies, data_of, IsReadBack}
 use Rattle.cert_checker.proofs.Images.{none_long}
 use Rattle.report_acceptance.proofs.Verdicts.{count_is}
@@ -141,7 +142,7 @@ module _ (p : Presented) (es : List BasisEntry) (seal : Option Seal) (base : ℕ
     short : IsSessionShort t
     closed : AllByRecursion (IsClosed (item_count es seal)) t.answers
 
-  session_fits : (s : SessionState) (t : SessionAnswers) → IsKnownSession s → AreFrom 1 s → IsReplied p es seal s → IsSessionTold p es seal base t
+  session_fits : (s : SessionState) (t : SessionAnswers) → IsSession s → AreFrom 1 s → IsReplied p es seal s → IsSessionTold p es seal base t
       → IsSessionAnswered p es seal s t → IsFit t
   session_fits s t known first replied told is =
       let each : AnswersEach s.questions s.kept t.answers = λ i q k a x y z. (
@@ -151,14 +152,14 @@ module _ (p : Presented) (es : List BasisEntry) (seal : Option Seal) (base : ℕ
       record {
         short = record {
           answers = all_weaker t.answers (λ a h. one_short a h) told.answers;
-          rise = rise_of 1 s.questions s.kept t.answers replied.count is.count (rising_from s.base s.kept known.session.rising first) each;
+          rise = rise_of 1 s.questions s.kept t.answers replied.count is.count (rising_from s.base s.kept known.rising first) each;
         };
         closed = closed_of s.questions s.kept t.answers replied.count is.count told.answers each;
       }
 
   -- ---- all sessions
 
-  all_fit : (ss : List SessionState) (ts : List SessionAnswers) → length ts ≡ length ss → AllByRecursion IsKnownSession ss → AllByRecursion (AreFrom 1) ss
+  all_fit : (ss : List SessionState) (ts : List SessionAnswers) → length ts ≡ length ss → AllByRecursion IsSession ss → AllByRecursion (AreFrom 1) ss
       → AllByRecursion (IsReplied p es seal) ss
       → AllByRecursion (IsSessionTold p es seal base) ts
       → ((j : ℕ) (s : SessionState) (t : SessionAnswers) → slice_get ss j ≡ Some s → slice_get ts j ≡ Some t → IsSessionAnswered p es seal s t)

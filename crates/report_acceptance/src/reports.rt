@@ -18,8 +18,8 @@ use crate::laws::{
 };
 use report_text::Report;
 
-/// The checker accepts the text that is written of a report: the laws, for a report as the program has it. The report
-/// is gone through once, and nothing else is done.
+/// The checker accepts the text that is written of a report: the laws, for a report as the program has it. The call
+/// does nothing.
 pub fn report_is_accepted(r: &Report)
     requires { IsReportable (reported r.now) }
     ensures answered { (h : History) → IsHistoryOf (reported r.now) h
@@ -33,8 +33,7 @@ pub fn report_is_accepted(r: &Report)
     written_reports_hold();
 }
 
-/// The reader of reports answers to that text the history that was written. The report is gone through once, and
-/// nothing else is done.
+/// The reader of reports answers to that text the history that was written. The call does nothing.
 pub fn report_is_read_back(r: &Report)
     requires { IsReportable (reported r.now) }
     ensures { (h : History) → IsHistoryOf (reported r.now) h

@@ -14,7 +14,6 @@ mod proof_list;
 mod reader;
 mod replies;
 mod report;
-mod same;
 mod taking;
 
 pub use data::{Numbers, ReportData};

@@ -5,7 +5,7 @@ ghost use Rattle.presentation.specs.Presented.{Presented};
 ghost use Rattle.module_vec.specs.declared.places.Term.{Term};
 ghost use Rattle.module_vec.specs.declared.steps.Step.{Step};
 ghost use Rattle.outcomes.specs.declared.verdicts.Verdict.{Verdict};
-ghost use Rattle.session_text.specs.Questions.{IsWritable, first_long_image};
+ghost use Rattle.session_text.specs.Questions.{IsWritable};
 ghost use Rattle.report_lines.specs.Lines.{subject_count, IsLineOf};
 ghost use Rattle.report_lines.specs.declared.lines.Made.{Made};
 ghost use Rattle.report_lines.specs.declared.lines.Line.TheVariants as lines;
@@ -14,10 +14,9 @@ ghost use Rattle.report_reading.specs.Telling.{IsInOrder, IsNextOpen, MayGoOn, I
 
 use crate::ReplyData;
 use crate::reader::Reader;
-use crate::same::same_question;
 use outcomes::{End, Verdict};
 use report_lines::Line;
-use session_text::{Question, first_long_image};
+use session_text::{Question, has_images};
 
 impl Reader {
     /// Whether the line may follow.
@@ -146,7 +145,7 @@ impl Reader {
             return false;
         }
         match reply_at(&self.replies, *place) {
-            Some(reply) => same_question(&reply.question, question),
+            Some(reply) => reply.question.same(question),
             None => false,
         }
     }
@@ -176,12 +175,4 @@ fn subject_count(question: &Question) -> usize
         Question::Hom { source, .. } => source.relators().len(),
         _ => 1,
     }
-}
-
-/// Whether the images of a source's relators are within their limit.
-fn has_images(question: &Question) -> bool
-    requires { (p : Presented) × IsWritable p question.now }
-    ensures { IsTrue result ↔ (first_long_image question.now ≡ None) }
-{
-    first_long_image(question).is_none()
 }

@@ -8,7 +8,8 @@ use Rattle.basis_entry.specs.Entries.{BasisEntry}
 use Rattle.basis_entry.specs.Seals.{Seal}
 use Rattle.session_core.specs.declared.kept.Kept.{Kept}
 use Rattle.session_core.specs.Sessions.{SessionState}
-use Rattle.report_text.specs.Answers.{AreProofsOf, IsReplyTo, IsAnswered, IsSessionAnswered, to_show, seal_below, vectors_below}
+use Rattle.basis_entry.specs.Items.{seal_below, vectors_below}
+use Rattle.report_text.specs.Answers.{AreProofsOf, IsReplyTo, IsAnswered, IsSessionAnswered, to_show}
 use Rattle.report_text.specs.Closing.{is_left_open, HasClosing, HasClosings}
 use Rattle.report_text.specs.Histories.{Reply, Answered, SessionAnswers, History}
 use Rattle.report_text.specs.Reports.{Reported, IsReplied, IsReportable, IsHistoryOf}

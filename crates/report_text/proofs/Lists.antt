@@ -10,15 +10,6 @@ use Rattle.vector_text.specs.Over.{VectorIsOver}
 use Rattle.report_text.specs.Reports.{EntryIsOver}
 use Rattle.basis_entry.specs.Entries.{BasisEntry, vectors_of}
 
--- the vectors of the first entries are the first vectors
-pub vectors_of_first : (n : ℕ) (es : List BasisEntry) → take n (vectors_of es) ≡ vectors_of (take n es)
-vectors_of_first zero es = refl
-vectors_of_first (suc n) [] = refl
-vectors_of_first (suc n) (e ∷ es) = ap (λ (l : List (List Term)). e.vector ∷ l) (vectors_of_first n es)
-
-pub vectors_taken : (n : ℕ) (vs : List (List Term)) (es : List BasisEntry) → vs ≡ vectors_of es → take n vs ≡ vectors_of (take n es)
-vectors_taken n vs es is = ap (take n) is ∙ vectors_of_first n es
-
 -- what stands at a place, and what is left from there on
 pub record StandsAt {A : Type 0} (xs : List A) (i : ℕ) : Type 0 where
   pub item : A
@@ -46,43 +37,10 @@ at_place P (y ∷ xs) (suc i) x h is = at_place P xs i x h.1 is
 -- ---- entries below a front
 
 -- as many of the vectors as there are entries below the front
-pub vectors_counted : (m front : ℕ) (vs : List (List Term)) (es : List BasisEntry) → vs ≡ vectors_of es → m ≡ min front (length vs)
-    → take m vs ≡ vectors_of (take front es)
-vectors_counted m front vs es is count = ap (λ k. take k vs) count ∙ take_min front vs ∙ vectors_taken front vs es is
-
-pub entries_counted : (front : ℕ) (vs : List (List Term)) (es : List BasisEntry) → vs ≡ vectors_of es → AreEntries vs → AreEntries (vectors_of (take front es))
-entries_counted front vs es is entries = subst AreEntries (vectors_taken front vs es is) (entries_take front vs entries)
-
 pub vectors_over : (n front : ℕ) (es : List BasisEntry) → AllByRecursion (EntryIsOver n) es → AllByRecursion (VectorIsOver n) (vectors_of (take front es))
 vectors_over n zero es over = tt
 vectors_over n (suc front) [] over = tt
 vectors_over n (suc front) (e ∷ es) over = (over.0.vector, vectors_over n front es over.1)
-
--- ---- the first elements
-
-pub take_within : {A : Type 0} (n m : ℕ) (xs : List A) → n ≤ length (take m xs) → take n (take m xs) ≡ take n xs
-take_within zero m xs le = refl
-take_within (suc n) zero xs le = absurd (omega (arith, le))
-take_within (suc n) (suc m) [] le = refl
-take_within (suc n) (suc m) (x ∷ xs) le = ap (λ l. x ∷ l) (take_within n m xs (omega (arith, le)))
-
-pub read_first : {A : Type 0} (m i : ℕ) (xs : List A) → i < length (take m xs) → slice_get (take m xs) i ≡ slice_get xs i
-read_first zero i xs lt = absurd (omega (arith, lt))
-read_first (suc m) i [] lt = absurd (omega (arith, lt))
-read_first (suc m) zero (x ∷ xs) lt = refl
-read_first (suc m) (suc i) (x ∷ xs) lt = read_first m i xs (omega (arith, lt))
-
-pub vectors_first : (n front : ℕ) (vs : List (List Term)) (es : List BasisEntry) → vs ≡ vectors_of es → n ≤ length (vectors_of (take front es))
-    → take n vs ≡ take n (vectors_of (take front es))
-vectors_first n front vs es is le =
-    let same : take front vs ≡ vectors_of (take front es) = vectors_taken front vs es is in
-    sym (take_within n front vs (subst (λ l. n ≤ length l) (sym same) le)) ∙ ap (take n) same
-
-pub vector_first : (front i : ℕ) (vs : List (List Term)) (es : List BasisEntry) → vs ≡ vectors_of es → i < length (vectors_of (take front es))
-    → slice_get vs i ≡ slice_get (vectors_of (take front es)) i
-vector_first front i vs es is lt =
-    let same : take front vs ≡ vectors_of (take front es) = vectors_taken front vs es is in
-    sym (read_first front i vs (subst (λ l. i < length l) (sym same) lt)) ∙ ap (λ l. slice_get l i) same
 
 -- what stands at a place is one
 pub same_item : {A : Type 0} (xs : List A) (i : ℕ) (x y : A) → slice_get xs i ≡ Some x → slice_get xs i ≡ Some y → x ≡ y

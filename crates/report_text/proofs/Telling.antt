@@ -28,8 +28,9 @@ use Rattle.report_lines.specs.Lines.{VerdictIsOver}
 use Rattle.hom_check.specs.Shown.{IsShown}
 use Rattle.report_text.proofs.Building.{proofs_there}
 use Rattle.report_text.specs.declared.faults.WriteFault.{WriteFault}
-use Rattle.report_text.specs.Answers.{AreProofsOf, to_show, IsAnswered, IsSessionAnswered, AreAnswered, IsClosing, IsClosingReply, IsOpen, seal_below}
-use Rattle.report_text.specs.Answers.{vectors_below}
+use Rattle.basis_entry.specs.Items.{seal_below}
+use Rattle.report_text.specs.Answers.{AreProofsOf, to_show, IsAnswered, IsSessionAnswered, AreAnswered, IsClosing, IsClosingReply, IsOpen}
+use Rattle.basis_entry.specs.Items.{vectors_below}
 use Rattle.report_text.specs.Closing.{is_left_open, HasClosing}
 use Rattle.report_text.specs.Histories.{Reply, Answered, SessionAnswers, proof_lines, live_lines, live_from, live_at, closing_lines, closing_from, closing_of}
 use Rattle.report_text.specs.Histories.{made_by, entry_lines, seal_lines, item_lines, told_from}

@@ -1,5 +1,5 @@
 -- Which answers are right.
-use Rattle.std.specs.Prelude.{◌≡◌, ℕ, nat_lt, if◌then◌else◌, List, [], length, take, slice_get, Option, Some, None}
+use Rattle.std.specs.Prelude.{◌≡◌, ℕ, List, [], length, take, slice_get, Option, Some, None}
 use Rattle.free_words.specs.declared.letter.Letter.{Letter}
 use Rattle.presentation.specs.Presented.{Presented}
 use Rattle.module_vec.specs.declared.places.Term.{Term}
@@ -9,21 +9,13 @@ use Rattle.outcomes.specs.declared.verdicts.Verdict.TheVariants as verdicts
 use Rattle.session_text.specs.declared.question.Question.{Question}
 use Rattle.session_text.specs.Questions.{subjects}
 use Rattle.basis_entry.specs.Entries.{BasisEntry, vectors_of}
+use Rattle.basis_entry.specs.Items.{vectors_below, seal_below}
 use Rattle.basis_entry.specs.Seals.{Seal, item_count}
 use Rattle.session_core.specs.declared.kept.Kept.{Kept}
 use Rattle.session_core.specs.Proofs.{AreStepsOf}
 use Rattle.session_core.specs.Sessions.{SessionState}
 use Rattle.session_core.specs.Verdicts.{IsVerdict}
 use Rattle.report_text.specs.Histories.{Reply, Answered, SessionAnswers}
-
--- ---- the items below a front
-
-abbrev pub vectors_below : List BasisEntry → ℕ → List (List Term)
-vectors_below es front = vectors_of (take front es)
-
--- the seal is the item behind the entries
-abbrev pub seal_below : List BasisEntry → Option Seal → ℕ → Option Seal
-seal_below es seal front = if nat_lt (length es) front then seal else None
 
 -- ---- one reply
 

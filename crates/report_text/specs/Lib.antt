@@ -1,4 +1,4 @@
-pub mod Items
+pub mod Logs
 pub mod Histories
 pub mod Answers
 pub mod Closing

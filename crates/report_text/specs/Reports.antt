@@ -16,6 +16,7 @@ use Rattle.report_lines.specs.Texts.{report_text}
 use Rattle.basis_entry.specs.declared.recipes.Recipe.TheVariants.{Sum}
 use Rattle.basis_entry.specs.Base.{AreBase}
 use Rattle.basis_entry.specs.Entries.{BasisEntry, AreOf, vectors_of}
+use Rattle.basis_entry.specs.Items.{seal_below}
 use Rattle.basis_entry.specs.Seals.{Seal}
 use Rattle.session_core.specs.declared.kept.Kept.{Kept}
 use Rattle.session_core.specs.Questions.{CanBeAsked}
@@ -23,7 +24,7 @@ use Rattle.session_core.specs.Replies.{IsReply}
 use Rattle.session_core.specs.Sessions.{SessionState}
 use Rattle.report_text.specs.declared.report.Report.{Report}
 use Rattle.report_text.specs.Histories.{History, made_by, lines_of}
-use Rattle.report_text.specs.Answers.{seal_below, AreAnswered}
+use Rattle.report_text.specs.Answers.{AreAnswered}
 
 -- a report as its readers see it
 pub record Reported : Type 0 where

@@ -9,7 +9,7 @@ ghost use Rattle.session_core.specs.Questions.{CanBeAsked};
 ghost use Rattle.report_text.specs.Answers.{AreAnswered, IsAnswered, IsSessionAnswered, IsClosingReply};
 ghost use Rattle.report_text.specs.Closing.{is_left_open, HasClosing, HasClosings};
 ghost use Rattle.report_text.specs.Histories.{Reply, Answered, SessionAnswers, closing_of, closing_from, closing_lines};
-ghost use Rattle.report_text.specs.Reports.{IsLog, IsReplied};
+ghost use Rattle.report_text.specs.Reports.{IsReplied};
 ghost use Rattle.report_text.specs.Writing.{Puts, Counts};
 
 use crate::WriteFault;
@@ -24,20 +24,16 @@ use session_core::{Session, Tag};
 use std::alloc::Global;
 
 /// Writes what is answered behind the end, by session and question.
-pub fn put_closings<K: Sink, L: Front>(
+pub fn put_closings<K: Sink>(
     alloc: Global,
-    log: &Log<'_, '_, L>,
+    log: &Log<'_>,
     sessions: &[Session],
     out: &mut K,
 ) -> Result<(), WriteFault>
-    requires log { IsLog log.now.p.now (L.entries log.now.list.now) }
-    requires replied { AllByRecursion (IsReplied log.now.p.now (L.entries log.now.list.now) (L.seal log.now.list.now))
-        sessions.now }
-    ensures text { (ts : List SessionAnswers) → AreAnswered log.now.p.now (L.entries log.now.list.now)
-        (L.seal log.now.list.now) sessions.now ts →
-        Puts (K.taken out.old) (lines_text log.now.p.now (closing_of ts)) result (K.taken out.new) }
-    ensures told { OnOk result (AllByRecursion (HasClosings log.now.p.now (L.entries log.now.list.now)
-        (L.seal log.now.list.now)) sessions.now) }
+    requires replied { AllByRecursion (IsReplied log.now.pres log.now.entries log.now.seal) sessions.now }
+    ensures text { (ts : List SessionAnswers) → AreAnswered log.now.pres log.now.entries log.now.seal sessions.now ts →
+        Puts (K.taken out.old) (lines_text log.now.pres (closing_of ts)) result (K.taken out.new) }
+    ensures told { OnOk result (AllByRecursion (HasClosings log.now.pres log.now.entries log.now.seal) sessions.now) }
     ensures counts { Counts (K.faults out.old) result (K.faults out.new) }
 {
     for session in sessions {
@@ -47,20 +43,17 @@ pub fn put_closings<K: Sink, L: Front>(
 }
 
 /// Writes what a session is answered behind the end: the questions that were left open are asked once more.
-fn put_session<K: Sink, L: Front>(
+fn put_session<K: Sink>(
     alloc: Global,
-    log: &Log<'_, '_, L>,
+    log: &Log<'_>,
     session: &Session,
     out: &mut K,
 ) -> Result<(), WriteFault>
-    requires log { IsLog log.now.p.now (L.entries log.now.list.now) }
-    requires replied { IsReplied log.now.p.now (L.entries log.now.list.now) (L.seal log.now.list.now) session.now }
-    ensures text { (t : SessionAnswers) → IsSessionAnswered log.now.p.now (L.entries log.now.list.now)
-        (L.seal log.now.list.now) session.now t →
-        Puts (K.taken out.old) (lines_text log.now.p.now (closing_from session.now.number 1 t.answers)) result
+    requires replied { IsReplied log.now.pres log.now.entries log.now.seal session.now }
+    ensures text { (t : SessionAnswers) → IsSessionAnswered log.now.pres log.now.entries log.now.seal session.now t →
+        Puts (K.taken out.old) (lines_text log.now.pres (closing_from session.now.number 1 t.answers)) result
         (K.taken out.new) }
-    ensures told { OnOk result (HasClosings log.now.p.now (L.entries log.now.list.now) (L.seal log.now.list.now)
-        session.now) }
+    ensures told { OnOk result (HasClosings log.now.pres log.now.entries log.now.seal session.now) }
     ensures counts { Counts (K.faults out.old) result (K.faults out.new) }
 {
     for place in 0..session.count() {
@@ -70,25 +63,24 @@ fn put_session<K: Sink, L: Front>(
 }
 
 /// Writes what is answered to a question behind the end, if it was left open.
-fn put_if_open<K: Sink, L: Front>(
+fn put_if_open<K: Sink>(
     alloc: Global,
-    log: &Log<'_, '_, L>,
+    log: &Log<'_>,
     session: &Session,
     number: u32,
     out: &mut K,
 ) -> Result<(), WriteFault>
-    requires log { IsLog log.now.p.now (L.entries log.now.list.now) }
     requires first { 1 ≤ number }
     requires within { number ≤ length session.now.questions }
-    requires replied { IsReplied log.now.p.now (L.entries log.now.list.now) (L.seal log.now.list.now) session.now }
+    requires replied { IsReplied log.now.pres log.now.entries log.now.seal session.now }
     ensures text { (q : Question) (k : Kept) (a : Answered) → slice_get session.now.questions (number - 1) ≡ Some q
         → slice_get session.now.kept (number - 1) ≡ Some k
-        → IsAnswered log.now.p.now (L.entries log.now.list.now) (L.seal log.now.list.now) q k a →
-        Puts (K.taken out.old) (lines_text log.now.p.now (closing_lines session.now.number number a.question a.closing))
+        → IsAnswered log.now.pres log.now.entries log.now.seal q k a →
+        Puts (K.taken out.old) (lines_text log.now.pres (closing_lines session.now.number number a.question a.closing))
         result (K.taken out.new) }
     ensures told { OnOk result ((q : Question) (k : Kept) → slice_get session.now.questions (number - 1) ≡ Some q
         → slice_get session.now.kept (number - 1) ≡ Some k → is_left_open k.tag ≡ true
-        → HasClosing log.now.p.now (L.entries log.now.list.now) (L.seal log.now.list.now) q) }
+        → HasClosing log.now.pres log.now.entries log.now.seal q) }
     ensures counts { Counts (K.faults out.old) result (K.faults out.new) }
 {
     if !is_open(session, number) {
@@ -110,32 +102,31 @@ fn is_open(session: &Session, number: u32) -> bool
 }
 
 /// Writes the answer to a question by all items, and its proofs.
-fn put_answer<K: Sink, L: Front>(
+fn put_answer<K: Sink>(
     alloc: Global,
-    log: &Log<'_, '_, L>,
+    log: &Log<'_>,
     session: &Session,
     number: u32,
     out: &mut K,
 ) -> Result<(), WriteFault>
-    requires log { IsLog log.now.p.now (L.entries log.now.list.now) }
     requires first { 1 ≤ number }
     requires within { number ≤ length session.now.questions }
-    requires asked { AllByRecursion (CanBeAsked log.now.p.now) session.now.questions }
+    requires asked { AllByRecursion (CanBeAsked log.now.pres) session.now.questions }
     ensures text { (q : Question) (r : Reply) → slice_get session.now.questions (number - 1) ≡ Some q
-        → IsClosingReply log.now.p.now (L.entries log.now.list.now) (L.seal log.now.list.now) q r →
-        Puts (K.taken out.old) (lines_text log.now.p.now (closing_lines session.now.number number q (Some r))) result
+        → IsClosingReply log.now.pres log.now.entries log.now.seal q r →
+        Puts (K.taken out.old) (lines_text log.now.pres (closing_lines session.now.number number q (Some r))) result
         (K.taken out.new) }
     ensures told { OnOk result ((q : Question) → slice_get session.now.questions (number - 1) ≡ Some q
-        → HasClosing log.now.p.now (L.entries log.now.list.now) (L.seal log.now.list.now) q) }
+        → HasClosing log.now.pres log.now.entries log.now.seal q) }
     ensures counts { Counts (K.faults out.old) result (K.faults out.new) }
 {
-    // The proof needs what holds of the entries, and the call says so.
-    let _ = log.list.count();
+    log.known();
+    let p = log.pres();
     let question = session.question(number);
-    let verdict = verdict(alloc, log.p, log.list, question)?;
+    let verdict = verdict(alloc, p, log, question)?;
     let at = QuestionNumber::new(session.number(), number);
     let mut line = Vec::new(alloc);
-    put_closing(alloc, &mut line, log.p, at, question, &verdict)?;
+    put_closing(alloc, &mut line, p, at, question, &verdict)?;
     put_with_end(line, out)?;
-    put_proofs(alloc, log, log.list.front(), question, &verdict, out)
+    put_proofs(alloc, log, log.front(), question, &verdict, out)
 }

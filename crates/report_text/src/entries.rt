@@ -6,7 +6,7 @@ ghost use Rattle.report_lines.specs.declared.lines.Line.TheVariants as lines;
 ghost use Rattle.report_lines.specs.Texts.{line_text, lines_text};
 ghost use Rattle.report_text.specs.Answers.{AreAnswered};
 ghost use Rattle.report_text.specs.Histories.{SessionAnswers, item_lines, made_by, seal_lines, told_from};
-ghost use Rattle.report_text.specs.Reports.{IsLog, EntryIsOver, IsReplied};
+ghost use Rattle.report_text.specs.Reports.{EntryIsOver, IsReplied};
 ghost use Rattle.report_text.specs.Writing.{Puts, Counts};
 
 use crate::WriteFault;
@@ -15,57 +15,51 @@ use crate::log::Log;
 use crate::pieces::put_with_end;
 use basis_entry::{Entry, Front, Recipe};
 use mb_io::Sink;
+use module_vec::VecList;
 use presentation::Presentation;
 use report_lines::{put_generator, put_sum};
 use session_core::Session;
 use std::alloc::Global;
 
 /// Writes the items, and behind each the answers of the front that it completes.
-pub fn put_items<K: Sink, L: Front>(
+pub fn put_items<K: Sink>(
     alloc: Global,
-    log: &Log<'_, '_, L>,
+    log: &Log<'_>,
     sessions: &[Session],
     out: &mut K,
 ) -> Result<(), WriteFault>
-    requires log { IsLog log.now.p.now (L.entries log.now.list.now) }
-    requires few { length (L.entries log.now.list.now) + 1 < 2 ^ 32 }
-    requires replies { AllByRecursion (IsReplied log.now.p.now (L.entries log.now.list.now) (L.seal log.now.list.now))
-        sessions.now }
-    ensures text { (ts : List SessionAnswers) → AreAnswered log.now.p.now (L.entries log.now.list.now)
-        (L.seal log.now.list.now) sessions.now ts →
-        Puts (K.taken out.old) (lines_text log.now.p.now (told_from ts 0
-        (item_lines (L.entries log.now.list.now) (L.seal log.now.list.now)))) result (K.taken out.new) }
+    requires replies { AllByRecursion (IsReplied log.now.pres log.now.entries log.now.seal) sessions.now }
+    ensures text { (ts : List SessionAnswers) → AreAnswered log.now.pres log.now.entries log.now.seal sessions.now ts →
+        Puts (K.taken out.old) (lines_text log.now.pres (told_from ts 0
+        (item_lines log.now.entries log.now.seal))) result (K.taken out.new) }
     ensures counts { Counts (K.faults out.old) result (K.faults out.new) }
 {
-    for number in 0..log.list.count() {
-        put_entry(alloc, log.p, number, log.list.entry(number), out)?;
+    for number in 0..log.count() {
+        put_entry(alloc, log.pres(), number, log.entry(number), out)?;
         put_live_at(alloc, log, sessions, number + 1, out)?;
     }
     put_seal(alloc, log, sessions, out)
 }
 
 /// Writes the seal, if there is one, and the answers by all items behind it.
-fn put_seal<K: Sink, L: Front>(
+fn put_seal<K: Sink>(
     alloc: Global,
-    log: &Log<'_, '_, L>,
+    log: &Log<'_>,
     sessions: &[Session],
     out: &mut K,
 ) -> Result<(), WriteFault>
-    requires log { IsLog log.now.p.now (L.entries log.now.list.now) }
-    requires replies { AllByRecursion (IsReplied log.now.p.now (L.entries log.now.list.now) (L.seal log.now.list.now))
-        sessions.now }
-    ensures text { (ts : List SessionAnswers) → AreAnswered log.now.p.now (L.entries log.now.list.now)
-        (L.seal log.now.list.now) sessions.now ts →
-        Puts (K.taken out.old) (lines_text log.now.p.now (told_from ts (length (L.entries log.now.list.now))
-        (seal_lines (L.seal log.now.list.now)))) result (K.taken out.new) }
+    requires replies { AllByRecursion (IsReplied log.now.pres log.now.entries log.now.seal) sessions.now }
+    ensures text { (ts : List SessionAnswers) → AreAnswered log.now.pres log.now.entries log.now.seal sessions.now ts →
+        Puts (K.taken out.old) (lines_text log.now.pres (told_from ts (length log.now.entries)
+        (seal_lines log.now.seal))) result (K.taken out.new) }
     ensures counts { Counts (K.faults out.old) result (K.faults out.new) }
 {
-    let Some(_) = log.list.sealed() else {
+    let Some(_) = log.sealed() else {
         return Ok(());
     };
     let line = Vec::from_slice(alloc, b"seal")?;
     put_with_end(line, out)?;
-    put_live_at(alloc, log, sessions, log.list.front(), out)
+    put_live_at(alloc, log, sessions, log.front(), out)
 }
 
 /// Writes the line of an entry.

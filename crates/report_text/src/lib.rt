@@ -9,8 +9,6 @@
 mod closing;
 mod entries;
 mod faults;
-mod fronts;
-mod items;
 mod live;
 mod log;
 mod pieces;

@@ -10,17 +10,17 @@ ghost use Rattle.session_core.specs.Questions.{CanBeAsked};
 ghost use Rattle.session_core.specs.Replies.{IsReply, tag_of};
 ghost use Rattle.session_core.specs.Sessions.{IsSession};
 ghost use Rattle.session_core.specs.Verdicts.{IsVerdict};
-ghost use Rattle.report_text.specs.Answers.{AreAnswered, IsAnswered, IsSessionAnswered, seal_below, vectors_below};
+ghost use Rattle.basis_entry.specs.Items.{seal_below, vectors_below};
+ghost use Rattle.report_text.specs.Answers.{AreAnswered, IsAnswered, IsSessionAnswered};
 ghost use Rattle.report_text.specs.Histories.{Answered, SessionAnswers, live_at, live_from, live_lines};
-ghost use Rattle.report_text.specs.Reports.{IsLog, IsReplied};
+ghost use Rattle.report_text.specs.Reports.{IsReplied};
 ghost use Rattle.report_text.specs.Writing.{Puts, Counts};
 
 use crate::WriteFault;
-use crate::fronts::Below;
 use crate::log::Log;
 use crate::pieces::put_with_end;
 use crate::showing::put_proofs;
-use basis_entry::Front;
+use basis_entry::{Below, Front};
 use mb_io::Sink;
 use outcomes::Verdict;
 use report_lines::{QuestionNumber, put_live};
@@ -30,19 +30,16 @@ use session_text::Question;
 use std::alloc::{AllocError, Global};
 
 /// Writes what was answered at the front, by session and question.
-pub fn put_live_at<K: Sink, L: Front>(
+pub fn put_live_at<K: Sink>(
     alloc: Global,
-    log: &Log<'_, '_, L>,
+    log: &Log<'_>,
     sessions: &[Session],
     front: u32,
     out: &mut K,
 ) -> Result<(), WriteFault>
-    requires log { IsLog log.now.p.now (L.entries log.now.list.now) }
-    requires replied { AllByRecursion (IsReplied log.now.p.now (L.entries log.now.list.now) (L.seal log.now.list.now))
-        sessions.now }
-    ensures text { (ts : List SessionAnswers) → AreAnswered log.now.p.now (L.entries log.now.list.now)
-        (L.seal log.now.list.now) sessions.now ts →
-        Puts (K.taken out.old) (lines_text log.now.p.now (live_at front ts)) result (K.taken out.new) }
+    requires replied { AllByRecursion (IsReplied log.now.pres log.now.entries log.now.seal) sessions.now }
+    ensures text { (ts : List SessionAnswers) → AreAnswered log.now.pres log.now.entries log.now.seal sessions.now ts →
+        Puts (K.taken out.old) (lines_text log.now.pres (live_at front ts)) result (K.taken out.new) }
     ensures counts { Counts (K.faults out.old) result (K.faults out.new) }
 {
     for session in sessions {
@@ -52,18 +49,16 @@ pub fn put_live_at<K: Sink, L: Front>(
 }
 
 /// Writes what a session was answered at the front.
-fn put_session_at<K: Sink, L: Front>(
+fn put_session_at<K: Sink>(
     alloc: Global,
-    log: &Log<'_, '_, L>,
+    log: &Log<'_>,
     session: &Session,
     front: u32,
     out: &mut K,
 ) -> Result<(), WriteFault>
-    requires log { IsLog log.now.p.now (L.entries log.now.list.now) }
-    requires replied { IsReplied log.now.p.now (L.entries log.now.list.now) (L.seal log.now.list.now) session.now }
-    ensures text { (t : SessionAnswers) → IsSessionAnswered log.now.p.now (L.entries log.now.list.now)
-        (L.seal log.now.list.now) session.now t →
-        Puts (K.taken out.old) (lines_text log.now.p.now (live_from front session.now.number 1 t.answers)) result
+    requires replied { IsReplied log.now.pres log.now.entries log.now.seal session.now }
+    ensures text { (t : SessionAnswers) → IsSessionAnswered log.now.pres log.now.entries log.now.seal session.now t →
+        Puts (K.taken out.old) (lines_text log.now.pres (live_from front session.now.number 1 t.answers)) result
         (K.taken out.new) }
     ensures counts { Counts (K.faults out.old) result (K.faults out.new) }
 {
@@ -131,28 +126,26 @@ fn reply_at(session: &Session, number: u32, front: u32) -> Option<Kept>
 }
 
 /// Writes the answer to a question, and its proofs.
-fn put_answer<K: Sink, L: Front>(
+fn put_answer<K: Sink>(
     alloc: Global,
-    log: &Log<'_, '_, L>,
+    log: &Log<'_>,
     session: &Session,
     number: u32,
     kept: Kept,
     out: &mut K,
 ) -> Result<(), WriteFault>
-    requires log { IsLog log.now.p.now (L.entries log.now.list.now) }
     requires first { 1 ≤ number }
     requires within { number ≤ length session.now.questions }
     requires kept { slice_get session.now.kept (number - 1) ≡ Some kept }
-    requires replied { IsReplied log.now.p.now (L.entries log.now.list.now) (L.seal log.now.list.now) session.now }
+    requires replied { IsReplied log.now.pres log.now.entries log.now.seal session.now }
     ensures text { (q : Question) (a : Answered) → slice_get session.now.questions (number - 1) ≡ Some q
-        → IsAnswered log.now.p.now (L.entries log.now.list.now) (L.seal log.now.list.now) q kept a →
-        Puts (K.taken out.old) (lines_text log.now.p.now (live_lines session.now.number number a)) result
+        → IsAnswered log.now.pres log.now.entries log.now.seal q kept a →
+        Puts (K.taken out.old) (lines_text log.now.pres (live_lines session.now.number number a)) result
         (K.taken out.new) }
     ensures counts { Counts (K.faults out.old) result (K.faults out.new) }
 {
-    // The proof needs what holds of the entries, and the call says so.
-    let _ = log.list.count();
-    let p = log.p;
+    log.known();
+    let p = log.pres();
     let front = kept.front;
     let question = session.question(number);
     let verdict = verdict_of(alloc, log, question, kept)?;
@@ -164,26 +157,25 @@ fn put_answer<K: Sink, L: Front>(
 }
 
 /// The verdict that was kept. A normal form is made again, by the items below the front.
-fn verdict_of<L: Front>(
+fn verdict_of(
     alloc: Global,
-    log: &Log<'_, '_, L>,
+    log: &Log<'_>,
     question: &Question,
     kept: Kept,
 ) -> Result<Verdict, AllocError>
-    requires log { IsLog log.now.p.now (L.entries log.now.list.now) }
-    requires asked { CanBeAsked log.now.p.now question.now }
-    requires reply { IsReply log.now.p.now (take kept.front (L.entries log.now.list.now))
-        (seal_below (L.entries log.now.list.now) (L.seal log.now.list.now) kept.front) question.now kept }
-    ensures { IfOk result (IsVerdict log.now.p.now (vectors_below (L.entries log.now.list.now) kept.front)
-        (seal_below (L.entries log.now.list.now) (L.seal log.now.list.now) kept.front) question.now) }
+    requires asked { CanBeAsked log.now.pres question.now }
+    requires reply { IsReply log.now.pres (take kept.front log.now.entries)
+        (seal_below log.now.entries log.now.seal kept.front) question.now kept }
+    ensures { IfOk result (IsVerdict log.now.pres (vectors_below log.now.entries kept.front)
+        (seal_below log.now.entries log.now.seal kept.front) question.now) }
 {
     match kept.tag {
         Tag::Normal => {
             let below = Below {
-                list: log.list,
+                list: log,
                 front: kept.front,
             };
-            verdict(alloc, log.p, &below, question)
+            verdict(alloc, log.pres(), &below, question)
         }
         Tag::Trivial => Ok(Verdict::Trivial),
         Tag::NotTrivial => Ok(Verdict::NotTrivial),

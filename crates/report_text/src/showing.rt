@@ -12,17 +12,18 @@ ghost use Rattle.hom_check.specs.Subjects.{subject_at};
 ghost use Rattle.hom_check.specs.Shown.{IsShown};
 ghost use Rattle.session_core.specs.Proofs.{AreStepsOf};
 ghost use Rattle.session_core.specs.Questions.{CanBeAsked};
-ghost use Rattle.report_text.specs.Answers.{AreProofsOf, to_show, vectors_below};
+ghost use Rattle.basis_entry.specs.Entries.{vectors_of};
+ghost use Rattle.basis_entry.specs.Items.{vectors_below};
+ghost use Rattle.report_text.specs.Answers.{AreProofsOf, to_show};
 ghost use Rattle.report_text.specs.Histories.{proof_lines};
-ghost use Rattle.report_text.specs.Reports.{IsLog};
 ghost use Rattle.report_text.specs.Writing.{Puts, Counts};
 
 use crate::WriteFault;
 use crate::log::Log;
 use crate::pieces::put_with_end;
-use basis_entry::Front;
 use hom_check::subject_count;
 use mb_io::Sink;
+use module_vec::VecList;
 use outcomes::Verdict;
 use reduce_cofactor::ReduceFault;
 use report_lines::put_proof;
@@ -33,21 +34,19 @@ use step_lists::Steps;
 
 /// Writes the proofs of a verdict by the entries below the front: one for each subject of a yes, and none for any
 /// other.
-pub fn put_proofs<K: Sink, L: Front>(
+pub fn put_proofs<K: Sink>(
     alloc: Global,
-    log: &Log<'_, '_, L>,
+    log: &Log<'_>,
     front: u32,
     q: &Question,
     verdict: &Verdict,
     out: &mut K,
 ) -> Result<(), WriteFault>
-    requires log { IsLog log.now.p.now (L.entries log.now.list.now) }
-    requires asked { CanBeAsked log.now.p.now q.now }
-    requires shown { AllByRecursion (IsShown (vectors_below (L.entries log.now.list.now) front))
-        (to_show q.now verdict.now) }
+    requires asked { CanBeAsked log.now.pres q.now }
+    requires shown { AllByRecursion (IsShown (vectors_below log.now.entries front)) (to_show q.now verdict.now) }
     ensures text { (proofs : List (List Step))
-        → AreProofsOf (vectors_below (L.entries log.now.list.now) front) (to_show q.now verdict.now) proofs →
-        Puts (K.taken out.old) (lines_text log.now.p.now (proof_lines 1 proofs)) result (K.taken out.new) }
+        → AreProofsOf (vectors_below log.now.entries front) (to_show q.now verdict.now) proofs →
+        Puts (K.taken out.old) (lines_text log.now.pres (proof_lines 1 proofs)) result (K.taken out.new) }
     ensures counts { Counts (K.faults out.old) result (K.faults out.new) }
 {
     match verdict {
@@ -57,19 +56,18 @@ pub fn put_proofs<K: Sink, L: Front>(
 }
 
 /// Writes the proof of each subject.
-fn put_all<K: Sink, L: Front>(
+fn put_all<K: Sink>(
     alloc: Global,
-    log: &Log<'_, '_, L>,
+    log: &Log<'_>,
     front: u32,
     q: &Question,
     out: &mut K,
 ) -> Result<(), WriteFault>
-    requires log { IsLog log.now.p.now (L.entries log.now.list.now) }
-    requires asked { CanBeAsked log.now.p.now q.now }
-    requires shown { AllByRecursion (IsShown (vectors_below (L.entries log.now.list.now) front)) (subjects q.now) }
+    requires asked { CanBeAsked log.now.pres q.now }
+    requires shown { AllByRecursion (IsShown (vectors_below log.now.entries front)) (subjects q.now) }
     ensures text { (proofs : List (List Step))
-        → AreProofsOf (vectors_below (L.entries log.now.list.now) front) (subjects q.now) proofs →
-        Puts (K.taken out.old) (lines_text log.now.p.now (proof_lines 1 proofs)) result (K.taken out.new) }
+        → AreProofsOf (vectors_below log.now.entries front) (subjects q.now) proofs →
+        Puts (K.taken out.old) (lines_text log.now.pres (proof_lines 1 proofs)) result (K.taken out.new) }
     ensures counts { Counts (K.faults out.old) result (K.faults out.new) }
 {
     for place in 0..subject_count(q) {
@@ -79,49 +77,47 @@ fn put_all<K: Sink, L: Front>(
 }
 
 /// Writes the proof of one subject.
-fn put_one<K: Sink, L: Front>(
+fn put_one<K: Sink>(
     alloc: Global,
-    log: &Log<'_, '_, L>,
+    log: &Log<'_>,
     front: u32,
     q: &Question,
     number: u32,
     out: &mut K,
 ) -> Result<(), WriteFault>
-    requires log { IsLog log.now.p.now (L.entries log.now.list.now) }
-    requires asked { CanBeAsked log.now.p.now q.now }
+    requires asked { CanBeAsked log.now.pres q.now }
     requires first { 1 ≤ number }
     requires within { number ≤ length (subjects q.now) }
-    requires shown { IsShown (vectors_below (L.entries log.now.list.now) front) (subject_at q.now number) }
-    ensures text { (steps : List Step) → AreStepsOf (vectors_below (L.entries log.now.list.now) front)
+    requires shown { IsShown (vectors_below log.now.entries front) (subject_at q.now number) }
+    ensures text { (steps : List Step) → AreStepsOf (vectors_below log.now.entries front)
         (subject_at q.now number) steps →
-        Puts (K.taken out.old) (line_text log.now.p.now (lines.Proof number steps) ++ 10 ∷ []) result
+        Puts (K.taken out.old) (line_text log.now.pres (lines.Proof number steps) ++ 10 ∷ []) result
         (K.taken out.new) }
     ensures counts { Counts (K.faults out.old) result (K.faults out.new) }
 {
     let steps = steps_of(alloc, log, front, q, number)?;
     let mut line = Vec::new(alloc);
-    put_proof(&mut line, log.p, number, &steps)?;
+    put_proof(&mut line, log.pres(), number, &steps)?;
     put_with_end(line, out)
 }
 
 /// The steps that show a subject.
-fn steps_of<L: Front>(
+fn steps_of(
     alloc: Global,
-    log: &Log<'_, '_, L>,
+    log: &Log<'_>,
     front: u32,
     q: &Question,
     number: u32,
 ) -> Result<Steps, AllocError>
-    requires log { IsLog log.now.p.now (L.entries log.now.list.now) }
-    requires asked { CanBeAsked log.now.p.now q.now }
+    requires asked { CanBeAsked log.now.pres q.now }
     requires first { 1 ≤ number }
     requires within { number ≤ length (subjects q.now) }
-    requires shown { IsShown (vectors_below (L.entries log.now.list.now) front) (subject_at q.now number) }
-    ensures is { IfOk result (AreStepsOf (vectors_below (L.entries log.now.list.now) front) (subject_at q.now number)) }
-    ensures over { IfOk result (StepsAreOver (length log.now.p.now.names)) }
+    requires shown { IsShown (vectors_below log.now.entries front) (subject_at q.now number) }
+    ensures is { IfOk result (AreStepsOf (vectors_below log.now.entries front) (subject_at q.now number)) }
+    ensures over { IfOk result (StepsAreOver (length log.now.pres.names)) }
 {
-    let count = entries_below(log.list, front);
-    match proof(alloc, log.p, log.list, count, q, number) {
+    let count = entries_below(log, front);
+    match proof(alloc, log.pres(), log, count, q, number) {
         Ok(steps) => Ok(steps),
         Err(ReduceFault::Stop(_)) => unreachable!(),
         Err(ReduceFault::NoMemory) => Err(AllocError),
@@ -129,10 +125,10 @@ fn steps_of<L: Front>(
 }
 
 /// How many entries stand below the front.
-fn entries_below<L: Front>(list: &L, front: u32) -> u32
-    ensures within { result ≤ length (L.vectors list.now) }
-    ensures is { take result (L.vectors list.now) ≡ vectors_below (L.entries list.now) front }
-    ensures entries { AreEntries (vectors_below (L.entries list.now) front) }
+fn entries_below(log: &Log<'_>, front: u32) -> u32
+    ensures within { result ≤ length (vectors_of log.now.entries) }
+    ensures is { take result (vectors_of log.now.entries) ≡ vectors_below log.now.entries front }
+    ensures entries { AreEntries (vectors_below log.now.entries front) }
 {
-    front.min(list.count())
+    front.min(log.count())
 }

@@ -1,32 +1,26 @@
 //! Writing a report.
 
-ghost use Rattle.std.specs.List.{AllByRecursion};
-ghost use Rattle.std.specs.Prelude.{◌≡◌, ◌+◌, ◌<◌, ◌^◌, ◌++◌, ◌∷◌, [], length, map, option_map, IfOk, OnOk};
+ghost use Rattle.std.specs.Prelude.{◌≡◌, ◌++◌, ◌∷◌, [], length, option_map, OnOk};
 ghost use Rattle.std.specs.Arc.{arc_value};
-ghost use Rattle.reducer_index.specs.Leads.{AreLeads};
 ghost use Rattle.report_lines.specs.declared.lines.Line.TheVariants as lines;
 ghost use Rattle.report_lines.specs.Lines.{EndIsOver};
 ghost use Rattle.report_lines.specs.Texts.{title, pres_line, line_text};
-ghost use Rattle.basis_entry.specs.Entries.{IsBasisEntry, vectors_of};
 ghost use Rattle.report_text.specs.Histories.{History};
 ghost use Rattle.report_text.specs.Reports.{reported, IsReportable, IsHistoryOf, text_of};
 ghost use Rattle.report_text.specs.Writing.{Puts, Counts};
 
 use crate::closing::put_closings;
 use crate::entries::put_items;
-use crate::items::Items;
 use crate::log::Log;
 use crate::pieces::put_with_end;
 use crate::{Report, WriteFault};
-use basis_entry::{Entry, Sealed};
+use basis_entry::{Items, Sealed};
 use mb_io::Sink;
 use outcomes::End;
 use presentation::{Presentation, write_presentation};
-use reducer_index::{Index, Indexed};
 use report_lines::put_ending;
 use session_core::Session;
-use std::alloc::{AllocError, Global};
-use std::sync::Arc;
+use std::alloc::Global;
 
 /// Writes the text of the report, line by line. Where the sink tells its bytes, `Ok` has appended that text, and a
 /// refusal a front of it.
@@ -41,12 +35,8 @@ pub fn write_report<K: Sink>(alloc: Global, r: &Report, out: &mut K) -> Result<(
     ensures counts { Counts (K.faults out.old) result (K.faults out.new) }
 {
     let p: &Presentation = &r.pres;
-    let entries: &[Arc<Entry>] = &r.entries;
     let sessions: &[Session] = &r.sessions;
-    let index = index_of(alloc, entries)?;
-    let items = Items::of(entries, seal_of(r));
-    let list = Indexed::over(&items, &index);
-    let log = Log { p, list: &list };
+    let log = Log::of(alloc, p, Items::of(&r.entries, seal_of(r)))?;
     put_head(alloc, p, out)?;
     put_items(alloc, &log, sessions, out)?;
     put_end(alloc, p, &r.end, out)?;
@@ -63,19 +53,6 @@ fn seal_of(r: &Report) -> Option<&Sealed>
         Some(seal) => Some(seal),
         None => None,
     }
-}
-
-/// The leads of the entries.
-fn index_of(alloc: Global, entries: &[Arc<Entry>]) -> Result<Index, AllocError>
-    requires { length entries.now + 1 < 2 ^ 32 }
-    ensures leads { IfOk result (AreLeads (vectors_of (map arc_value entries.now))) }
-    ensures known { OnOk result (AllByRecursion IsBasisEntry (map arc_value entries.now)) }
-{
-    let mut index = Index::new(alloc);
-    for entry in entries {
-        index.push(entry.vector().terms()[0])?;
-    }
-    Ok(index)
 }
 
 /// Writes the two lines at the head.

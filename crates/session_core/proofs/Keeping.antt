@@ -39,7 +39,13 @@ pub kept_more : (s : SessionState) (k : Kept) (ks : List Kept) → IsSession s �
 kept_more s k ks is room le new =
     let long = length-append s.kept (k ∷ []) in
     let grown = ap length new in
-    record { few = is.few; within = omega (arith, long, grown, room); rising = subst (AreRising s.base) (sym new) (rising_more s.base s.kept k is.rising le) }
+    record {
+      number = is.number;
+      few = is.few;
+      within = omega (arith, long, grown, room);
+      rising = subst (AreRising s.base) (sym new) (rising_more s.base s.kept k is.rising le);
+      sources = is.sources;
+    }
 
 -- ---- the question that was asked
 pub all_read : (P : Question → Type 0) (qs : List Question) (n : ℕ) (q : Question) → AllByRecursion P qs → slice_get qs n ≡ Some q → P q

@@ -37,8 +37,7 @@ pub fn verdict<F: Front>(
     ensures trivial { IfOk result (λ v. v ≡ Trivial → AllAreTrivial p.now q.now) }
     ensures extends { IfOk result (λ v. v ≡ Extends → MapExtends p.now q.now) }
 {
-    // The proof needs that the entries lie in the module, and what holds of every presentation; the calls say so.
-    let _ = list.front();
+    list.known();
     p.known();
     let sealed = is_sealed_for(list, p);
     let shown = first_unshown(alloc, p, list, list.count(), q)?;

@@ -70,6 +70,7 @@ impl Session {
           kept = [];
         }) }
     {
+        Question::all_known(&questions);
         let replies = Vec::with_capacity(alloc, questions.len())?;
         Ok(Session {
             number,
@@ -77,6 +78,22 @@ impl Session {
             base,
             replies,
         })
+    }
+
+    /// What holds of every session. The call does nothing.
+    pub fn known(&self)
+        ensures { IsSession self.now }
+    {
+        let _number = &self.number;
+    }
+
+    /// What holds of each of these sessions. The call does nothing: where it is compiled no loop is left of it.
+    pub fn all_known(sessions: &[Session])
+        ensures { AllByRecursion IsSession sessions.now }
+    {
+        for session in sessions {
+            session.known();
+        }
     }
 
     /// The number of the next question, counted from 1. `None` exactly where every question has its reply.

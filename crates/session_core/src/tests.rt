@@ -1,13 +1,13 @@
 //! Verdicts by small lists, and sessions, worked out by hand.
 
-ghost use Rattle.std.specs.Prelude.{IfSome, IfOk, OnOk, length, ◌≤◌};
+ghost use Rattle.std.specs.Prelude.{IfSome, IfOk, OnOk, length, map, ◌≤◌};
 ghost use Rattle.std.specs.Arc.{arc_value};
 ghost use Rattle.basis_entry.specs.Entries.{AreOf};
 ghost use Rattle.session_core.specs.Questions.{CanBeAsked};
 
 use crate::judge::verdict;
 use crate::{Kept, Session, Tag, laws, proof};
-use basis_entry::{Entry, EntryList};
+use basis_entry::{Entry, Items};
 use module_vec::VecList;
 use presentation::{Presentation, read_presentation};
 use session_text::{Question, first_long_image, read_question};
@@ -23,23 +23,28 @@ fn presentation(alloc: Global, text: &str) -> Result<Arc<Presentation>, Fail> {
     }
 }
 
-fn push(list: &mut EntryList, p: &Arc<Presentation>, entry: &Arc<Entry>) -> Result<(), Fail>
-    ensures { OnOk result (AreOf (arc_value p.now) list.old → AreOf (arc_value p.now) list.new) }
+fn push(list: &mut Vec<Arc<Entry>>, p: &Arc<Presentation>, entry: &Arc<Entry>) -> Result<(), Fail>
+    ensures { OnOk result (AreOf (arc_value p.now) (map arc_value list.old.items)
+        → AreOf (arc_value p.now) (map arc_value list.new.items)) }
 {
-    if list.count() > 100 || !entry.presentation().same(p) {
+    if !entry.presentation().same(p) {
         return Err(Fail::from("no entry"));
     }
     list.push(Arc::try_clone(entry)?)?;
     Ok(())
 }
 
-/// The list of the generators' entries.
-fn list(alloc: Global, p: &Arc<Presentation>) -> Result<EntryList, Fail>
-    ensures { IfOk result (AreOf (arc_value p.now)) }
+/// The generators' entries, at most 100.
+fn list(alloc: Global, p: &Arc<Presentation>) -> Result<Vec<Arc<Entry>>, Fail>
+    ensures of { IfOk result (λ es. AreOf (arc_value p.now) (map arc_value es.items)) }
+    ensures few { IfOk result (λ es. length es.items ≤ 100) }
 {
-    let mut list = EntryList::new(alloc);
+    let mut list = Vec::new(alloc);
     for entry in &Entry::base(alloc, p)? {
         push(&mut list, p, entry)?;
+    }
+    if list.len() > 100 {
+        return Err(Fail::from("many entries"));
     }
     Ok(list)
 }
@@ -58,7 +63,8 @@ fn question(alloc: Global, p: &Presentation, text: &str) -> Result<Question, Fai
 
 fn tag(alloc: Global, p: &str, text: &str) -> Result<Tag, Fail> {
     let p = presentation(alloc, p)?;
-    let list = list(alloc, &p)?;
+    let entries = list(alloc, &p)?;
+    let list = Items::of(&entries, None);
     let q = question(alloc, &p, text)?;
     Ok(Tag::of(&verdict(alloc, &p, &list, &q)?))
 }
@@ -92,7 +98,8 @@ fn verdicts_without_a_seal(rt: HostRuntime) -> Result<(), Fail> {
 /// How many steps the proof of the only subject has.
 fn steps(alloc: Global, p: &str, text: &str) -> Result<usize, Fail> {
     let p = presentation(alloc, p)?;
-    let list = list(alloc, &p)?;
+    let entries = list(alloc, &p)?;
+    let list = Items::of(&entries, None);
     let q = question(alloc, &p, text)?;
     if hom_check::subject_count(&q) == 0 {
         return Err(Fail::from("no subject"));
@@ -116,7 +123,8 @@ fn proofs(rt: HostRuntime) -> Result<(), Fail> {
 fn a_session_keeps_its_replies(rt: HostRuntime) -> Result<(), Fail> {
     let alloc = rt.alloc();
     let p = presentation(alloc, "<a | a^2>")?;
-    let list = list(alloc, &p)?;
+    let entries = list(alloc, &p)?;
+    let list = Items::of(&entries, None);
     let mut questions = Vec::new(alloc);
     questions.push(question(alloc, &p, "trivial a^2")?)?;
     let mut session = Session::open(alloc, 3, questions, 3)?;

@@ -11,3 +11,4 @@ pub mod TextLaws
 pub mod ReadAgain
 pub mod QuestionBack
 pub mod ScheduleLaws
+pub mod ShortImages

@@ -1,6 +1,6 @@
 //! Images that are too long.
 
-ghost use Rattle.std.specs.Prelude.{◌≡◌, ◌<◌, length, position, nat_lt, IfSome};
+ghost use Rattle.std.specs.Prelude.{◌≡◌, ◌<◌, ◌↔◌, length, position, nat_lt, None, IfSome, IsTrue};
 ghost use Rattle.std.specs.List.{AllByRecursion};
 ghost use Rattle.free_words.specs.declared.TheConstants.{COMPOSED};
 ghost use Rattle.free_words.specs.Words.{IsOver, word_image};
@@ -47,4 +47,13 @@ pub fn first_long_image(q: &Question) -> Option<u32>
 {
     let place = first_long(q)?;
     Some(place as u32 + 1)
+}
+
+/// Whether the images of a source's relators are within the limit on composed words.
+pub fn has_images(q: &Question) -> bool
+    requires { IsFormed q.now }
+    ensures is { IsTrue result ↔ HasImages q.now }
+    ensures first { IsTrue result ↔ (first_long_image q.now ≡ None) }
+{
+    first_long_image(q).is_none()
 }

@@ -10,6 +10,7 @@ mod line;
 mod one_question;
 mod question;
 mod reading;
+mod same;
 mod schedule;
 mod session;
 #[cfg(test)]
@@ -18,7 +19,7 @@ mod words;
 mod writing;
 
 pub use fault::SessionFault;
-pub use images::first_long_image;
+pub use images::{first_long_image, has_images};
 pub use one_question::read_question;
 pub use question::{Event, Question};
 pub use schedule::read_schedule;

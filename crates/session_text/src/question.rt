@@ -1,5 +1,8 @@
 //! What is asked of a presentation, and events of a schedule.
 
+ghost use Rattle.std.specs.List.{AllByRecursion};
+ghost use Rattle.session_text.specs.Questions.{HasSource};
+
 use crate::words::Words;
 use free_words::Word;
 use presentation::Presentation;
@@ -16,6 +19,26 @@ pub enum Question {
     /// Whether the map of the source's generators to the images, one for each, extends to a homomorphism: whether each
     /// relator's image is trivial. The source has no modulus.
     Hom { source: Presentation, images: Words },
+}
+
+impl Question {
+    /// What holds of the source of a map. The call does nothing.
+    pub fn known(&self)
+        ensures { HasSource self.now }
+    {
+        if let Question::Hom { source, .. } = self {
+            source.known();
+        }
+    }
+
+    /// What holds of the source of each map. The call does nothing: where it is compiled no loop is left of it.
+    pub fn all_known(questions: &[Question])
+        ensures { AllByRecursion HasSource questions.now }
+    {
+        for question in questions {
+            question.known();
+        }
+    }
 }
 
 /// One turn of a worker or of a session, each numbered from 1.

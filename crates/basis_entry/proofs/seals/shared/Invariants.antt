@@ -1,11 +1,6 @@
 use Rattle.std.proofs.Common.{◌≡◌, map, take}
-use Rattle.std.specs.List.{AllByRecursion}
 use Rattle.std.specs.Arc.{arc_value}
-use Rattle.basis_entry.specs.Entries.{IsBasisEntry}
 use Rattle.basis_entry.proofs.seals.shared.Given as goal
 
 abbrev pub invariant-loop-entry : goal.invariant-loop-entry
-invariant-loop-entry l = record {
-  is : map arc_value l.made.items ≡ map arc_value (take l.entry-index l.entries);
-  entries : AllByRecursion IsBasisEntry (map arc_value l.made.items);
-}
+invariant-loop-entry l = map arc_value l.made.items ≡ map arc_value (take l.entry-index l.entries)

@@ -30,8 +30,8 @@ sum-requires-clause-value c =
     let same : c.of_falling-vector.result ≡ v = search rules in
     let is : c.of.result ≡ record { q = pos 1; t = one; by = c.args.at } ∷ [] = search rules in
     let terms : AllByRecursion IsTerm v = search rules in
-    subst (λ (w : List Term). (x : Place) → coefficient_at w x ≡ steps_at (vectors_of c.args.list.now) c.of.result x) (sym same)
-    (once_is (vectors_of c.args.list.now) c.args.at v c.of.result c.vector.ensures.is is terms)
+    subst (λ (w : List Term). (x : Place) → coefficient_at w x ≡ steps_at (vectors_of c.args.list.now.entries) c.of.result x) (sym same)
+    (once_is (vectors_of c.args.list.now.entries) c.args.at v c.of.result c.vector.ensures.is is terms)
 
 pub sum-requires-clause-over : goal.sum-requires-clause-over
 sum-requires-clause-over c =

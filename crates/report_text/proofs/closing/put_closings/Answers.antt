@@ -8,7 +8,7 @@ use Rattle.report_text.proofs.closing.put_closings.Goals as goal
 
 pub put_session-requires-clause-replied : goal.put_session-requires-clause-replied
 put_session-requires-clause-replied g c =
-    at_place (IsReplied c.args.log.now.p.now (g.L.Front.entries c.args.log.now.list.now) (g.L.Front.seal c.args.log.now.list.now)) c.args.sessions.now
+    at_place (IsReplied c.args.log.now.pres c.args.log.now.entries c.args.log.now.seal) c.args.sessions.now
     c.loop-session.session-index c.session-item.result c.requires.replied
     (got c.args.sessions.now c.loop-session.session-index c.session-item.result c.loop-session-test.true c.session-item.is)
 
@@ -16,7 +16,7 @@ pub returns-in_err-put_session-clause-text : goal.returns-in_err-put_session-cla
 returns-in_err-put_session-clause-text g c = λ ts are.
     let p = err_from_is_err_and c.from_residual.result c.from_residual.ensures.1 in
     let read = got c.args.sessions.now c.loop-session.session-index c.session-item.result c.loop-session-test.true c.session-item.is in
-    rw p.1 (closings_stop c.args.log.now.p.now (g.L.Front.entries c.args.log.now.list.now) (g.L.Front.seal c.args.log.now.list.now) c.args.sessions.now ts are
+    rw p.1 (closings_stop c.args.log.now.pres c.args.log.now.entries c.args.log.now.seal c.args.sessions.now ts are
     c.loop-session.session-index c.session-item.result read c.loop-session-test.true (g.K.Sink.taken c.args.out.now) (g.K.Sink.taken c.loop-session.out)
     (g.K.Sink.taken c.put_session.new.out)
     (c.loop-session.invariant.text ts are) c.in_err-put_session.ensures.text)
@@ -25,11 +25,11 @@ pub loop-session-preserved : goal.loop-session-preserved
 loop-session-preserved g c =
     let read = got c.args.sessions.now c.loop-session.session-index c.session-item.result c.loop-session-test.true c.session-item.is in
     record {
-      text = λ ts are. closings_go_on c.args.log.now.p.now (g.L.Front.entries c.args.log.now.list.now) (g.L.Front.seal c.args.log.now.list.now)
+      text = λ ts are. closings_go_on c.args.log.now.pres c.args.log.now.entries c.args.log.now.seal
           c.args.sessions.now ts are c.loop-session.session-index c.session-item.result read c.loop-session-test.true (g.K.Sink.taken c.args.out.now)
           (g.K.Sink.taken c.loop-session.out) (g.K.Sink.taken c.put_session.new.out)
           (c.loop-session.invariant.text ts are) c.in_ok-put_session.ensures.text;
-      told = all_more (HasClosings c.args.log.now.p.now (g.L.Front.entries c.args.log.now.list.now) (g.L.Front.seal c.args.log.now.list.now))
+      told = all_more (HasClosings c.args.log.now.pres c.args.log.now.entries c.args.log.now.seal)
           c.args.sessions.now c.loop-session.session-index c.session-item.result c.loop-session-test.true c.session-item.is c.loop-session.invariant.told
           c.in_ok-put_session.ensures.told;
       later = omega (arith, c.loop-session.invariant.later, c.in_ok-put_session.ensures.counts);
@@ -37,9 +37,9 @@ loop-session-preserved g c =
 
 pub returns-clause-text : goal.returns-clause-text
 returns-clause-text g c = λ ts are.
-    closings_end c.args.log.now.p.now (g.L.Front.entries c.args.log.now.list.now) (g.L.Front.seal c.args.log.now.list.now) c.args.sessions.now ts are
+    closings_end c.args.log.now.pres c.args.log.now.entries c.args.log.now.seal c.args.sessions.now ts are
     c.loop-session.session-index (search rules) (g.K.Sink.taken c.args.out.now) (g.K.Sink.taken c.loop-session.out) (c.loop-session.invariant.text ts are)
 
 pub returns-clause-told : goal.returns-clause-told
-returns-clause-told g c = all_taken (HasClosings c.args.log.now.p.now (g.L.Front.entries c.args.log.now.list.now) (g.L.Front.seal c.args.log.now.list.now))
+returns-clause-told g c = all_taken (HasClosings c.args.log.now.pres c.args.log.now.entries c.args.log.now.seal)
     c.args.sessions.now c.loop-session.session-index (search rules) c.loop-session.invariant.told

@@ -9,9 +9,9 @@ use Rattle.report_text.proofs.closing.put_closings.Given as goal
 
 abbrev pub invariant-loop-session : goal.invariant-loop-session
 invariant-loop-session g l = record {
-  text : (ts : List SessionAnswers) → AreAnswered l.log.p.now (g.L.Front.entries l.log.list.now) (g.L.Front.seal l.log.list.now) l.sessions ts
-      → Goes (g.K.Sink.taken l.fn.out) (lines_text l.log.p.now (closing_of ts)) (lines_text l.log.p.now (closing_of (drop l.session-index ts)))
+  text : (ts : List SessionAnswers) → AreAnswered l.log.pres l.log.entries l.log.seal l.sessions ts
+      → Goes (g.K.Sink.taken l.fn.out) (lines_text l.log.pres (closing_of ts)) (lines_text l.log.pres (closing_of (drop l.session-index ts)))
       (g.K.Sink.taken l.out);
-  told : AllByRecursion (HasClosings l.log.p.now (g.L.Front.entries l.log.list.now) (g.L.Front.seal l.log.list.now)) (take l.session-index l.sessions);
+  told : AllByRecursion (HasClosings l.log.pres l.log.entries l.log.seal) (take l.session-index l.sessions);
   later : g.K.Sink.faults l.fn.out ≤ g.K.Sink.faults l.out;
 }

@@ -8,7 +8,7 @@ pub returns-in_err-put_if_open-clause-text : goal.returns-in_err-put_if_open-cla
 returns-in_err-put_if_open-clause-text g c = λ t are.
     let p = err_from_is_err_and c.from_residual.result c.from_residual.ensures.1 in
     let lt : c.loop-place.place < length c.args.session.now.questions = search rules in
-    rw p.1 (closing_stops c.args.log.now.p.now (g.L.Front.entries c.args.log.now.list.now) (g.L.Front.seal c.args.log.now.list.now) c.args.session.now
+    rw p.1 (closing_stops c.args.log.now.pres c.args.log.now.entries c.args.log.now.seal c.args.session.now
     c.requires.replied t are c.loop-place.place lt (g.K.Sink.taken c.args.out.now) (g.K.Sink.taken c.loop-place.out) (c.loop-place.invariant.text t are)
     (g.K.Sink.taken c.put_if_open.new.out) c.in_err-put_if_open.ensures.text)
 
@@ -16,11 +16,11 @@ pub loop-place-preserved : goal.loop-place-preserved
 loop-place-preserved g c =
     let lt : c.loop-place.place < length c.args.session.now.questions = search rules in
     record {
-      text = λ t are. closing_goes_on c.args.log.now.p.now (g.L.Front.entries c.args.log.now.list.now) (g.L.Front.seal c.args.log.now.list.now)
+      text = λ t are. closing_goes_on c.args.log.now.pres c.args.log.now.entries c.args.log.now.seal
           c.args.session.now c.requires.replied t are c.loop-place.place lt (g.K.Sink.taken c.args.out.now) (g.K.Sink.taken c.loop-place.out)
           (c.loop-place.invariant.text t are)
           (g.K.Sink.taken c.put_if_open.new.out) c.in_ok-put_if_open.ensures.text;
-      told = told_more c.args.log.now.p.now (g.L.Front.entries c.args.log.now.list.now) (g.L.Front.seal c.args.log.now.list.now) c.args.session.now
+      told = told_more c.args.log.now.pres c.args.log.now.entries c.args.log.now.seal c.args.session.now
           c.loop-place.place c.loop-place.invariant.told c.in_ok-put_if_open.ensures.told;
       later = omega (arith, c.loop-place.invariant.later, c.in_ok-put_if_open.ensures.counts);
     }
@@ -28,7 +28,7 @@ loop-place-preserved g c =
 pub returns-clause-text : goal.returns-clause-text
 returns-clause-text g c = λ t are.
     let le : length c.args.session.now.questions ≤ c.loop-place.place = search rules in
-    closing_ends c.args.log.now.p.now (g.L.Front.entries c.args.log.now.list.now) (g.L.Front.seal c.args.log.now.list.now) c.args.session.now c.requires.replied
+    closing_ends c.args.log.now.pres c.args.log.now.entries c.args.log.now.seal c.args.session.now c.requires.replied
     t are c.loop-place.place le (g.K.Sink.taken c.args.out.now) (g.K.Sink.taken c.loop-place.out) (c.loop-place.invariant.text t are)
 
 pub returns-clause-told : goal.returns-clause-told

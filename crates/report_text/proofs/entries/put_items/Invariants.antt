@@ -8,8 +8,8 @@ use Rattle.report_text.proofs.entries.put_items.Given as goal
 
 abbrev pub invariant-loop-number : goal.invariant-loop-number
 invariant-loop-number g l = record {
-  text : (ts : List SessionAnswers) → AreAnswered l.log.p.now (g.L.Front.entries l.log.list.now) (g.L.Front.seal l.log.list.now) l.sessions ts
-      → Goes (g.K.Sink.taken l.fn.out) (lines_text l.log.p.now (told_from ts 0 (item_lines (g.L.Front.entries l.log.list.now) (g.L.Front.seal l.log.list.now))))
-      (lines_text l.log.p.now (told_after ts (g.L.Front.entries l.log.list.now) (g.L.Front.seal l.log.list.now) l.number)) (g.K.Sink.taken l.out);
+  text : (ts : List SessionAnswers) → AreAnswered l.log.pres l.log.entries l.log.seal l.sessions ts
+      → Goes (g.K.Sink.taken l.fn.out) (lines_text l.log.pres (told_from ts 0 (item_lines l.log.entries l.log.seal)))
+      (lines_text l.log.pres (told_after ts l.log.entries l.log.seal l.number)) (g.K.Sink.taken l.out);
   later : g.K.Sink.faults l.fn.out ≤ g.K.Sink.faults l.out;
 }

@@ -7,7 +7,7 @@ use Rattle.report_text.proofs.live.put_live_at.Goals as goal
 
 pub put_session_at-requires-clause-replied : goal.put_session_at-requires-clause-replied
 put_session_at-requires-clause-replied g c =
-    at_place (IsReplied c.args.log.now.p.now (g.L.Front.entries c.args.log.now.list.now) (g.L.Front.seal c.args.log.now.list.now)) c.args.sessions.now
+    at_place (IsReplied c.args.log.now.pres c.args.log.now.entries c.args.log.now.seal) c.args.sessions.now
     c.loop-session.session-index c.session-item.result c.requires.replied
     (got c.args.sessions.now c.loop-session.session-index c.session-item.result c.loop-session-test.true c.session-item.is)
 
@@ -15,7 +15,7 @@ pub returns-in_err-put_session_at-clause-text : goal.returns-in_err-put_session_
 returns-in_err-put_session_at-clause-text g c = λ ts are.
     let p = err_from_is_err_and c.from_residual.result c.from_residual.ensures.1 in
     let read = got c.args.sessions.now c.loop-session.session-index c.session-item.result c.loop-session-test.true c.session-item.is in
-    rw p.1 (sessions_stop c.args.log.now.p.now (g.L.Front.entries c.args.log.now.list.now) (g.L.Front.seal c.args.log.now.list.now) c.args.sessions.now ts are
+    rw p.1 (sessions_stop c.args.log.now.pres c.args.log.now.entries c.args.log.now.seal c.args.sessions.now ts are
     c.loop-session.session-index c.session-item.result read c.loop-session-test.true c.args.front (g.K.Sink.taken c.args.out.now)
     (g.K.Sink.taken c.loop-session.out) (g.K.Sink.taken c.put_session_at.new.out)
     (c.loop-session.invariant.text ts are) c.in_err-put_session_at.ensures.text)
@@ -24,7 +24,7 @@ pub loop-session-preserved : goal.loop-session-preserved
 loop-session-preserved g c =
     let read = got c.args.sessions.now c.loop-session.session-index c.session-item.result c.loop-session-test.true c.session-item.is in
     record {
-      text = λ ts are. sessions_go_on c.args.log.now.p.now (g.L.Front.entries c.args.log.now.list.now) (g.L.Front.seal c.args.log.now.list.now)
+      text = λ ts are. sessions_go_on c.args.log.now.pres c.args.log.now.entries c.args.log.now.seal
           c.args.sessions.now ts are c.loop-session.session-index c.session-item.result read c.loop-session-test.true c.args.front
           (g.K.Sink.taken c.args.out.now)
           (g.K.Sink.taken c.loop-session.out) (g.K.Sink.taken c.put_session_at.new.out)
@@ -34,6 +34,6 @@ loop-session-preserved g c =
 
 pub returns-clause-text : goal.returns-clause-text
 returns-clause-text g c = λ ts are.
-    sessions_end c.args.log.now.p.now (g.L.Front.entries c.args.log.now.list.now) (g.L.Front.seal c.args.log.now.list.now) c.args.sessions.now ts are
+    sessions_end c.args.log.now.pres c.args.log.now.entries c.args.log.now.seal c.args.sessions.now ts are
     c.loop-session.session-index (search rules) (g.K.Sink.taken c.args.out.now) (g.K.Sink.taken c.loop-session.out) c.args.front
     (c.loop-session.invariant.text ts are)

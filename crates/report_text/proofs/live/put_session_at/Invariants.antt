@@ -12,9 +12,9 @@ invariant-loop-kept g l = record {
   first : 1 ≤ l.number;
   within : l.number ≤ length l.session.kept + 1;
   behind : (i : ℕ) (k : Kept) → l.number ≤ i + 1 → slice_get l.session.kept i ≡ Some k → l.front ≤ k.front;
-  text : (t : SessionAnswers) → IsSessionAnswered l.log.p.now (g.L.Front.entries l.log.list.now) (g.L.Front.seal l.log.list.now) l.session t
-      → Goes (g.K.Sink.taken l.fn.out) (lines_text l.log.p.now (live_from l.front l.session.number 1 t.answers))
-      (lines_text l.log.p.now (live_from l.front l.session.number l.number (drop (l.number - 1) t.answers))) (g.K.Sink.taken l.out);
+  text : (t : SessionAnswers) → IsSessionAnswered l.log.pres l.log.entries l.log.seal l.session t
+      → Goes (g.K.Sink.taken l.fn.out) (lines_text l.log.pres (live_from l.front l.session.number 1 t.answers))
+      (lines_text l.log.pres (live_from l.front l.session.number l.number (drop (l.number - 1) t.answers))) (g.K.Sink.taken l.out);
   later : g.K.Sink.faults l.fn.out ≤ g.K.Sink.faults l.out;
 }
 

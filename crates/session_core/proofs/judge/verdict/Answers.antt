@@ -22,8 +22,8 @@ returns-clause-trivial g c =
     c.in_ok-shown.ensures.is in
     let is : IsVerdict c.args.p.now b (g.F.Front.seal c.args.list.now) c.args.q.now c.on_shown.result =
     c.on_shown.ensures c.args.p.now b (g.F.Front.seal c.args.list.now) c.is_sealed_for-sealed.ensures shown in
-    trivial_verdict c.args.p.now (g.F.Front.entries c.args.list.now) b (g.F.Front.seal c.args.list.now) c.args.q.now c.on_shown.result c.known.ensures
-    c.front.ensures.entries c.requires.entries c.requires.question
+    trivial_verdict c.args.p.now (g.F.Front.entries c.args.list.now) b (g.F.Front.seal c.args.list.now) c.args.q.now c.on_shown.result c.known-2.ensures
+    c.known.ensures c.requires.entries c.requires.question
     (g.met.F.Front.vectors_are c.args.list.now) is
 
 pub returns-clause-extends : goal.returns-clause-extends
@@ -34,6 +34,6 @@ returns-clause-extends g c =
     c.in_ok-shown.ensures.is in
     let is : IsVerdict c.args.p.now b (g.F.Front.seal c.args.list.now) c.args.q.now c.on_shown.result =
     c.on_shown.ensures c.args.p.now b (g.F.Front.seal c.args.list.now) c.is_sealed_for-sealed.ensures shown in
-    extends_verdict c.args.p.now (g.F.Front.entries c.args.list.now) b (g.F.Front.seal c.args.list.now) c.args.q.now c.on_shown.result c.known.ensures
-    c.front.ensures.entries c.requires.entries c.requires.question
+    extends_verdict c.args.p.now (g.F.Front.entries c.args.list.now) b (g.F.Front.seal c.args.list.now) c.args.q.now c.on_shown.result c.known-2.ensures
+    c.known.ensures c.requires.entries c.requires.question
     (g.met.F.Front.vectors_are c.args.list.now) is
