@@ -40,8 +40,8 @@ impl<'a> Log<'a> {
         requires { IsLog p.now items.entries }
         ensures { IfOk result (λ log. log ≡ record {
           pres = p.entry.now;
-          entries = items.entries;
-          seal = items.seal;
+          entries = items.entry.entries;
+          seal = items.entry.seal;
         }) }
     {
         let index = Index::of_list(alloc, &items)?;
