@@ -28,7 +28,7 @@ put_closing-requires-clause-question g c =
     let h : CanBeAsked c.args.log.now.pres c.question-question.result.now =
     at_place (CanBeAsked c.args.log.now.pres) c.args.session.now.questions (c.args.number - 1) c.question-question.result.now c.requires.asked
     c.question-question.ensures in
-    written_is_over c.args.log.now.pres c.question-question.result.now h.0
+    rw c.pres-p.ensures.is (written_is_over c.args.log.now.pres c.question-question.result.now h.0)
 
 pub put_closing-requires-clause-verdict : goal.put_closing-requires-clause-verdict
 put_closing-requires-clause-verdict g c =
@@ -50,7 +50,7 @@ returns-in_err-put_with_end-clause-text g c = λ q r read h.
     let numbers : c.new-at.result ≡ record { session = c.args.session.now.number; number = c.args.number } = search rules in
     let text : c.put_closing.new.out.items ≡ line_text c.args.log.now.pres (lines.Close c.args.session.now.number c.args.number c.question-question.result.now
     c.in_ok-verdict.verdict) =
-    c.in_ok-put_closing.ensures
+    (rw c.pres-p.ensures.is at c.in_ok-put_closing.ensures)
     ∙ ap (λ (t : List ℕ). t ++ line_text c.args.log.now.pres (lines.Close c.new-at.result.session c.new-at.result.number c.question-question.result.now
     c.in_ok-verdict.verdict)) c.new-line.ensures.items
     ∙ ap (λ (at : QuestionNumber). line_text c.args.log.now.pres (lines.Close at.session at.number c.question-question.result.now
@@ -79,7 +79,7 @@ returns-clause-text g c = λ q r read h.
     let numbers : c.new-at.result ≡ record { session = c.args.session.now.number; number = c.args.number } = search rules in
     let text : c.put_closing.new.out.items ≡ line_text c.args.log.now.pres (lines.Close c.args.session.now.number c.args.number c.question-question.result.now
     c.in_ok-verdict.verdict) =
-    c.in_ok-put_closing.ensures
+    (rw c.pres-p.ensures.is at c.in_ok-put_closing.ensures)
     ∙ ap (λ (t : List ℕ). t ++ line_text c.args.log.now.pres (lines.Close c.new-at.result.session c.new-at.result.number c.question-question.result.now
     c.in_ok-verdict.verdict)) c.new-line.ensures.items
     ∙ ap (λ (at : QuestionNumber). line_text c.args.log.now.pres (lines.Close at.session at.number c.question-question.result.now

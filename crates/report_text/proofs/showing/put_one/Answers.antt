@@ -16,7 +16,7 @@ returns-clause-text g c = λ steps are.
     let w : List Letter = subject_at c.args.q.now c.args.number in
     let same : c.in_ok-steps.steps ≡ steps = one_proof b w c.in_ok-steps.steps steps c.in_ok-steps.ensures.is are in
     let text : c.put_proof.new.out.items ≡ line_text c.args.log.now.pres (lines.Proof c.args.number steps) =
-    c.in_ok-put_proof.ensures
+    (rw c.pres.ensures.is at c.in_ok-put_proof.ensures)
     ∙ ap (λ (t : List ℕ). t ++ line_text c.args.log.now.pres (lines.Proof c.args.number c.in_ok-steps.steps)) c.new-line.ensures.items
     ∙ ap (λ (s : List Step). line_text c.args.log.now.pres (lines.Proof c.args.number s)) same in
     subst (λ (t : List ℕ). Puts (g.K.Sink.taken c.args.out.now) (t ++ 10 ∷ []) c.put_with_end.result (g.K.Sink.taken c.put_with_end.new.out)) text
