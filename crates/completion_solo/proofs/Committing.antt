@@ -15,8 +15,8 @@ use Rattle.task_table.specs.Tables.{Table, IsTable, state_of, put}
 use Rattle.task_table.specs.Rows.{grown, first_state, settled_of}
 use Rattle.reducer_index.specs.Leads.{AreLeads}
 use Rattle.basis_entry.specs.Entries.{BasisEntry, vectors_of}
-use Rattle.pair_book.specs.declared.outcome.Close.{Close}
-use Rattle.pair_book.specs.declared.outcome.Close.TheVariants.{Covered, Zero, Rest}
+use Rattle.pair_work.specs.declared.outcome.Close.{Close}
+use Rattle.pair_work.specs.declared.outcome.Close.TheVariants.{Covered, Zero, Rest}
 use Rattle.std.specs.Arc.{arc_value}
 use Rattle.pair_book.specs.declared.faults.Committed.{Committed}
 use Rattle.pair_book.specs.declared.faults.Committed.TheVariants as done
@@ -25,8 +25,8 @@ use Rattle.pair_book.specs.Settled.{settled_row, settled_by}
 use Rattle.pair_book.specs.Chaining.{AreChained, ClosesChained}
 use Rattle.pair_book.specs.Commits.{Commits, Fits, OnRest, IfRest, IsFresh, closed_by, appended_by, state_after}
 use Rattle.pair_book.specs.Logs.{NoneDivides}
-use Rattle.pair_book.specs.Outcomes.{Worked}
-use Rattle.pair_book.specs.Works.{ClosesAs}
+use Rattle.pair_work.specs.Outcomes.{Worked}
+use Rattle.pair_work.specs.Works.{ClosesAs}
 use Rattle.pair_book.proofs.Growing.{vectors_push}
 use Rattle.pair_book.proofs.Keeping.{task_in, task_out, taken_unclosed, table_put}
 use Rattle.pair_book.proofs.Starting.{table_grown, state_old, state_new, older, lead_end}

@@ -8,7 +8,7 @@ use Rattle.task_table.specs.declared.states.TaskState.TheVariants.{Never}
 use Rattle.task_table.specs.Tasks.{IsTask, number_of, is_closed_later}
 use Rattle.task_table.specs.Tables.{Table, IsTable, state_at, state_of}
 use Rattle.pair_book.specs.Books.{closed_once, closed_later}
-use Rattle.pair_book.proofs.Reading.{take_whole}
+use Rattle.pair_work.proofs.Reading.{take_whole}
 use Rattle.completion_solo.specs.Ends.{AreApart}
 use Rattle.completion_solo.proofs.Numbers.{numbered, either}
 

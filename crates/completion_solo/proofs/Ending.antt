@@ -6,7 +6,6 @@ use Rattle.std.specs.Arc.{arc_value}
 use Rattle.presentation.specs.Presented.{Presented}
 use Rattle.outcomes.specs.declared.ends.End.TheVariants.{Sealed, Stopped, Full, Spent}
 use Rattle.outcomes.specs.declared.ends.Measure.{Measure}
-use Rattle.outcomes.specs.declared.ends.Measure.TheVariants.{Entries, Terms, Steps}
 use Rattle.outcomes.specs.declared.tasks.Task.{Task}
 use Rattle.module_vec.specs.declared.faults.Stop.{Stop}
 use Rattle.module_vec.specs.declared.places.Term.{Term}
@@ -23,19 +22,19 @@ use Rattle.task_table.proofs.Hinting.{state_reopened, unclosed_reopened}
 use Rattle.basis_entry.specs.Entries.{BasisEntry, vectors_of}
 use Rattle.basis_entry.specs.Seals.{Seal}
 use Rattle.basis_entry.proofs.Vectors.{are_entries}
-use Rattle.pair_book.specs.declared.outcome.Close.{Close}
-use Rattle.pair_book.specs.declared.outcome.Close.TheVariants.{Covered, Zero, Rest}
+use Rattle.pair_work.specs.declared.outcome.Close.{Close}
+use Rattle.pair_work.specs.declared.outcome.Close.TheVariants.{Covered, Zero, Rest}
 use Rattle.pair_book.specs.declared.faults.CommitFault.{CommitFault}
 use Rattle.pair_book.specs.declared.faults.CommitFault.TheVariants as faults
 use Rattle.pair_book.specs.Books.{Held, IsBook, IsSealed, IsSealedBy, GivesBack, with_state}
 use Rattle.pair_book.specs.Commits.{Refuses, OnRest, Passes, IsStranger, IsFresh, IsLeadDivisor}
 use Rattle.pair_book.specs.Logs.{NoneDivides}
-use Rattle.pair_book.specs.Outcomes.{Worked, AllThere}
-use Rattle.pair_book.specs.Works.{Works, ClosesAs, LeavesRest}
+use Rattle.pair_work.specs.Outcomes.{Worked, AllThere}
+use Rattle.pair_work.specs.Works.{Works, ClosesAs, LeavesRest}
 use Rattle.pair_book.proofs.Keeping.{task_in, task_out, book_reopened}
 use Rattle.pair_book.proofs.Strength.{strong}
 use Rattle.reducer_index.specs.Leads.{AreLeads}
-use Rattle.completion_solo.specs.Ends.{IsFull, IsSpent, IsTaskOf, IsTrulyClosed, AreClosedBefore, PassesFirst, StopsAt}
+use Rattle.completion_solo.specs.Ends.{IsFull, IsSpent, IsTaskOf, IsTrulyClosed, AreClosedBefore, StopsAt}
 use Rattle.completion_solo.specs.Finishing.{NoneTaken, IsWithinBudget, IsFirstUnclosed, HasNoRoom, EndsWith}
 use Rattle.completion_solo.specs.Rounds.{HardOnesStop, IsInHand, HasNoRoomFor, IsFullAt, LeadsOn}
 use Rattle.completion_solo.proofs.Counting.{ClosedOnes, closed_ones, all_on}
@@ -222,11 +221,6 @@ module _ (h : Held) (w : Worked) (b : IsBook h) (hand : IsInHand h w.task) where
   refused (faults.Stale front now) (_, whole, _, closes, _) (_, _, on) = stale front now whole closes on
   refused (faults.Full m c) (_, _, _, closes, _) on = no_room m c closes on
 
-passes_first : (h : Held) (e : BasisEntry) (m : Measure) (c : ℕ) → Passes h e m c → PassesFirst h.limits h.entries e m c
-passes_first h e Entries c p = p
-passes_first h e Terms c p = p
-passes_first h e Steps c p = p
-
 full_here : (h : Held) (t : Task) (m : Measure) (c : ℕ) → IsBook h → IsInHand h t → HasNoRoomFor h t m c
     → HasNoRoom (with_state h t Open) m c × IsFull h.source h.limits h.entries m c
 full_here h t m c b hand n = (
@@ -237,9 +231,9 @@ full_here h t m c b hand n = (
     is_task = hand.pair;
     entry = n.entry;
     rest = n.rest;
-    passes = passes_first h n.entry m c n.passes;
+    passes = n.passes;
   },
-  record { task = t; is_task = hand.pair; entry = n.entry; rest = n.rest; passes = passes_first h n.entry m c n.passes },
+  record { task = t; is_task = hand.pair; entry = n.entry; rest = n.rest; passes = n.passes },
 )
 
 pub ends_full : (h new : Held) (t : Task) (m : Measure) (c : ℕ) → IsBook h → IsInHand h t → HasNoRoomFor h t m c → GivesBack h t false new

@@ -28,11 +28,11 @@ use Rattle.strong_pairs.proofs.Exactness.{at_end}
 use Rattle.basis_entry.specs.Base.{has_negative_lead}
 use Rattle.basis_entry.proofs.Vectors.{positive_entry, turned_entry}
 use Rattle.basis_entry.specs.Entries.{BasisEntry}
-use Rattle.pair_book.specs.declared.outcome.Close.{Close}
-use Rattle.pair_book.specs.declared.outcome.Close.TheVariants.{Covered, Zero, Rest}
+use Rattle.pair_work.specs.declared.outcome.Close.{Close}
+use Rattle.pair_work.specs.declared.outcome.Close.TheVariants.{Covered, Zero, Rest}
 use Rattle.pair_book.specs.Logs.{DividesLead}
-use Rattle.pair_book.specs.Works.{Reduces, LeavesRest, ClosesAs, Halts, Stops}
-use Rattle.pair_book.proofs.Turning.{at_turned}
+use Rattle.pair_work.specs.Works.{Reduces, LeavesRest, ClosesAs, Halts, Stops}
+use Rattle.pair_work.proofs.Turning.{at_turned}
 
 -- ---- a rest and a limit exclude one another
 

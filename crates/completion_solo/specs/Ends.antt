@@ -1,11 +1,10 @@
 -- How a completion ends: what holds of its presentation, its limits and the entries of its log, whatever the book is.
 use Rattle.std.specs.List.{AllByRecursion}
-use Rattle.std.specs.Prelude.{◌≡◌, ◌≢◌, ◌⊎◌, ◌+◌, ◌<◌, ◌≤◌, ℕ, List, [], ◌∷◌, length, Some}
+use Rattle.std.specs.Prelude.{◌≡◌, ◌≢◌, ◌⊎◌, ◌+◌, ◌≤◌, ℕ, List, [], ◌∷◌, length, Some}
 use Rattle.presentation.specs.Presented.{Presented}
 use Rattle.outcomes.specs.declared.ends.End.{End}
 use Rattle.outcomes.specs.declared.ends.End.TheVariants.{Sealed, Stopped, Full, Spent}
 use Rattle.outcomes.specs.declared.ends.Measure.{Measure}
-use Rattle.outcomes.specs.declared.ends.Measure.TheVariants.{Entries, Terms, Steps}
 use Rattle.outcomes.specs.declared.tasks.Task.{Task}
 use Rattle.module_vec.specs.declared.faults.Stop.{Stop}
 use Rattle.module_vec.specs.declared.places.Term.{Term}
@@ -17,9 +16,8 @@ use Rattle.task_table.specs.Orders.{Before}
 use Rattle.basis_entry.specs.Entries.{BasisEntry, vectors_of}
 use Rattle.basis_entry.specs.Seals.{IsStrongBasis}
 use Rattle.pair_book.specs.declared.limits.Limits.{Limits}
-use Rattle.pair_book.specs.LogEntries.{terms_of, steps_of}
-use Rattle.pair_book.specs.Outcomes.{recipe_steps}
-use Rattle.pair_book.specs.Works.{Stops, LeavesRest}
+use Rattle.pair_book.specs.Measures.{PassesFirst}
+use Rattle.pair_work.specs.Works.{Stops, LeavesRest}
 
 -- t is a task of the entries: its two entries have leads in one component
 abbrev pub IsTaskOf : List BasisEntry → Task → Type 0
@@ -48,14 +46,6 @@ AreClosedBefore order es t = (u : Task) → IsTaskOf es u → Before order (vect
 abbrev pub AreApart : List Task → Type 0
 AreApart [] = Unit {0}
 AreApart (t ∷ ts) = AllByRecursion (λ u. u ≢ t) ts × AreApart ts
-
--- with the entry e this measure is the first of entries, terms and recipe steps to pass its limit, and it reaches c
-abbrev pub PassesFirst : Limits → List BasisEntry → BasisEntry → Measure → ℕ → Type 0
-PassesFirst limits es e Entries c = (c ≡ length es + 1) × (limits.entries < c)
-PassesFirst limits es e Terms c = (length es + 1 ≤ limits.entries) × (c ≡ terms_of es + length e.vector)
-    × (limits.terms < c)
-PassesFirst limits es e Steps c = (length es + 1 ≤ limits.entries) × (terms_of es + length e.vector ≤ limits.terms)
-    × (c ≡ steps_of es + recipe_steps e.recipe) × (limits.steps < c)
 
 -- t stops, each task before it is truly closed, and each other one is truly closed or stops
 pub record IsStopped (order : Order) (es : List BasisEntry) (t : Task) (stop : Stop) : Type 0 where

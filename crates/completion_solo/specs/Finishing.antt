@@ -11,7 +11,8 @@ use Rattle.task_table.specs.Tasks.{IsTask, is_taken, is_unclosed}
 use Rattle.task_table.specs.Tables.{NoneIs, IsLeast, state_of}
 use Rattle.basis_entry.specs.Entries.{BasisEntry, vectors_of}
 use Rattle.pair_book.specs.Books.{Held}
-use Rattle.completion_solo.specs.Ends.{Ends, IsTaskOf, StopsAt, HasRest, PassesFirst}
+use Rattle.pair_book.specs.Measures.{PassesFirst}
+use Rattle.completion_solo.specs.Ends.{Ends, IsTaskOf, StopsAt, HasRest}
 
 -- what a completion keeps of a book: the old log begins the new one, what was closed stays closed, and commits don't
 -- fall

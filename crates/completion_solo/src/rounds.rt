@@ -5,7 +5,7 @@ ghost use Rattle.std.specs.Arc.{arc_value};
 ghost use Rattle.task_table.specs.declared.states.Wanted.TheVariants.{OpenOnes, Unclosed};
 ghost use Rattle.task_table.specs.Tables.{NoneIs};
 ghost use Rattle.pair_book.specs.Books.{IsBook};
-ghost use Rattle.pair_book.specs.Works.{Works};
+ghost use Rattle.pair_work.specs.Works.{Works};
 ghost use Rattle.completion_solo.specs.Finishing.{NoneTaken, IsWithinBudget, IsFirstUnclosed, EndsWith, Finishes};
 ghost use Rattle.completion_solo.specs.Rounds.{Rounds, IsReady, IsInHand, IsWorkDue, IsFullAt};
 
@@ -69,8 +69,7 @@ fn sealed(alloc: Global, book: &mut Book) -> Result<End, AllocError>
     requires closed { NoneIs Unclosed (book.old).tasks }
     ensures { Finishes (book.old).source book.old result book.new }
 {
-    // The proof needs what holds of the book, and the call says so.
-    let _ = book.commits();
+    book.known();
     match book.seal(alloc) {
         Ok(_) => Ok(End::Sealed),
         Err(SealFault::StillOpen { .. }) => unreachable!(),
@@ -91,8 +90,7 @@ fn work_taken(
     requires due { IsWorkDue book.old index.old task stale }
     ensures { Rounds (arc_value p.now) book.old stale result book.new index.new }
 {
-    // The proof needs what holds of the book, and the call says so.
-    let _ = book.commits();
+    book.known();
     match work(alloc, p, &Indexed::over(book, index), task) {
         Ok(outcome) => commit(book, index, outcome, stale),
         Err(WorkFault::Stop(_)) => {
@@ -117,11 +115,10 @@ fn commit(
     requires work { Works (book.old).source (book.old).entries outcome.task (Ok outcome) }
     ensures { Rounds (book.old).source book.old stale result book.new index.new }
 {
-    // The proof needs what holds of the book, and the calls say so.
-    let _ = book.commits();
+    book.known();
     let task = outcome.task();
     let committed = book.commit_known(outcome);
-    let _ = book.commits();
+    book.known();
     match committed {
         Ok(done) => match done {
             Committed::Closed => Ok(Round::GoesOn { stale }),
@@ -140,8 +137,7 @@ fn full(book: &mut Book, task: Task, fault: CommitFault) -> End
     requires full { IsFullAt book.old task fault }
     ensures { EndsWith (book.old).source book.old result book.new }
 {
-    // The proof needs what holds of the book, and the call says so.
-    let _ = book.commits();
+    book.known();
     match fault {
         CommitFault::Full { measure, count } => {
             book.give_back(task, false);
@@ -168,8 +164,7 @@ fn stopped(
     requires none_open { NoneIs OpenOnes (book.now).tasks }
     ensures { Finishes (arc_value p.now) book.now result book.now }
 {
-    // The proof needs what holds of the book, and the call says so.
-    let _ = book.commits();
+    book.known();
     match work(alloc, p, &Indexed::over(book, index), task) {
         Err(WorkFault::Stop(stop)) => Ok(End::Stopped { task, stop }),
         Err(WorkFault::NoMemory) => Err(AllocError),

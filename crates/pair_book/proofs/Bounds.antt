@@ -6,7 +6,7 @@ use Rattle.task_table.specs.declared.states.TaskState.{TaskState}
 use Rattle.task_table.specs.declared.states.TaskState.TheVariants.{Open, Taken, Hard, Closed, Never}
 use Rattle.task_table.proofs.Counting.{tasks_few}
 use Rattle.basis_entry.specs.Entries.{BasisEntry, IsBasisEntry}
-use Rattle.pair_book.specs.Outcomes.{IsShort, recipe_steps}
+use Rattle.pair_work.specs.Outcomes.{IsShort, recipe_steps}
 use Rattle.pair_book.specs.LogEntries.{terms_of, steps_of}
 use Rattle.pair_book.specs.Books.{Held, IsBook, closed_once}
 

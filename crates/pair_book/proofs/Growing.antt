@@ -21,15 +21,15 @@ use Rattle.basis_entry.specs.Seals.{Seal}
 use Rattle.basis_entry.proofs.Vectors.{are_entries}
 use Rattle.pair_book.specs.Logs.{IsLawful, IsNextEntry}
 use Rattle.pair_book.specs.Settled.{settled_row, settled_by}
-use Rattle.pair_book.specs.Outcomes.{IsShort, recipe_steps}
+use Rattle.pair_work.specs.Outcomes.{IsShort, recipe_steps}
 use Rattle.pair_book.specs.Books.{Held, IsBook, IsSealedBy, closed_once}
 use Rattle.pair_book.specs.Commits.{Fits, MayCommit, appended_by, closed_by, state_after}
-use Rattle.pair_book.proofs.Reading.{get_back, get_end, take_left, take_whole, all_push}
+use Rattle.pair_work.proofs.Reading.{get_back, get_end, take_left, take_whole, all_push}
 use Rattle.pair_book.proofs.Keeping.{task_in, book_put, taken_unclosed}
 use Rattle.pair_book.proofs.Opened.{settled_closed, first_never, first_shut}
 use Rattle.pair_book.proofs.Starting.{table_grown, state_old, state_new, older, settled_old, settled_new}
 use Rattle.pair_book.proofs.Strangers.{one_there}
-use Rattle.pair_book.proofs.Transport.{same_left, pair_over, closed_grows}
+use Rattle.pair_work.proofs.Transport.{same_left, pair_over, closed_grows}
 
 -- what is lawful stays so where a lawful entry is appended
 pub lawful_grows : (p : Presented) (base : ℕ) (es : List BasisEntry) (e : BasisEntry) → IsLawful p base es → e.source ≡ p → IsBasisEntry e

@@ -29,10 +29,10 @@ use Rattle.basis_entry.proofs.Vectors.{are_entries}
 use Rattle.pair_book.specs.declared.limits.Limits.{Limits}
 use Rattle.pair_book.specs.Logs.{IsLawful}
 use Rattle.pair_book.specs.Settled.{divides_number, settled_by}
-use Rattle.pair_book.specs.Outcomes.{recipe_steps, IsShort}
+use Rattle.pair_work.specs.Outcomes.{recipe_steps, IsShort}
 use Rattle.pair_book.specs.LogEntries.{terms_of, steps_of}
 use Rattle.pair_book.specs.Books.{IsBook, AreNew, AreWithin}
-use Rattle.pair_book.proofs.Reading.{all_from, take_whole}
+use Rattle.pair_work.proofs.Reading.{all_from, take_whole}
 use Rattle.pair_book.proofs.Starting.{settled_at}
 
 pub lead_positive : (b : List (List Term)) → AreEntries b → (i : ℕ) → i < length b → pos 0 <ℤ (lead_at b i).k

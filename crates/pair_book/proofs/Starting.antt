@@ -16,7 +16,7 @@ use Rattle.task_table.proofs.Pushing.{row_length}
 use Rattle.basis_entry.specs.Entries.{BasisEntry, vectors_of}
 use Rattle.pair_book.specs.Settled.{settled_by, settled_row}
 use Rattle.pair_book.specs.Books.{AreNew}
-use Rattle.pair_book.proofs.Reading.{vector_of, some_at, get_left, get_end}
+use Rattle.pair_work.proofs.Reading.{vector_of, some_at, get_left, get_end}
 
 -- what is known of a task of two vectors
 abbrev pub settled_at : List (List Term) → Task → Bool

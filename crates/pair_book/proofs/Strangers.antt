@@ -3,7 +3,7 @@ use Rattle.std.proofs.Common.{ℕ, zero, suc, ◌+◌, ◌<◌, ◌≤◌, ◌�
 use Rattle.std.specs.List.{slice_get}
 use Rattle.std.proofs.lemmas.Option.{slice_get_within}
 use Rattle.basis_entry.specs.Entries.{BasisEntry}
-use Rattle.pair_book.specs.Outcomes.{UsedEntry, IsThere, AllThere, AreRising}
+use Rattle.pair_work.specs.Outcomes.{UsedEntry, IsThere, AllThere, AreRising}
 use Rattle.pair_book.specs.Commits.{IsStranger}
 use Rattle.task_table.proofs.Ordering.{three}
 

@@ -23,7 +23,7 @@ use Rattle.basis_entry.specs.Seals.{IsStrongBasis}
 use Rattle.basis_entry.proofs.Vectors.{are_entries}
 use Rattle.pair_book.specs.Logs.{IsLawful}
 use Rattle.pair_book.specs.Books.{Held, IsBook}
-use Rattle.pair_book.proofs.Reading.{vector_of, some_at}
+use Rattle.pair_work.proofs.Reading.{vector_of, some_at}
 use Rattle.pair_book.proofs.Keeping.{task_in}
 
 up_to_sign : (b : Bool) (g v : List Term) → MatchBool b (sum_of v ≡ scale (negsuc 0) (sum_of g)) (v ≡ g) → IsUpToSign g v

@@ -19,7 +19,7 @@ use Rattle.pair_book.specs.declared.faults.SealFault.TheVariants.{StillOpen, NoM
 use Rattle.pair_book.specs.declared.limits.Limits.{Limits}
 use Rattle.pair_book.specs.Logs.{IsLawful}
 use Rattle.pair_book.specs.Settled.{settled_by}
-use Rattle.pair_book.specs.Outcomes.{IsShort}
+use Rattle.pair_work.specs.Outcomes.{IsShort}
 use Rattle.pair_book.specs.LogEntries.{terms_of, steps_of}
 
 -- the presentation, the limits, the number of generator entries, the entries of the log, the tasks, the number of

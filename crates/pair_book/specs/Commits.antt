@@ -3,7 +3,6 @@ use Rattle.std.specs.Prelude.{◌≡◌, ◌≢◌, ◌⊎◌, ◌↔◌, ◌+�
 use Rattle.std.specs.Prelude.{Some, None, length, slice_get, Result, Ok, Err, cond}
 use Rattle.std.specs.Arc.{arc_value}
 use Rattle.outcomes.specs.declared.ends.Measure.{Measure}
-use Rattle.outcomes.specs.declared.ends.Measure.TheVariants.{Entries, Terms, Steps}
 use Rattle.outcomes.specs.declared.tasks.Task.{Task}
 use Rattle.strong_pairs.specs.Pairs.{lead_of, lead_at}
 use Rattle.strong_pairs.specs.Tasks.{IsClosed}
@@ -12,16 +11,17 @@ use Rattle.task_table.specs.declared.states.TaskState.TheVariants.{Open, Closed}
 use Rattle.task_table.specs.Tables.{put}
 use Rattle.task_table.specs.Rows.{grown}
 use Rattle.basis_entry.specs.Entries.{BasisEntry, vectors_of}
-use Rattle.pair_book.specs.declared.outcome.Close.{Close}
-use Rattle.pair_book.specs.declared.outcome.Close.TheVariants.{Covered, Zero, Rest}
+use Rattle.pair_work.specs.declared.outcome.Close.{Close}
+use Rattle.pair_work.specs.declared.outcome.Close.TheVariants.{Covered, Zero, Rest}
 use Rattle.pair_book.specs.declared.faults.CommitFault.{CommitFault}
 use Rattle.pair_book.specs.declared.faults.CommitFault.TheVariants.{NotTaken, Spent, Stranger, Stale, Full}
 use Rattle.pair_book.specs.declared.faults.Committed.{Committed}
 use Rattle.pair_book.specs.declared.faults.Committed.TheVariants as done
 use Rattle.pair_book.specs.Logs.{DividesLead, NoneDivides}
 use Rattle.pair_book.specs.Settled.{settled_row}
-use Rattle.pair_book.specs.Outcomes.{Worked, UsedEntry, IsThere, AllThere, recipe_steps}
+use Rattle.pair_work.specs.Outcomes.{Worked, UsedEntry, IsThere, AllThere, recipe_steps}
 use Rattle.pair_book.specs.LogEntries.{terms_of, steps_of}
+use Rattle.pair_book.specs.Measures.{PassesFirst}
 use Rattle.pair_book.specs.Books.{Held, IsTaken, with_state}
 use Rattle.pair_book.specs.Chaining.{ClosesChained}
 
@@ -66,13 +66,9 @@ pub record IsFresh (h : Held) (w : Worked) (e : BasisEntry) : Type 0 where
   pub source : e.source ≡ h.source
   pub front : length h.entries ≤ w.front
 
--- with the entry the log would have so many entries, terms or recipe steps, which is too many
+-- with the entry a limit would be passed
 abbrev pub Passes : Held → BasisEntry → Measure → ℕ → Type 0
-Passes h e Entries c = (c ≡ length h.entries + 1) × (h.limits.entries < c)
-Passes h e Terms c = (length h.entries + 1 ≤ h.limits.entries) × (c ≡ terms_of h.entries + length e.vector)
-    × (h.limits.terms < c)
-Passes h e Steps c = (length h.entries + 1 ≤ h.limits.entries) × (terms_of h.entries + length e.vector ≤ h.limits.terms)
-    × (c ≡ steps_of h.entries + recipe_steps e.recipe) × (h.limits.steps < c)
+Passes h e m c = PassesFirst h.limits h.entries e m c
 
 abbrev pub Fits : Held → BasisEntry → Type 0
 Fits h e = (length h.entries + 1 ≤ h.limits.entries) × (terms_of h.entries + length e.vector ≤ h.limits.terms)

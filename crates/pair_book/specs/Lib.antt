@@ -1,10 +1,12 @@
-pub mod Faults
+pub use Rattle.pair_work.specs.Faults
+pub use Rattle.pair_work.specs.Recipes
+pub use Rattle.pair_work.specs.Outcomes
+pub use Rattle.pair_work.specs.Works
 pub mod Logs
 pub mod Fellows
 pub mod Settled
-pub mod Outcomes
-pub mod Works
 pub mod LogEntries
+pub mod Measures
 pub mod Books
 pub mod Inner
 pub mod Chaining

@@ -6,7 +6,7 @@ use Rattle.task_table.specs.declared.TheConstants.{ENTRIES}
 use Rattle.basis_entry.specs.Entries.{BasisEntry, IsBasisEntry}
 use Rattle.pair_book.specs.declared.log.Log.TheInside.{Inside}
 use Rattle.pair_book.specs.Fellows.{component_at, AreLinked}
-use Rattle.pair_book.specs.Outcomes.{recipe_steps}
+use Rattle.pair_work.specs.Outcomes.{recipe_steps}
 
 -- for how many entries there is room, and the entries
 pub record Logged : Type 0 where

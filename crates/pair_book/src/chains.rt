@@ -8,11 +8,12 @@ ghost use Rattle.task_table.specs.Tables.{state_of};
 ghost use Rattle.basis_entry.specs.Entries.{vectors_of};
 ghost use Rattle.pair_book.specs.Books.{IsBook};
 ghost use Rattle.pair_book.specs.Fellows.{FindsLast, component_at};
-ghost use Rattle.pair_book.specs.Chaining.{IsDueBy, ChainsWith, ChainsAt, AreChained, ClosesChained, s_task, closed_if};
+ghost use Rattle.pair_book.specs.Chaining.{IsDueBy, ChainsWith, ChainsAt, AreChained, ClosesChained, s_task};
 ghost use Rattle.pair_book.specs.Chaining.{is_waiting};
 
 use crate::Book;
 use chain_rule::{Shut, chained};
+use module_vec::VecList;
 use outcomes::{PairKind, Task};
 use strong_pairs::is_pair;
 use task_table::TaskState;
@@ -25,11 +26,12 @@ impl Shut for Book {
     ghost pairs = { λ b. shut_pairs b.entries b.tasks };
 
     fn shut(&self, i: u32, j: u32) -> bool {
+        self.known();
         let task = s_task_of(i, j);
-        if task.i >= task.j || task.j >= self.tasks.count() {
+        if task.i >= task.j || task.j >= self.count() {
             return false;
         }
-        is_closed_state(self.tasks.state(task))
+        is_closed_state(self.state(task))
     }
 }
 
@@ -68,7 +70,7 @@ impl Book {
         ensures { FindsLast (component_at self.now.entries) (length self.now.entries)
             (component_at self.now.entries at) result }
     {
-        self.log.last_fellow(at)
+        self.log().last_fellow(at)
     }
 
     /// The last entry before this one in its component.
@@ -76,7 +78,7 @@ impl Book {
         requires { at < length self.now.entries }
         ensures { FindsLast (component_at self.now.entries) at (component_at self.now.entries at) result }
     {
-        self.log.fellow_before(at)
+        self.log().fellow_before(at)
     }
 
     /// Closes what is due with this entry, where it is a third one.
@@ -88,8 +90,7 @@ impl Book {
         ensures chained { ChainsAt self.old a b x self.new }
         ensures book { IsBook self.old }
     {
-        // The proof needs what holds of the book.
-        let _ = &self.commits;
+        self.known();
         if x == a || x == b {
             return;
         }
@@ -104,24 +105,11 @@ impl Book {
         requires apart { (a ≢ b) × (x ≢ a) × (x ≢ b) }
         ensures { ChainsWith self.old a b x self.new }
     {
-        // The proof needs what holds of the book.
-        let _ = &self.commits;
+        self.known();
         let first = self.is_due(a, x, b);
         let second = self.is_due(b, x, a);
         self.close_if(first, s_task_of(a, x));
         self.close_if(second, s_task_of(b, x));
-    }
-
-    /// Closes a task that is open or hard, and truly closed, where it is due.
-    fn close_if(&mut self, due: bool, task: Task)
-        requires task { tasks.IsTask (length self.old.entries) task }
-        requires waiting { IsTrue due → is_waiting (state_of self.old.tasks task) ≡ true }
-        requires closed { IsTrue due → IsClosed (vectors_of self.old.entries) task.kind task.i task.j }
-        ensures { self.new ≡ closed_if due self.old task }
-    {
-        if due {
-            self.tasks.set(task, TaskState::Closed);
-        }
     }
 
     /// Whether the S task of a and x is open or hard, and its pair is closed through b.
@@ -133,9 +121,9 @@ impl Book {
         ensures closed { IsTrue result → IsClosed (vectors_of self.now.entries) S (s_task a x).i (s_task a x).j }
     {
         let task = s_task_of(a, x);
-        is_waiting_state(self.tasks.state(task))
-            && is_pair(&self.log, task.i, task.j)
-            && chained(&self.log, self, task.i, task.j, b)
+        is_waiting_state(self.state(task))
+            && is_pair(self, task.i, task.j)
+            && chained(self, self, task.i, task.j, b)
     }
 }
 

@@ -1,26 +1,12 @@
 //! Commits.
 
-ghost use Rattle.std.specs.Prelude.{◌≡◌, ◌↔◌, ◌++◌, ◌∷◌, [], IsTrue, None};
-ghost use Rattle.std.specs.Arc.{arc_value};
-ghost use Rattle.outcomes.specs.declared.kinds.PairKind.TheVariants.{S};
-ghost use Rattle.strong_pairs.specs.Pairs.{IsPair, lead_of};
-ghost use Rattle.strong_pairs.specs.Tasks.{IsClosed};
-ghost use Rattle.basis_entry.specs.Entries.{vectors_of};
-ghost use Rattle.pair_book.specs.Commits.{MayCommit, Fits, Commits, IsCommitted, Refuses, IfRest, closed_by};
-ghost use Rattle.pair_book.specs.Commits.{appended_by, state_after};
-ghost use Rattle.pair_book.specs.Logs.{NoneDivides};
-ghost use Rattle.pair_book.specs.Outcomes.{AllThere, IsRestOf};
+ghost use Rattle.std.specs.Prelude.{◌≡◌, None};
+ghost use Rattle.pair_book.specs.Commits.{Commits, IsCommitted, Refuses, IfRest};
+ghost use Rattle.pair_work.specs.Outcomes.{AllThere};
 
-use crate::log::Log;
-use crate::newcomers::enter;
-use crate::refusals::steps_in;
-use crate::{Book, Close, CommitFault, Committed, Outcome};
-use basis_entry::Entry;
+use crate::{Book, CommitFault, Committed};
 use module_vec::VecList;
-use outcomes::{PairKind, Task};
-use std::sync::Arc;
-use strong_pairs::covers;
-use task_table::TaskState;
+use pair_work::{Close, Outcome};
 
 impl Book {
     /// Commits an outcome of a task that is taken in this book, or hands it back. It takes no memory.
@@ -56,7 +42,7 @@ impl Book {
         ensures { IsCommitted self.old o result self.new }
     {
         let task = o.task();
-        let number = self.log.count();
+        let number = self.count();
         match o.into_close() {
             Close::Rest { entry } => {
                 let closed = self.append(task, entry);
@@ -74,61 +60,4 @@ impl Book {
         }
     }
 
-    /// Closes a task by a commit.
-    fn close(&mut self, task: Task)
-        requires may { MayCommit self.old task }
-        requires truly { IsClosed (vectors_of self.old.entries) task.kind task.i task.j }
-        ensures { self.new ≡ closed_by self.old task }
-    {
-        let commits = self.commits + 1;
-        self.tasks.set(task, TaskState::Closed);
-        self.commits = commits;
-    }
-
-    /// Appends the rest of a task by a commit, and answers whether the task is closed now.
-    fn append(&mut self, task: Task, entry: Arc<Entry>) -> bool
-        requires may { MayCommit self.old task }
-        requires pair { IsPair (vectors_of self.old.entries) task.i task.j }
-        requires rest { IsRestOf (vectors_of self.old.entries) task (arc_value entry) }
-        requires source { (arc_value entry).source ≡ (self.old).source }
-        requires undivided { NoneDivides (vectors_of self.old.entries) (lead_of (arc_value entry).vector) }
-        requires fits { Fits self.old (arc_value entry) }
-        ensures closed { IsTrue result ↔ IsClosed (vectors_of (self.old.entries ++ arc_value entry ∷ [])) task.kind
-            task.i task.j }
-        ensures new { self.new ≡ appended_by self.old task (arc_value entry) result }
-    {
-        let commits = self.commits + 1;
-        let terms = self.terms + entry.vector().terms().len() as u32;
-        let steps = self.steps + steps_in(entry.recipe()) as u32;
-        enter(&mut self.log, &mut self.tasks, entry);
-        let closed = is_closed(&self.log, task);
-        self.tasks.set(task, after(closed));
-        self.terms = terms;
-        self.steps = steps;
-        self.commits = commits;
-        closed
-    }
-}
-
-/// Whether the task of a pair is truly closed, where this is known of S tasks.
-fn is_closed(log: &Log, task: Task) -> bool
-    requires pair { IsPair (vectors_of log.now.entries) task.i task.j }
-    requires s { task.kind ≡ S → IsClosed (vectors_of log.now.entries) S task.i task.j }
-    ensures { IsTrue result ↔ IsClosed (vectors_of log.now.entries) task.kind task.i task.j }
-{
-    match task.kind {
-        PairKind::S => true,
-        PairKind::G => covers(log, log.count(), task.i, task.j).is_some(),
-    }
-}
-
-/// The state of a task whose rest was appended.
-fn after(closed: bool) -> TaskState
-    ensures { result ≡ state_after closed }
-{
-    if closed {
-        TaskState::Closed
-    } else {
-        TaskState::Open
-    }
 }

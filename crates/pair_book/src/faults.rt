@@ -1,15 +1,10 @@
 //! What the calls on a book answer.
 
 ghost use Rattle.std.specs.Prelude.{◌≡◌};
-ghost use Rattle.pair_book.specs.declared.faults.WorkFault.TheVariants as of_work;
 ghost use Rattle.pair_book.specs.declared.faults.SealFault.TheVariants as of_seal;
-ghost use Rattle.pair_book.specs.Faults.{pair_as_work, reduce_as_work};
 
-use module_vec::Stop;
 use outcomes::{Measure, Task};
-use reduce_cofactor::ReduceFault;
 use std::alloc::{AllocError, AllocFailed};
-use strong_pairs::PairFault;
 
 /// What a commit did.
 #[derive(Clone, Copy, PartialEq, Eq)]
@@ -36,66 +31,12 @@ pub enum CommitFault {
     Full { measure: Measure, count: u32 },
 }
 
-/// Why a task has no outcome.
-#[derive(Clone, Copy, PartialEq, Eq)]
-pub enum WorkFault {
-    /// The limit that its pair's vector met, or the reduction of it.
-    Stop(Stop),
-    NoMemory,
-}
-
 /// Why a book was not sealed.
 #[derive(Clone, Copy, PartialEq, Eq)]
 pub enum SealFault {
     /// The least task that isn't closed.
     StillOpen { task: Task },
     NoMemory,
-}
-
-impl From<Stop> for WorkFault {
-    ghost from_gives = { λ stop e. e ≡ of_work.Stop stop };
-
-    fn from(stop: Stop) -> WorkFault {
-        WorkFault::Stop(stop)
-    }
-}
-
-impl From<PairFault> for WorkFault {
-    ghost from_gives = { λ fault e. e ≡ pair_as_work fault };
-
-    fn from(fault: PairFault) -> WorkFault {
-        match fault {
-            PairFault::Stop(stop) => WorkFault::Stop(stop),
-            PairFault::NoMemory => WorkFault::NoMemory,
-        }
-    }
-}
-
-impl From<ReduceFault> for WorkFault {
-    ghost from_gives = { λ fault e. e ≡ reduce_as_work fault };
-
-    fn from(fault: ReduceFault) -> WorkFault {
-        match fault {
-            ReduceFault::Stop(stop) => WorkFault::Stop(stop),
-            ReduceFault::NoMemory => WorkFault::NoMemory,
-        }
-    }
-}
-
-impl From<AllocError> for WorkFault {
-    ghost from_gives = { λ _ e. e ≡ of_work.NoMemory };
-
-    fn from(_: AllocError) -> WorkFault {
-        WorkFault::NoMemory
-    }
-}
-
-impl<T: Drop> From<AllocFailed<T>> for WorkFault {
-    ghost from_gives = { λ _ e. e ≡ of_work.NoMemory };
-
-    fn from(_: AllocFailed<T>) -> WorkFault {
-        WorkFault::NoMemory
-    }
 }
 
 impl From<AllocError> for SealFault {

@@ -1,45 +1,27 @@
 //! The laws of books, as contracts of functions that do nothing.
 
 ghost use Rattle.std.specs.Prelude.{◌≡◌, ◌≢◌, ◌↔◌, ℕ, ◌≤◌, List, [], ◌∷◌, ◌++◌, true, length};
-ghost use Rattle.std.specs.List.{AllByRecursion};
 ghost use Rattle.presentation.specs.Presented.{Presented, IsPresented};
-ghost use Rattle.module_vec.specs.declared.places.Place.{Place};
 ghost use Rattle.module_vec.specs.declared.places.Term.{Term};
-ghost use Rattle.module_vec.specs.declared.faults.Stop.TheVariants.{Wide};
 ghost use Rattle.module_vec.specs.Reducers.{AreEntries};
 ghost use Rattle.outcomes.specs.declared.kinds.PairKind.{PairKind as TheKind};
-ghost use Rattle.outcomes.specs.declared.tasks.Task.{Task as TheTask};
 ghost use Rattle.strong_pairs.specs.Pairs.{IsPair, lead_at};
-ghost use Rattle.strong_pairs.specs.Tasks.{IsClosed, IsClosedFromStart};
+ghost use Rattle.strong_pairs.specs.Tasks.{IsClosedFromStart};
 ghost use Rattle.task_table.specs.Rows.{settled_of};
-ghost use Rattle.vector_text.specs.Over.{PlaceIsOver};
 ghost use Rattle.basis_entry.specs.declared.TheConstants.{BASE, BASE_TERMS};
-ghost use Rattle.basis_entry.specs.Entries.{BasisEntry, IsBasisEntry, AreOf, vectors_of};
+ghost use Rattle.basis_entry.specs.Entries.{BasisEntry, IsBasisEntry, vectors_of};
 ghost use Rattle.pair_book.specs.declared.limits.Limits.{Limits as TheLimits};
 ghost use Rattle.pair_book.specs.Books.{AreWithin};
 ghost use Rattle.pair_book.specs.Logs.{IsLawful, IsNextEntry};
 ghost use Rattle.pair_book.specs.Settled.{settled_by};
-ghost use Rattle.pair_book.specs.Works.{Stops};
 
-/// What is truly closed of a list stays so when further vectors are appended.
-pub fn closed_tasks_stay_closed()
-    ensures { (b more : List (List Term)) (kind : TheKind) (i j : ℕ) → IsPair b i j → IsClosed b kind i j
-        → IsClosed (b ++ more) kind i j }
-{}
+pub use pair_work::laws::{closed_tasks_stay_closed, places_of_stops_are_over};
 
 /// A lawful log stays lawful when an entry is appended that may stand behind it.
 pub fn lawful_logs_grow()
     ensures { (p : Presented) (base : ℕ) (es : List BasisEntry) (e : BasisEntry) → IsLawful p base es → e.source ≡ p
         → IsBasisEntry e →
         IsNextEntry (vectors_of es) e → IsLawful p base (es ++ e ∷ []) }
-{}
-
-/// The place at which the work of a task by entries of a presentation leaves the range is over the presentation's
-/// generators.
-pub fn places_of_stops_are_over()
-    ensures { (p : Presented) (es : List BasisEntry) (t : TheTask) (place : Place) (step : ℕ)
-        → AllByRecursion IsBasisEntry es → AreOf p es →
-        Stops (vectors_of es) t (Wide place step) → PlaceIsOver (length p.names) place }
 {}
 
 /// Limits on entries and terms that allow what any presentation's generator entries can have, with which a book of any

@@ -14,25 +14,17 @@ pub mod laws;
 mod limits;
 mod links;
 mod log;
-mod marks;
 mod newcomers;
 mod opening;
-mod outcome;
-mod recipes;
 mod refusals;
-mod sealing;
-mod used;
-mod working;
 
 pub use book::Book;
-pub use faults::{CommitFault, Committed, SealFault, WorkFault};
+pub use faults::{CommitFault, Committed, SealFault};
 pub use limits::Limits;
 pub use opening::can_open;
-pub use outcome::{Close, Outcome};
 pub use outcomes::{End, Measure, PairKind, Task};
+pub use pair_work::{Close, Outcome, Used, WorkFault, work};
 pub use task_table::Order;
-pub use used::Used;
-pub use working::work;
 
 #[cfg(test)]
 mod tests;

@@ -2,44 +2,18 @@
 
 ghost use Rattle.std.specs.Prelude.{◌≡◌, ◌≤◌, ◌↔◌, [], map, length, IfOk, IsTrue, OnOk};
 ghost use Rattle.std.specs.Arc.{arc_value};
-ghost use Rattle.task_table.specs.declared.TheConstants.{ENTRIES as MOST};
 ghost use Rattle.basis_entry.specs.declared.TheConstants.{BASE};
-ghost use Rattle.pair_book.specs.Books.{AreWithin, AreNew, IsOpened};
+ghost use Rattle.pair_book.specs.Books.{AreWithin, AreNew};
 ghost use Rattle.pair_book.specs.LogEntries.{terms_of};
 
 use crate::log::Log;
 use crate::newcomers::enter;
-use crate::{Book, Limits};
+use crate::Limits;
 use basis_entry::Entry;
 use presentation::Presentation;
 use std::alloc::{AllocError, Global};
 use std::sync::Arc;
 use task_table::TaskTable;
-
-impl Book {
-    /// The book of the generator entries, without commits. All room that the limits allow is taken here.
-    pub fn open(alloc: Global, p: &Arc<Presentation>, limits: Limits) -> Result<Book, AllocError>
-        requires most { limits.entries ≤ MOST }
-        requires within { AreWithin (arc_value p.now) limits }
-        ensures { IfOk result (λ book. IsOpened (arc_value p.now) limits book) }
-    {
-        let base = Entry::base(alloc, p)?;
-        let mut log = Log::with_room(alloc, limits.entries)?;
-        let mut tasks = TaskTable::with_capacity(alloc, limits.order, limits.entries)?;
-        let terms = enter_all(&mut log, &mut tasks, &base)?;
-        Ok(Book {
-            source: Arc::try_clone(p)?,
-            limits,
-            base: base.len() as u32,
-            log,
-            tasks,
-            terms,
-            steps: 0,
-            commits: 0,
-            seal: None,
-        })
-    }
-}
 
 /// Whether the generator entries of the presentation are within the limits, so that a book can be opened with them.
 pub fn can_open(alloc: Global, p: &Arc<Presentation>, limits: &Limits) -> Result<bool, AllocError>
@@ -65,7 +39,7 @@ fn count_terms(entries: &[Arc<Entry>]) -> usize
 }
 
 /// Enters the entries into an empty log and its table, and answers the number of their terms.
-fn enter_all(log: &mut Log, tasks: &mut TaskTable, base: &[Arc<Entry>]) -> Result<u32, AllocError>
+pub fn enter_all(log: &mut Log, tasks: &mut TaskTable, base: &[Arc<Entry>]) -> Result<u32, AllocError>
     requires log { log.old.entries ≡ [] }
     requires tasks { AreNew [] tasks.old }
     requires room { tasks.old.room ≡ log.old.room }

@@ -4,18 +4,19 @@ ghost use Rattle.std.specs.Prelude.{◌≡◌, ◌≢◌, ◌<◌, ◌↔◌, Is
 ghost use Rattle.std.specs.Arc.{arc_value};
 ghost use Rattle.module_vec.specs.declared.places.Term.{Term as TheTerm};
 ghost use Rattle.basis_entry.specs.Entries.{vectors_of};
-ghost use Rattle.pair_book.specs.Commits.{IsStranger, IsLeadDivisor, Passes, Fits, HasBudget, Refuses, RefusesTask};
+ghost use Rattle.pair_book.specs.Commits.{IsStranger, IsLeadDivisor, HasBudget, Refuses, RefusesTask};
 ghost use Rattle.pair_book.specs.Commits.{RefusesRest, IfRest};
 ghost use Rattle.pair_book.specs.Logs.{DividesLead, NoneDivides};
-ghost use Rattle.pair_book.specs.Outcomes.{used_entry, AllThere, AreRising, IsThere, recipe_steps};
+ghost use Rattle.pair_work.specs.Outcomes.{used_entry, AllThere, AreRising, IsThere};
 ghost use Rattle.strong_pairs.specs.Pairs.{lead_of};
 
 use crate::log::Log;
 use crate::newcomers::{divides, entry_lead};
-use crate::{Book, Close, CommitFault, Outcome, Used};
-use basis_entry::{Entry, Recipe};
+use crate::{Book, CommitFault};
+use basis_entry::{Entry, Front};
 use module_vec::{Term, VecList};
-use outcomes::{Measure, Task};
+use outcomes::Task;
+use pair_work::{Close, Outcome, Used};
 use strong_pairs::lead;
 
 /// Whether the log has the entry under its number.
@@ -62,48 +63,17 @@ fn first_divisor(log: &Log, entry: &Entry) -> Option<u32>
     None
 }
 
-/// How many steps a recipe has.
-pub fn steps_in(recipe: &Recipe) -> usize
-    ensures { result ≡ recipe_steps recipe.now }
-{
-    match recipe {
-        Recipe::Gen { .. } => 0,
-        Recipe::Sum { steps } => steps.steps().len(),
-    }
-}
-
 /// The least number of an entry that the outcome used and the log doesn't have.
 fn stranger(log: &Log, o: &Outcome) -> Option<u32>
     ensures { MatchOption result (AllThere log.now.entries (o.now).used)
         (λ k. IsStranger log.now.entries (o.now).used k) }
 {
-    let _ = o.task();
+    o.known();
     first_stranger(log, o.used())
 }
 
 impl Book {
-    ghost use Rattle.pair_book.specs.Outcomes.{IsShort};
-
-    /// The measure that the entry would take past its limit, and how far.
-    fn passed(&self, entry: &Entry) -> Option<(Measure, u32)>
-        requires { IsShort entry.now }
-        ensures { MatchOption result (Fits self.now entry.now) (λ p. Passes self.now entry.now p.0 p.1) }
-    {
-        let limits = self.limits;
-        let entries = self.log.count() + 1;
-        if entries > limits.entries {
-            return Some((Measure::Entries, entries));
-        }
-        let terms = self.terms + entry.vector().terms().len() as u32;
-        if terms > limits.terms {
-            return Some((Measure::Terms, terms));
-        }
-        let steps = self.steps + steps_in(entry.recipe()) as u32;
-        if steps > limits.steps {
-            return Some((Measure::Steps, steps));
-        }
-        None
-    }
+    ghost use Rattle.pair_work.specs.Outcomes.{IsShort};
 
     /// Why the outcome can't be committed now.
     pub(crate) fn refusal(&self, o: &Outcome) -> Option<CommitFault>
@@ -112,7 +82,7 @@ impl Book {
         if let Some(fault) = self.refused_task(o.task()) {
             return Some(fault);
         }
-        if let Some(entry) = stranger(&self.log, o) {
+        if let Some(entry) = stranger(self.log(), o) {
             return Some(CommitFault::Stranger { entry });
         }
         let Close::Rest { entry } = o.close() else {
@@ -141,13 +111,12 @@ impl Book {
     fn refused_task(&self, task: Task) -> Option<CommitFault>
         ensures { RefusesTask self.now task result }
     {
-        if !self.is_taken(task) || self.seal.is_some() {
+        if !self.is_taken(task) || self.sealed().is_some() {
             return Some(CommitFault::NotTaken);
         }
-        if self.limits.budget == Some(self.commits) {
-            return Some(CommitFault::Spent {
-                commits: self.commits,
-            });
+        let commits = self.commits();
+        if self.limits().budget == Some(commits) {
+            return Some(CommitFault::Spent { commits });
         }
         None
     }
@@ -159,8 +128,8 @@ impl Book {
         requires short { IsShort entry.now }
         ensures { RefusesRest self.now o.now entry.now result }
     {
-        if !entry.presentation().same(&self.source) {
-            let now = self.log.count();
+        if !entry.presentation().same(self.source()) {
+            let now = self.count();
             return Some(CommitFault::Stranger { entry: now });
         }
         self.refused_known_rest(o, entry)
@@ -174,12 +143,12 @@ impl Book {
         requires short { IsShort entry.now }
         ensures { RefusesRest self.now o.now entry.now result }
     {
-        let now = self.log.count();
+        let now = self.count();
         let front = o.front();
         if front < now {
             return Some(CommitFault::Stale { front, now });
         }
-        if let Some(entry) = first_divisor(&self.log, entry) {
+        if let Some(entry) = first_divisor(self.log(), entry) {
             return Some(CommitFault::Stranger { entry });
         }
         match self.passed(entry) {

@@ -6,12 +6,12 @@ use Rattle.completion_solo.proofs.rounds.work_taken.Goals as goal
 pub returns-in-Err-Stop : goal.returns-in-Err-Stop
 returns-in-Err-Stop c =
     let h = c.args.book.now in
-    given_hard h c.args.task c.commits.ensures.book c.requires.due.hand (arc_value c.args.p.now) c.give_back.new.self c.args.index.now c.in-Err-Stop.field-0-0
+    given_hard h c.args.task c.known.ensures c.requires.due.hand (arc_value c.args.p.now) c.give_back.new.self c.args.index.now c.in-Err-Stop.field-0-0
     c.args.stale c.requires.source c.requires.due
     (stops_here (arc_value c.args.p.now) c.over.result.list.now h c.args.task c.in-Err-Stop.field-0 c.in-Err-Stop.field-0-0 c.over.ensures.list
     c.in-Err-Stop.field-0-is c.in-Err-Stop.ensures)
     c.give_back.ensures
 
 pub returns-in-Err-NoMemory : goal.returns-in-Err-NoMemory
-returns-in-Err-NoMemory c = given_open c.args.book.now c.args.task c.commits.ensures.book c.requires.due.hand c.give_back-in-Err-NoMemory.new.self
+returns-in-Err-NoMemory c = given_open c.args.book.now c.args.task c.known.ensures c.requires.due.hand c.give_back-in-Err-NoMemory.new.self
     c.give_back-in-Err-NoMemory.ensures

@@ -1,6 +1,6 @@
 use Rattle.std.proofs.Common.{arith, ◌<◌, length, map}
 use Rattle.std.proofs.lemmas.List.{length-map}
-use Rattle.pair_book.specs.Outcomes.{used_entry, IsThere}
+use Rattle.pair_work.specs.Outcomes.{used_entry, IsThere}
 use Rattle.pair_book.proofs.Strangers.{get_mapped, stranger_at, there_more, there_all}
 use Rattle.pair_book.proofs.refusals.first_stranger.Goals as goal
 

@@ -1,6 +1,6 @@
 use Rattle.std.proofs.Common.{◌≡◌, ◌<◌, ℕ, Some, map}
 use Rattle.std.specs.List.{slice_get}
-use Rattle.pair_book.specs.Outcomes.{UsedEntry, used_entry, IsThere}
+use Rattle.pair_work.specs.Outcomes.{UsedEntry, used_entry, IsThere}
 use Rattle.pair_book.proofs.refusals.first_stranger.Given as goal
 
 abbrev pub invariant-loop-one : goal.invariant-loop-one

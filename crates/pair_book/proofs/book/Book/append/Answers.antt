@@ -9,12 +9,12 @@ use Rattle.task_table.specs.Rows.{grown}
 use Rattle.basis_entry.specs.Entries.{BasisEntry, IsBasisEntry, vectors_of}
 use Rattle.pair_book.specs.Logs.{IsNextEntry}
 use Rattle.pair_book.specs.Settled.{settled_row}
-use Rattle.pair_book.specs.Outcomes.{recipe_steps}
+use Rattle.pair_work.specs.Outcomes.{recipe_steps}
 use Rattle.pair_book.specs.Books.{Held, IsBook}
 use Rattle.pair_book.specs.Commits.{MayCommit, Fits, state_after}
 use Rattle.pair_book.specs.LogEntries.{Logged, IsLogged, terms_of, steps_of}
 use Rattle.pair_book.specs.Inner.{held_of}
-use Rattle.pair_book.proofs.Reading.{all_push}
+use Rattle.pair_work.proofs.Reading.{all_push}
 use Rattle.pair_book.proofs.Bounds.{commits_few}
 use Rattle.pair_book.proofs.Growing.{book_appended, vectors_push}
 use Rattle.pair_book.proofs.book.Book.append.Goals as goal

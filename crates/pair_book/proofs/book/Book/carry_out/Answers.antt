@@ -5,8 +5,8 @@ use Rattle.std.specs.Arc.{arc_value}
 use Rattle.outcomes.specs.declared.tasks.Task.{Task}
 use Rattle.strong_pairs.specs.Tasks.{IsClosed}
 use Rattle.basis_entry.specs.Entries.{BasisEntry, vectors_of}
-use Rattle.pair_book.specs.declared.outcome.Close.{Close}
-use Rattle.pair_book.specs.Outcomes.{IsTrueOf, IsRestOf}
+use Rattle.pair_work.specs.declared.outcome.Close.{Close}
+use Rattle.pair_work.specs.Outcomes.{IsTrueOf, IsRestOf}
 use Rattle.pair_book.specs.Books.{Held}
 use Rattle.pair_book.specs.Chaining.{ClosesChained}
 use Rattle.pair_book.specs.Commits.{OnRest, appended_by}
@@ -25,8 +25,7 @@ returns-in-Rest c =
     let new = c.chain_behind.new.self in
     let closed = c.append-closed.result in
     let e : BasisEntry = arc_value c.in-Rest.entry in
-    let n = c.count-number.ensures.is ∙ (length-map c.self.inside.log.entries (λ (x : BasisEntry). x.vector)
-    ∙ ap (λ (h : Held). length h.entries) c.self.view_is) in
+    let n = c.count-number.ensures.is ∙ length-map old.entries (λ (x : BasisEntry). x.vector) in
     let T : Task → BasisEntry → Type 0 = λ z x. (IsTrue closed ↔ IsClosed (vectors_of (old.entries ++ x ∷ [])) z.kind z.i z.j)
     × ClosesChained (appended_by old z x closed) z closed new in
     let chained = subst (λ (h : Held). ClosesChained h c.task-task.result closed new) c.append-closed.ensures.new c.chain_behind.ensures in

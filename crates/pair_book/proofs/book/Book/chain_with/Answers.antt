@@ -9,7 +9,7 @@ use Rattle.pair_book.proofs.book.Book.chain_with.Goals as goal
 pub close_if-requires-2-clause-waiting : goal.close_if-requires-2-clause-waiting
 close_if-requires-2-clause-waiting c = λ s.
     let h = c.args.self.now in
-    let book = subst IsBook c.self.view_is c.self.invariant.book in
+    let book = c.known.ensures in
     let due = c.is_due-second.ensures.is.0 s in
     let w = waiting_still h c.is_due-first.result c.args.a c.args.b c.args.x book c.requires.first c.requires.second c.requires.third c.requires.apart.0
     c.requires.apart.1 c.requires.apart.2 due.waiting in

@@ -1,6 +1,6 @@
 use Rattle.std.proofs.Common.{arith, ap, length}
 use Rattle.pair_book.specs.Inner.{held_of}
-use Rattle.pair_book.specs.Outcomes.{recipe_steps}
+use Rattle.pair_work.specs.Outcomes.{recipe_steps}
 use Rattle.pair_book.proofs.Bounds.{terms_small, steps_small, entries_few}
 use Rattle.pair_book.proofs.book.Book.passed.Goals as goal
 

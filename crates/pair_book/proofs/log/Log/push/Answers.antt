@@ -8,7 +8,7 @@ use Rattle.basis_entry.specs.Entries.{BasisEntry, IsBasisEntry}
 use Rattle.pair_book.specs.Fellows.{component_at, AreLinked}
 use Rattle.pair_book.specs.LogEntries.{Logged}
 use Rattle.pair_book.proofs.Linking.{linked_still}
-use Rattle.pair_book.proofs.Reading.{all_push}
+use Rattle.pair_work.proofs.Reading.{all_push}
 use Rattle.pair_book.proofs.Starting.{lead_end}
 use Rattle.pair_book.proofs.log.Log.push.Goals as goal
 

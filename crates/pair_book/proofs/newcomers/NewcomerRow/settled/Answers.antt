@@ -6,7 +6,7 @@ use Rattle.strong_pairs.specs.Pairs.{lead_of}
 use Rattle.task_table.specs.declared.rows.Settled.{Settled}
 use Rattle.basis_entry.specs.Entries.{BasisEntry}
 use Rattle.pair_book.specs.Settled.{settled_by}
-use Rattle.pair_book.proofs.Reading.{row_read}
+use Rattle.pair_book.proofs.Rows.{row_read}
 use Rattle.pair_book.proofs.newcomers.NewcomerRow.settled.Goals as goal
 
 pub returns : goal.returns

@@ -1,7 +1,0 @@
-use Rattle.std.proofs.Common.{map}
-use Rattle.pair_book.specs.Outcomes.{used_entry}
-use Rattle.pair_book.proofs.Marking.{AreMarkedBelow}
-use Rattle.pair_book.proofs.marks.marked.Given as goal
-
-abbrev pub invariant-loop-number : goal.invariant-loop-number
-invariant-loop-number g l = AreMarkedBelow (g.F.Front.entries l.list) l.marks l.number (map used_entry l.used.items)

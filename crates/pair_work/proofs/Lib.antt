@@ -1,0 +1,14 @@
+pub mod Reading
+pub mod Transport
+pub mod Turning
+pub mod Chained
+pub mod Made
+pub mod Appended
+pub mod Seen
+pub mod Marking
+pub mod Composing
+pub mod Halting
+pub mod Closes
+pub mod Using
+pub mod OverSteps
+pub mod OverStops

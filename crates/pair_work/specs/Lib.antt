@@ -1,0 +1,4 @@
+pub mod Faults
+pub mod Recipes
+pub mod Outcomes
+pub mod Works
