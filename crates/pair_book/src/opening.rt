@@ -6,9 +6,9 @@ ghost use Rattle.basis_entry.specs.declared.TheConstants.{BASE};
 ghost use Rattle.pair_book.specs.Books.{AreWithin, AreNew};
 ghost use Rattle.pair_book.specs.LogEntries.{terms_of};
 
+use crate::Limits;
 use crate::log::Log;
 use crate::newcomers::enter;
-use crate::Limits;
 use basis_entry::Entry;
 use presentation::Presentation;
 use std::alloc::{AllocError, Global};
@@ -39,7 +39,11 @@ fn count_terms(entries: &[Arc<Entry>]) -> usize
 }
 
 /// Enters the entries into an empty log and its table, and answers the number of their terms.
-pub fn enter_all(log: &mut Log, tasks: &mut TaskTable, base: &[Arc<Entry>]) -> Result<u32, AllocError>
+pub fn enter_all(
+    log: &mut Log,
+    tasks: &mut TaskTable,
+    base: &[Arc<Entry>],
+) -> Result<u32, AllocError>
     requires log { log.old.entries ≡ [] }
     requires tasks { AreNew [] tasks.old }
     requires room { tasks.old.room ≡ log.old.room }

@@ -1,5 +1,5 @@
 -- Reading lists.
-use Rattle.std.proofs.Common.{ℕ, zero, suc, ◌<◌, ◌≤◌, ◌≡◌, arith, refl, ap, List, [], ◌∷◌, ◌++◌, length, map, take, Some, subst}
+use Rattle.std.proofs.Common.{ℕ, zero, suc, ◌<◌, ◌≤◌, ◌≡◌, arith, refl, ap, List, [], ◌∷◌, ◌++◌, length, take, Some, subst}
 use Rattle.std.specs.List.{slice_get, AllByRecursion}
 use Rattle.std.proofs.lemmas.Option.{slice_get_within}
 use Rattle.module_vec.specs.Modules.{vector_at}
