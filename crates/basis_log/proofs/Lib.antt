@@ -1,0 +1,5 @@
+pub mod Prefixes
+pub mod Standing
+pub mod Logs
+pub mod Bases
+pub mod Sitting
