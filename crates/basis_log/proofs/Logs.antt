@@ -24,17 +24,17 @@ items_after p (e ∷ es) xs all of h = (of.0, all.0, items_after p es xs all.1 o
 -- ---- one more
 pub items_more : (p : Presented) (xs : List LogItem) (x : LogItem) → AreItems p xs → seal_of xs ≡ None → IsItem x → item_source x ≡ p
     → AreItems p (xs ++ x ∷ [])
-items_more p [] (LogItem.an_entry e) h open is of = (of, is, tt)
-items_more p [] (LogItem.a_seal s) h open is of = (of, is, refl)
-items_more p (LogItem.an_entry e ∷ xs) x h open is of = (h.0, h.1, items_more p xs x h.2 open is of)
-items_more p (LogItem.a_seal s ∷ xs) x h open is of = absurd (let e = open in cc)
+items_more p [] (LogItem.an_entry e) h unsealed is of = (of, is, tt)
+items_more p [] (LogItem.a_seal s) h unsealed is of = (of, is, refl)
+items_more p (LogItem.an_entry e ∷ xs) x h unsealed is of = (h.0, h.1, items_more p xs x h.2 unsealed is of)
+items_more p (LogItem.a_seal s ∷ xs) x h unsealed is of = absurd (let e = unsealed in cc)
 
 -- ---- what is read of items
 counted : (p : Presented) (xs : List LogItem) (s : Option Seal) → seal_of xs ≡ s → AreItems p xs → item_count (entries_of xs) s ≡ length xs
 counted p [] None e h = refl
 counted p [] (Some s) e h = absurd (let q = e in cc)
 counted p (LogItem.an_entry x ∷ xs) None e h = ap suc (counted p xs None e h.2)
-counted p (LogItem.an_entry x ∷ xs) (Some s) e h = ap suc (counted p xs (Some s) e h.2)
+counted p (LogItem.an_entry x ∷ xs) (Some s) e h = omega (arith, counted p xs (Some s) e h.2)
 counted p (LogItem.a_seal x ∷ xs) None e h = absurd (let q = e in cc)
 counted p (LogItem.a_seal x ∷ xs) (Some s) e h = rw (h.2) refl
 

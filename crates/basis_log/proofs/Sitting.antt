@@ -1,6 +1,8 @@
 -- What holds of seats, as their fields change.
 use Rattle.std.proofs.Common.{◌≡◌, ℕ, ◌+◌, ◌-◌, ◌<◌, ◌≤◌, ◌⊎◌, inl, inr, List, [], ◌∷◌, ◌++◌, length, map, Some, refl, sym, ap, ◌∙◌, arith, subst}
 use Rattle.std.proofs.lemmas.List.{length-append, length-map, map-append, append_assoc}
+use Rattle.std.proofs.lemmas.Option.{slice_get-map}
+use Rattle.std.specs.Option.{option_map}
 use Rattle.std.specs.Prelude.{slice_get}
 use mathlib.Core.List.{IsPrefix}
 use Rattle.basis_entry.specs.Entries.{BasisEntry}
@@ -80,3 +82,12 @@ items_length base ss =
     let c = length-map (values_in ss) shown in
     let d = length-map ss (λ t. t.value) in
     omega (arith, a, b, c, d)
+
+pub shown_length : (ss : List (Sighted Item)) → length (shown_in ss) ≡ length ss
+shown_length ss = length-map (values_in ss) shown ∙ length-map ss (λ t. t.value)
+
+-- what is read of the list of what was seen
+pub shown_at : (ss : List (Sighted Item)) (i : ℕ) (s : Sighted Item) → slice_get ss i ≡ Some s → slice_get (shown_in ss) i ≡ Some (shown s.value)
+shown_at ss i s at =
+    slice_get-map shown (values_in ss) i
+    ∙ ap (option_map shown) (slice_get-map (λ (t : Sighted Item). t.value) ss i ∙ ap (option_map (λ (t : Sighted Item). t.value)) at)

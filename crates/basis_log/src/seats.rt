@@ -172,7 +172,7 @@ impl<'r> Seat<'r> {
     /// Sets the cell after the list's items to the item, which is of the row's presentation; the list has no seal. After Ok
     /// the item stands in the list. Where the cell's segment isn't made, the spare one is taken for it.
     pub fn publish(&mut self, item: Box<Item>) -> Result<(), Refused<'r>>
-        requires open { seal_of self.old.items ≡ None }
+        requires unsealed { seal_of self.old.items ≡ None }
         requires source { item_source (shown item.value) ≡ row_source self.old.row }
         ensures row { self.new.row ≡ self.old.row }
         ensures ok { IfOk result (λ _. self.new.items ≡ self.old.items ++ shown item.value ∷ []) }
@@ -217,7 +217,7 @@ fn admit<'r>(
 ) -> Option<&'r Item>
     requires room { length seen.old.items < vec_capacity seen.old }
     requires items { AreItems (row_source row.now) (shown_in seen.old.items) }
-    requires open { seal_of (shown_in seen.old.items) ≡ None }
+    requires unsealed { seal_of (shown_in seen.old.items) ≡ None }
     ensures items { AreItems (row_source row.now) (shown_in seen.new.items) }
     ensures is { MatchOption result ((seen.new.items ≡ seen.old.items ++ sight.entry ∷ [])
         × (item_source (shown sight.entry.value) ≡ row_source row.now)) (λ held. (seen.new.items ≡ seen.old.items)
