@@ -1,9 +1,9 @@
 -- What holds of seats, as their fields change.
-use Rattle.std.proofs.Common.{◌≡◌, ℕ, ◌+◌, ◌-◌, ◌<◌, ◌≤◌, ◌⊎◌, inl, inr, List, [], ◌∷◌, ◌++◌, length, map, Some, refl, sym, ap, ◌∙◌, arith, subst}
+use Rattle.std.proofs.Common.{◌≡◌, ℕ, ◌+◌, ◌-◌, ◌<◌, ◌≤◌, ◌⊎◌, inl, inr, Bool, true, false, not, MatchBool, Option, None, MatchOption, List, [], ◌∷◌, ◌++◌, length, map, Some, refl, sym, ap, ◌∙◌, arith, subst}
 use Rattle.std.proofs.lemmas.List.{length-append, length-map, map-append, append_assoc}
 use Rattle.std.proofs.lemmas.Option.{slice_get-map}
 use Rattle.std.specs.Option.{option_map}
-use Rattle.std.specs.Prelude.{slice_get}
+use Rattle.std.specs.Prelude.{slice_get, is_some}
 use mathlib.Core.List.{IsPrefix}
 use Rattle.basis_entry.specs.Entries.{BasisEntry}
 use Rattle.basis_log.specs.declared.items.Item.{Item}
@@ -91,3 +91,28 @@ pub shown_at : (ss : List (Sighted Item)) (i : ℕ) (s : Sighted Item) → slice
 shown_at ss i s at =
     slice_get-map shown (values_in ss) i
     ∙ ap (option_map shown) (slice_get-map (λ (t : Sighted Item). t.value) ss i ∙ ap (option_map (λ (t : Sighted Item). t.value)) at)
+
+-- ---- what an answer tells
+pub as_none : {R A : Type 0} (B : R → Type 0) (r : Option R) → is_some r ≡ false → MatchOption r A B → A
+as_none B None e h = h
+as_none B (Some x) e h = absurd cc
+
+-- what was seen in the next cell went into the list, or it didn't
+module _ {R : Type 0} where
+  pub seat_admitted : (places new : Placed) (ss zs : List (Sighted Item)) (s : Sighted Item) (r : Option R) → IsSeat places ss → new.row ≡ places.row
+      → IsPrefix (cells_of places.segments) (cells_of new.segments) → slice_get (cells_of new.segments) (length ss) ≡ Some s.cell
+      → length ss < places.row.cells → AreItems (row_source new.row) (shown_in zs)
+      → MatchOption r (zs ≡ ss ++ s ∷ []) (λ _. zs ≡ ss) → IsSeat new zs
+  seat_admitted places new ss zs s None h row grows at lt items is =
+      let here : AreItems (row_source new.row) (shown_in (ss ++ s ∷ [])) = subst (λ l. AreItems (row_source new.row) (shown_in l)) is items in
+      subst (IsSeat new) (sym is) (seat_more places new ss s h row grows at lt here)
+  seat_admitted places new ss zs s (Some x) h row grows at lt items is = subst (IsSeat new) (sym is) (seat_same places new ss h row grows)
+
+  pub items_admitted : (base base' : List BasisEntry) (old : List LogItem) (ss zs : List (Sighted Item)) (s : Sighted Item) (r : Option R) (b : Bool)
+      → base' ≡ base → items_of base (shown_in ss) ≡ old → is_some r ≡ not b
+      → MatchOption r (zs ≡ ss ++ s ∷ []) (λ _. zs ≡ ss)
+      → MatchBool b ((x : LogItem) × (items_of base' (shown_in zs) ≡ old ++ x ∷ [])) (items_of base' (shown_in zs) ≡ old)
+  items_admitted base base' old ss zs s None true rows seen e is = (shown s.value, rw (rows, is, ← seen) (items_one_more base ss s))
+  items_admitted base base' old ss zs s None false rows seen e is = absurd cc
+  items_admitted base base' old ss zs s (Some x) true rows seen e is = absurd cc
+  items_admitted base base' old ss zs s (Some x) false rows seen e is = rw (rows, is) seen

@@ -18,12 +18,12 @@ pub full_length : (ss : Segments) → AreFull ss → length (cells_of ss) ≡ 25
 full_length [] h = refl
 full_length (s ∷ ss) h = omega (arith, full_length ss h.1, h.0, length-append s.value (cells_of ss))
 
-read_first : {X : Type 0} (xs ys : List X) (i : ℕ) → i < length xs → slice_get (xs ++ ys) i ≡ slice_get xs i
+pub read_first : {X : Type 0} (xs ys : List X) (i : ℕ) → i < length xs → slice_get (xs ++ ys) i ≡ slice_get xs i
 read_first [] ys i lt = absurd (omega (arith, lt))
 read_first (x ∷ xs) ys zero lt = refl
 read_first (x ∷ xs) ys (suc i) lt = read_first xs ys i (omega (arith, lt))
 
-read_rest : {X : Type 0} (xs ys : List X) (i j : ℕ) → j ≡ length xs + i → slice_get (xs ++ ys) j ≡ slice_get ys i
+pub read_rest : {X : Type 0} (xs ys : List X) (i j : ℕ) → j ≡ length xs + i → slice_get (xs ++ ys) j ≡ slice_get ys i
 read_rest [] ys i j e = ap (slice_get ys) (omega (arith, e))
 read_rest (x ∷ xs) ys i zero e = absurd (omega (arith, e))
 read_rest (x ∷ xs) ys i (suc j) e = read_rest xs ys i j (omega (arith, e))

@@ -3,7 +3,7 @@
 ghost use Rattle.std.specs.Bool.{MatchBool};
 ghost use Rattle.std.specs.List.{AllByRecursion};
 ghost use Rattle.std.specs.Prelude.{◌≡◌, ◌≢◌, ◌≤◌, ◌<◌, ◌^◌, ◌++◌, ◌∷◌, [], max, true, false, length, Some, None, slice_get};
-ghost use Rattle.std.specs.Prelude.{IfOk, IfErr, OnErr, IsErr, IsTrue, IsFalse, MatchOption};
+ghost use Rattle.std.specs.Prelude.{IfOk, IfErr, IfSome, OnErr, IsErr, IsTrue, MatchOption};
 ghost use Rattle.std.specs.Arc.{arc_value};
 ghost use Rattle.std.specs.Vec.{vec_capacity};
 ghost use mathlib.Core.List.{IsPrefix};
@@ -219,9 +219,10 @@ fn admit<'r>(
     requires items { AreItems (row_source row.now) (shown_in seen.old.items) }
     requires unsealed { seal_of (shown_in seen.old.items) ≡ None }
     ensures items { AreItems (row_source row.now) (shown_in seen.new.items) }
-    ensures is { MatchOption result ((seen.new.items ≡ seen.old.items ++ sight.entry ∷ [])
-        × (item_source (shown sight.entry.value) ≡ row_source row.now)) (λ held. (seen.new.items ≡ seen.old.items)
-        × (held.now ≡ sight.entry.value) × (item_source (shown held.now) ≢ row_source row.now)) }
+    ensures is { MatchOption result (seen.new.items ≡ seen.old.items ++ sight.entry ∷ [])
+        (λ _. seen.new.items ≡ seen.old.items) }
+    ensures held { IfSome result (λ held. (held.now ≡ sight.entry.value)
+        × (item_source (shown held.now) ≢ row_source row.now)) }
     ensures capacity { vec_capacity seen.new ≡ vec_capacity seen.old }
 {
     let item = sight.value();

@@ -8,7 +8,7 @@ use Rattle.basis_log.proofs.seats.Seat.sealed.Goals as goal
 
 pub last_seal-requires : goal.last_seal-requires
 last_seal-requires c =
-    let items = record { source = row_source c.self.inside.places.row; items = c.self.invariant.0.items } in
+    let items : AreSomeItems (shown_in c.self.inside.seen.items) = record { source = row_source c.self.inside.places.row; items = c.self.invariant.0.items } in
     subst (λ ss. AreSomeItems (shown_in ss)) (sym c.as_slice.ensures.value) items
 
 pub returns : goal.returns
