@@ -30,7 +30,8 @@ items_more p (LogItem.an_entry e ∷ xs) x h unsealed is of = (h.0, h.1, items_m
 items_more p (LogItem.a_seal s ∷ xs) x h unsealed is of = absurd (let e = unsealed in cc)
 
 -- ---- what is read of items
-counted : (p : Presented) (xs : List LogItem) (s : Option Seal) → seal_of xs ≡ s → AreItems p xs → item_count (entries_of xs) s ≡ length xs
+-- where the seal is known
+pub counted : (p : Presented) (xs : List LogItem) (s : Option Seal) → seal_of xs ≡ s → AreItems p xs → item_count (entries_of xs) s ≡ length xs
 counted p [] None e h = refl
 counted p [] (Some s) e h = absurd (let q = e in cc)
 counted p (LogItem.an_entry x ∷ xs) None e h = ap suc (counted p xs None e h.2)

@@ -14,8 +14,11 @@ impl<'r> VecList for Seat<'r> {
     ghost vectors = { λ s. vectors_of (entries_of s.items) };
 
     fn count(&self) -> u32 {
-        let seals = if self.sealed().is_some() { 1 } else { 0 };
-        Seat::front(self) - seals
+        let front = Seat::front(self);
+        match Seat::sealed(self) {
+            Some(_) => front - 1,
+            None => front,
+        }
     }
 
     fn vector(&self, at: u32) -> &ModVec {
