@@ -1,5 +1,6 @@
 -- Generator entries as the base of a row.
-use Rattle.std.proofs.Common.{◌≡◌, ◌≢◌, ℕ, zero, suc, ◌+◌, ◌*◌, ◌<◌, ◌≤◌, ◌^◌, Bool, true, false, MatchBool, negsuc, ℤ, List, [], ◌∷◌, length, Contains, Some, refl, sym, ap, ◌∙◌, arith, subst, inl, inr, ◌⊎◌}
+use Rattle.std.proofs.Common.{◌≡◌, ◌≢◌, ℕ, zero, suc, ◌+◌, ◌*◌, ◌<◌, ◌≤◌, ◌^◌, Bool, true, false, MatchBool, negsuc, ℤ, List, [], ◌∷◌, length, Contains}
+use Rattle.std.proofs.Common.{Some, refl, sym, ap, ◌∙◌, arith, subst, inl, inr, ◌⊎◌}
 use Rattle.std.proofs.lemmas.List.{length-map}
 use Rattle.std.proofs.lemmas.List.Elements.{All-from_recursion, All-contains}
 use Rattle.std.proofs.lemmas.Option.{slice_get_within}
@@ -40,7 +41,7 @@ base_is_some p es known base =
     let unit = binomial (unit_monomial 0) 0 in
     let listed = is_candidate p unit (IsGenerator.unit_binomial 0 0 known.some_name known.some_name) in
     elim (written (candidates p) base.gens base.generators unit listed) [
-      inl z ↦ absurd (unit_is_not_zero z)
+      | inl z ↦ absurd (unit_is_not_zero z)
       | inr w ↦ (let lt = w.below in omega (arith, lt, base.count))
     ]
 
@@ -84,7 +85,7 @@ base_entries p es known base = all_by IsBasisEntry es (λ i e at.
     let g = vector_at base.gens i in
     let o = origin (IsGenerator p) (candidates p) base.gens base.generators (candidates_are p) i lt in
     entry_of p i g e (base.each i e at) (is_vector p o.from g known o.has o.is) (generator_some p base.gens base.generators i lt)
-        (generator_member p base.gens base.generators i lt) (generator_over p base.gens known base.generators i lt))
+    (generator_member p base.gens base.generators i lt) (generator_over p base.gens known base.generators i lt))
 
 -- ---- rows
 base_source : (p : Presented) (es : List BasisEntry) → 0 < length es → AreOf p es → p ≡ source_of es

@@ -1,5 +1,6 @@
 -- Lists that begin with others.
-use Rattle.std.proofs.Common.{◌≡◌, ℕ, zero, suc, ◌<◌, ◌≤◌, ◌⊎◌, inl, inr, min, max, List, [], ◌∷◌, ◌++◌, length, take, drop, map, Option, Some, refl, sym, ap, ◌∙◌, arith, slice_index_or}
+use Rattle.std.proofs.Common.{◌≡◌, ℕ, zero, suc, ◌<◌, ◌≤◌, ◌⊎◌, inl, inr, min, max, List, [], ◌∷◌, ◌++◌, length, take, drop, map, Option, Some, refl, sym}
+use Rattle.std.proofs.Common.{ap, ◌∙◌, arith, slice_index_or}
 use Rattle.std.proofs.lemmas.List.{append-nil, append_assoc, length-append, map-append}
 use Rattle.std.specs.Prelude.{slice_get}
 use mathlib.Core.List.{IsPrefix}
@@ -35,7 +36,7 @@ module _ {X : Type 0} where
   prefixes_agree (x ∷ xs) (y ∷ ys) (z ∷ zs) a b =
       let e = prefix_head x z xs zs a ∙ sym (prefix_head y z ys zs b) in
       elim (prefixes_agree xs ys zs (prefix_tail x z xs zs a) (prefix_tail y z ys zs b)) [
-        inl h ↦ inl (prefix_cons x y xs ys e h)
+        | inl h ↦ inl (prefix_cons x y xs ys e h)
         | inr h ↦ inr (prefix_cons y x ys xs (sym e) h)
       ]
 
@@ -56,7 +57,7 @@ module _ {X : Type 0} where
       let head : x ≡ y = cc in
       let tail : take n xs ≡ take n ys = cc in
       elim (taken_agree n xs ys tail (omega (arith, le))) [
-        inl h ↦ inl (prefix_cons x y xs ys head h)
+        | inl h ↦ inl (prefix_cons x y xs ys head h)
         | inr h ↦ inr (prefix_cons y x ys xs (sym head) h)
       ]
 

@@ -58,8 +58,7 @@ impl Item {
 fn same_seal(seal: &Sealed, other: &Sealed) -> bool
     ensures { IsTrue result ↔ (seal.now ≡ other.now) }
 {
-    same_entries(seal.entries(), other.entries())
-        && seal.presentation().same(other.presentation())
+    same_entries(seal.entries(), other.entries()) && seal.presentation().same(other.presentation())
 }
 
 /// Whether the entries are the others, in their order.

@@ -1,6 +1,7 @@
 //! `Places`: where the cells of a row stand.
 
-ghost use Rattle.std.specs.Prelude.{◌≡◌, ◌≢◌, ◌↔◌, ◌+◌, ◌%◌, ◌<◌, ◌≤◌, [], length, Some, None, slice_get, IfOk, IfSome, IfNone, IsTrue};
+ghost use Rattle.std.specs.Prelude.{◌≡◌, ◌≢◌, ◌↔◌, ◌+◌, ◌%◌, ◌<◌, ◌≤◌, [], length, Some, None, slice_get, IfOk};
+ghost use Rattle.std.specs.Prelude.{IfSome, IfNone, IsTrue};
 ghost use mathlib.Core.List.{IsPrefix};
 ghost use Rattle.once_cell.specs.Once.{cell_name};
 ghost use Rattle.basis_log.specs.Places.{Placed, cells_of};
@@ -51,15 +52,16 @@ impl<'r> Places<'r> {
         self.row
     }
 
-    /// The cell with this number, which is at most one past the cells of the segments seen. Where its segment wasn't seen
-    /// before, the directory is read. `None` where the directory doesn't hold the segment.
+    /// The cell with this number, which is at most one past the cells of the segments seen. Where its segment wasn't
+    /// seen before, the directory is read. `None` where the directory doesn't hold the segment.
     pub(crate) fn cell(&mut self, at: u32) -> Option<&'r OnceBox<Item>>
         requires some { at < self.old.row.cells }
         requires next { at ≤ length (cells_of self.old.segments) }
         ensures row { self.new.row ≡ self.old.row }
         ensures grows { IsPrefix (cells_of self.old.segments) (cells_of self.new.segments) }
         ensures cell { IfSome result (λ c. slice_get (cells_of self.new.segments) at ≡ Some (cell_name c.now)) }
-        ensures none { IfNone result ((self.new ≡ self.old) × (at ≡ length (cells_of self.old.segments)) × (at % CELLS ≡ 0)) }
+        ensures none { IfNone result ((self.new ≡ self.old) × (at ≡ length (cells_of self.old.segments))
+            × (at % CELLS ≡ 0)) }
     {
         if !self.holds(at) {
             let sight = Sight::read(self.next(at))?;
@@ -68,8 +70,8 @@ impl<'r> Places<'r> {
         Some(self.seen(at))
     }
 
-    /// As `cell`, but where the directory doesn't hold the segment, the spare one is set there, if there is one. It stays
-    /// spare where another one was set meanwhile.
+    /// As `cell`, but where the directory doesn't hold the segment, the spare one is set there, if there is one. It
+    /// stays spare where another one was set meanwhile.
     pub(crate) fn cell_or_set(
         &mut self,
         at: u32,
@@ -99,10 +101,7 @@ impl<'r> Places<'r> {
         ensures same { (self.new ≡ self.old) × (other.new ≡ other.old) }
         ensures agree { Agree self.old.segments other.old.segments }
     {
-        sights::agree(
-            self.segments.as_mut_slice(),
-            other.segments.as_mut_slice(),
-        );
+        sights::agree(self.segments.as_mut_slice(), other.segments.as_mut_slice());
     }
 
     /// Takes over the segments that another has seen.

@@ -16,8 +16,8 @@ use std::alloc::{AllocError, Global};
 use std::marker::Model;
 use std::sync::Arc;
 
-/// The generator entries of a presentation, and cells after them that are each set once. The cells stand in segments, which
-/// the cells of a directory hold. A cell whose segment the directory doesn't hold isn't set.
+/// The generator entries of a presentation, and cells after them that are each set once. The cells stand in segments,
+/// which the cells of a directory hold. A cell whose segment the directory doesn't hold isn't set.
 #[derive(Drop)]
 pub struct Row {
     base: Vec<Arc<Entry>>,

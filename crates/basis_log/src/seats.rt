@@ -2,7 +2,8 @@
 
 ghost use Rattle.std.specs.Bool.{MatchBool};
 ghost use Rattle.std.specs.List.{AllByRecursion};
-ghost use Rattle.std.specs.Prelude.{◌≡◌, ◌≢◌, ◌≤◌, ◌<◌, ◌^◌, ◌++◌, ◌∷◌, [], max, true, false, length, Some, None, slice_get};
+ghost use Rattle.std.specs.Prelude.{◌≡◌, ◌≢◌, ◌≤◌, ◌<◌, ◌^◌, ◌++◌, ◌∷◌, [], max, true, false, length, Some, None};
+ghost use Rattle.std.specs.Prelude.{slice_get};
 ghost use Rattle.std.specs.Prelude.{IfOk, IfErr, IfSome, OnErr, IsErr, IsTrue, MatchOption};
 ghost use Rattle.std.specs.Arc.{arc_value};
 ghost use Rattle.std.specs.Vec.{vec_capacity};
@@ -23,8 +24,8 @@ use std::alloc::{AllocError, Global};
 use std::marker::Model;
 use std::sync::Arc;
 
-/// A caller's view of a row: the generator entries, and the items that it has seen in the cells after them, in order. Its
-/// list grows by its own calls alone, and what stands in it never changes.
+/// A caller's view of a row: the generator entries, and the items that it has seen in the cells after them, in order.
+/// Its list grows by its own calls alone, and what stands in it never changes.
 #[derive(Drop)]
 pub struct Seat<'r> {
     places: Places<'r>,
@@ -104,8 +105,8 @@ impl<'r> Seat<'r> {
         }
     }
 
-    /// Reads cells after the list's items until it finds one that isn't set, that holds an item of another presentation, or
-    /// until the list ends with a seal. Answers the number of items that the list then has.
+    /// Reads cells after the list's items until it finds one that isn't set or that holds an item of another
+    /// presentation, or until the list ends with a seal. Answers the number of items that the list then has.
     pub fn look(&mut self) -> u32
         ensures row { self.new.row ≡ self.old.row }
         ensures spare { self.new.spare ≡ self.old.spare }
@@ -169,8 +170,8 @@ impl<'r> Seat<'r> {
         self.spare.is_some()
     }
 
-    /// Sets the cell after the list's items to the item, which is of the row's presentation; the list has no seal. After Ok
-    /// the item stands in the list. Where the cell's segment isn't made, the spare one is taken for it.
+    /// Sets the cell after the list's items to the item, which is of the row's presentation; the list has no seal.
+    /// After Ok the item stands in the list. Where the cell's segment isn't made, the spare one is taken for it.
     pub fn publish(&mut self, item: Box<Item>) -> Result<(), Refused<'r>>
         requires unsealed { seal_of self.old.items ≡ None }
         requires source { item_source (shown item.value) ≡ row_source self.old.row }
@@ -209,12 +210,8 @@ pub fn agree(seat: &mut Seat<'_>, other: &mut Seat<'_>)
     sights::agree(seat.seen.as_mut_slice(), other.seen.as_mut_slice());
 }
 
-/// Puts what was seen in the next cell at the end of the list, where it is of the row's presentation, and else shows it.
-fn admit<'r>(
-    seen: &mut Vec<Sight<'r, Item>>,
-    row: &Row,
-    sight: Sight<'r, Item>,
-) -> Option<&'r Item>
+/// Puts what was seen in the next cell at the end of the list if it is of the row's presentation, and else shows it.
+fn admit<'r>(seen: &mut Vec<Sight<'r, Item>>, row: &Row, sight: Sight<'r, Item>) -> Option<&'r Item>
     requires room { length seen.old.items < vec_capacity seen.old }
     requires items { AreItems (row_source row.now) (shown_in seen.old.items) }
     requires unsealed { seal_of (shown_in seen.old.items) ≡ None }

@@ -9,7 +9,7 @@ agree-requires-2 c =
     let mine = c.seat.inside in
     let theirs = c.other.inside in
     let both = cells_agree (cells_in mine.seen.items) (cells_in theirs.seen.items) mine.places.segments theirs.places.segments c.seat.invariant.0.cells
-        c.other.invariant.0.cells c.agree.ensures.agree in
+    c.other.invariant.0.cells c.agree.ensures.agree in
     rw (c.as_mut_slice.ensures.value, c.as_mut_slice-2.ensures.value) both
 
 pub returns-clause-agree : goal.returns-clause-agree

@@ -9,9 +9,8 @@ use Rattle.basis_log.proofs.places.Places.push.Goals as goal
 pub invariant_of-self : goal.invariant_of-self
 invariant_of-self c =
     let next : slice_get c.self.inside.row.now.directory (length c.self.inside.segments.items) ≡ Some c.args.sight.cell =
-        rw (ap (λ p. p.row.directory) c.self.view_is, ap (λ p. length p.segments) c.self.view_is) c.requires in
-    let full = sym (ap length c.value.ensures) ∙ c.known.ensures in
-    (
+    rw (ap (λ p. p.row.directory) c.self.view_is, ap (λ p. length p.segments) c.self.view_is) c.requires in
+    let full = sym (ap length c.value.ensures) ∙ c.known.ensures in (
       rw (c.push_reserved.ensures.items) (placed_more c.self.inside.row.now.directory c.self.inside.segments.items c.args.sight c.self.invariant.0 next full),
       rw (c.push_reserved.ensures.capacity) c.self.invariant.1,
     )
@@ -25,5 +24,6 @@ pub returns-clause-longer : goal.returns-clause-longer
 returns-clause-longer c =
     let more = ap (λ l. length (cells_of l)) c.push_reserved.ensures.items ∙ ap length (cells_more c.self.inside.segments.items c.args.sight) in
     let full = sym (ap length c.value.ensures) ∙ c.known.ensures in
-    let old : length (cells_of c.self.inside.segments.items) ≡ length (cells_of c.args.self.now.segments) = ap (λ p. length (cells_of p.segments)) c.self.view_is in
+    let old : length (cells_of c.self.inside.segments.items) ≡ length (cells_of c.args.self.now.segments) =
+          ap (λ p. length (cells_of p.segments)) c.self.view_is in
     omega (arith, more, full, old, length-append (cells_of c.self.inside.segments.items) c.args.sight.value)

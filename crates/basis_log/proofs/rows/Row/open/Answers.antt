@@ -10,4 +10,4 @@ invariant_of-result c =
     let n = length-map c.args.base.items arc_value in
     let m = length-map c.in_ok-directory.directory.items cell_name in
     row_of (map arc_value c.args.base.items) c.args.cells (map cell_name c.in_ok-directory.directory.items) c.requires.base
-        (omega (arith, n, c.requires.few)) (omega (arith, m, c.in_ok-directory.ensures))
+    (omega (arith, n, c.requires.few)) (omega (arith, m, c.in_ok-directory.ensures))

@@ -36,10 +36,10 @@ returns-in-Some c =
     let whole : entries_of c.args.self.now.items ≡ base ++ entries_of xs = sym (ap (λ s. entries_of s.items) c.self.view_is) ∙ entries_after base xs in
     let rows = c.base-base.ensures.is ∙ ap (λ r. r.base) c.row.ensures ∙ sym (ap (λ s. s.row.base) c.self.view_is) in
     let read : slice_get c.base-base.result.now c.args.at ≡ Some c.in-Some.entry.now =
-        slice_get_read c.base-base.result.now _ c.args.at c.in-Some.entry.now refl c.in-Some.ensures.lookup.3.0 c.in-Some.ensures.lookup.1 in
+    slice_get_read c.base-base.result.now _ c.args.at c.in-Some.entry.now refl c.in-Some.ensures.lookup.3.0 c.in-Some.ensures.lookup.1 in
     let here : slice_get base c.args.at ≡ Some (arc_value c.in-Some.entry.now) =
-        sym (ap (λ (es : List BasisEntry). slice_get es c.args.at) rows)
-        ∙ (slice_get-map arc_value c.base-base.result.now c.args.at ∙ ap (option_map arc_value) read) in
+    sym (ap (λ (es : List BasisEntry). slice_get es c.args.at) rows)
+    ∙ (slice_get-map arc_value c.base-base.result.now c.args.at ∙ ap (option_map arc_value) read) in
     ap (λ (es : List BasisEntry). slice_get es c.args.at) whole ∙ (read_first base (entries_of xs) c.args.at (slice_get_within base c.args.at _ here) ∙ here)
 
 pub returns-in-None : goal.returns-in-None
@@ -52,5 +52,6 @@ returns-in-None c =
     let past : length c.base-base.result.now ≤ c.args.at = search rules in
     let there = read_rest base (entries_of xs) (c.args.at - length c.base-base.result.now) c.args.at (omega (arith, n, past)) in
     let here : slice_get (entries_of xs) (c.args.at - length c.base-base.result.now) ≡ Some (arc_value c.entry_in.result.now) =
-        subst (λ ss. slice_get (entries_of (shown_in ss)) (c.args.at - length c.base-base.result.now) ≡ Some (arc_value c.entry_in.result.now)) c.as_slice.ensures.value c.entry_in.ensures in
+    subst (λ ss. slice_get (entries_of (shown_in ss)) (c.args.at - length c.base-base.result.now)
+      ≡ Some (arc_value c.entry_in.result.now)) c.as_slice.ensures.value c.entry_in.ensures in
     ap (λ (es : List BasisEntry). slice_get es c.args.at) whole ∙ (there ∙ here)

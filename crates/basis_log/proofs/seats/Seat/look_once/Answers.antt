@@ -21,13 +21,13 @@ invariant_of-self-2 c =
     let new = c.cell.new.self in
     let n : c.len-at.result ≡ length ss = search rules in
     let at : slice_get (cells_of new.segments) (length ss) ≡ Some c.in-Some-read.sight.cell =
-        ap (slice_get (cells_of new.segments)) (sym n) ∙ (c.in-Some.ensures.cell ∙ ap Some (sym c.in-Some-read.ensures)) in
+    ap (slice_get (cells_of new.segments)) (sym n) ∙ (c.in-Some.ensures.cell ∙ ap Some (sym c.in-Some-read.ensures)) in
     let lt : length ss < places.row.cells =
-        omega (arith, n, c.if-at-cells.false, c.cells.ensures, ap (λ r. r.cells) c.row.ensures, ap (λ s. s.row.cells) c.self.view_is) in
+    omega (arith, n, c.if-at-cells.false, c.cells.ensures, ap (λ r. r.cells) c.row.ensures, ap (λ s. s.row.cells) c.self.view_is) in
     let items : AreItems (row_source new.row) (shown_in c.admit.new.seen.items) =
-        subst (λ r. AreItems (row_source r) (shown_in c.admit.new.seen.items)) c.row-2.ensures c.admit.ensures.items in
-    (
-      seat_admitted places new ss c.admit.new.seen.items c.in-Some-read.sight c.admit.result c.self.invariant.0 c.cell.ensures.row c.cell.ensures.grows at lt items
+    subst (λ r. AreItems (row_source r) (shown_in c.admit.new.seen.items)) c.row-2.ensures c.admit.ensures.items in (
+      seat_admitted places new ss c.admit.new.seen.items c.in-Some-read.sight c.admit.result c.self.invariant.0 c.cell.ensures.row
+        c.cell.ensures.grows at lt items
           c.admit.ensures.is,
       rw (c.cell.ensures.row, c.admit.ensures.capacity) c.self.invariant.1,
     )
@@ -35,5 +35,6 @@ invariant_of-self-2 c =
 pub returns-clause-items : goal.returns-clause-items
 returns-clause-items c =
     let places = c.self.inside.places in
-    items_admitted places.row.base c.cell.new.self.row.base c.args.self.now.items c.self.inside.seen.items c.admit.new.seen.items c.in-Some-read.sight c.admit.result
-        c.is_none.result (ap (λ r. r.base) c.cell.ensures.row) (ap (λ s. s.items) c.self.view_is) c.is_none.ensures c.admit.ensures.is
+    items_admitted places.row.base c.cell.new.self.row.base c.args.self.now.items c.self.inside.seen.items c.admit.new.seen.items c.in-Some-read.sight
+      c.admit.result
+    c.is_none.result (ap (λ r. r.base) c.cell.ensures.row) (ap (λ s. s.items) c.self.view_is) c.is_none.ensures c.admit.ensures.is
