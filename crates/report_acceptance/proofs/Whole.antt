@@ -34,7 +34,7 @@ use Rattle.report_text.specs.Answers.{to_show, IsOpen, IsClosing, IsSessionAnswe
 use Rattle.report_text.specs.Reports.{Reported, IsReportable, IsHistoryOf, IsReplied, AreFrom, text_of}
 use Rattle.report_acceptance.specs.Accepting.{IsKnown}
 use Rattle.report_acceptance.specs.Saying.{entry_data, replies_at, closing_replies, data_of, IsReadBack}
-use Rattle.cert_checker.proofs.Images.{none_long}
+use Rattle.session_text.proofs.ShortImages.{none_long}
 use Rattle.report_acceptance.proofs.Verdicts.{count_is}
 use Rattle.report_acceptance.proofs.Sessions.{IsTold, IsSessionTold}
 use Rattle.report_acceptance.proofs.Generating.{some_generator}

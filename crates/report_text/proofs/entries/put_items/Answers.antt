@@ -18,7 +18,7 @@ returns-in_err-put_entry-clause-text g c = λ ts are.
     let lt : c.loop-number.number < length c.args.log.now.entries = search rules in
     rw p.1 (entry_stops c.args.log.now.pres c.args.log.now.entries c.args.log.now.seal ts c.loop-number.number
     c.deref.result.now read lt (g.K.Sink.taken c.args.out.now) (g.K.Sink.taken c.loop-number.out) (g.K.Sink.taken c.put_entry.new.out)
-    (c.loop-number.invariant.text ts are) c.in_err-put_entry.ensures.text)
+    (c.loop-number.invariant.text ts are) (rw c.pres.ensures.is at c.in_err-put_entry.ensures.text))
 
 pub returns-in_err-put_live_at-clause-text : goal.returns-in_err-put_live_at-clause-text
 returns-in_err-put_live_at-clause-text g c = λ ts are.
@@ -34,7 +34,7 @@ returns-in_err-put_live_at-clause-text g c = λ ts are.
     (told_after ts c.args.log.now.entries c.args.log.now.seal (c.loop-number.number + 1)))
     (entry_goes_on c.args.log.now.pres c.args.log.now.entries c.args.log.now.seal ts c.loop-number.number
     c.deref.result.now read lt (g.K.Sink.taken c.args.out.now) (g.K.Sink.taken c.loop-number.out) (g.K.Sink.taken c.put_entry.new.out)
-    (c.loop-number.invariant.text ts are) c.in_ok-put_entry.ensures.text)
+    (c.loop-number.invariant.text ts are) (rw c.pres.ensures.is at c.in_ok-put_entry.ensures.text))
     (c.in_err-put_live_at.ensures.text ts are))
 
 pub loop-number-preserved : goal.loop-number-preserved
@@ -51,7 +51,7 @@ loop-number-preserved g c =
           (told_after ts c.args.log.now.entries c.args.log.now.seal (c.loop-number.number + 1)))
           (entry_goes_on c.args.log.now.pres c.args.log.now.entries c.args.log.now.seal ts c.loop-number.number
           c.deref.result.now read lt (g.K.Sink.taken c.args.out.now) (g.K.Sink.taken c.loop-number.out) (g.K.Sink.taken c.put_entry.new.out)
-          (c.loop-number.invariant.text ts are) c.in_ok-put_entry.ensures.text)
+          (c.loop-number.invariant.text ts are) (rw c.pres.ensures.is at c.in_ok-put_entry.ensures.text))
           (c.in_ok-put_live_at.ensures.text ts are);
       later = omega (arith, c.loop-number.invariant.later, c.in_ok-put_entry.ensures.counts, c.in_ok-put_live_at.ensures.counts);
     }
