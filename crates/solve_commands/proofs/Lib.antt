@@ -3,4 +3,5 @@ mod Generated
 pub mod SessionFiles
 mod Settling
 mod SoloFound
+mod SoloWords
 pub mod Settled

@@ -28,6 +28,7 @@ pub struct SoloWords<'a> {
 }
 
 /// What `solo` is asked by what is given behind its name, if that is of its form.
+#[tactic(auto, using(crate::proofs::SoloWords::entries_least, crate::proofs::SoloWords::entries_most))]
 pub fn words<'a>(alloc: Global, given: &Given<'a>) -> Result<Option<SoloWords<'a>>, AllocError>
     requires { AreInRange given.now.settings }
     ensures is { IfOk result (λ words. option_map solo_asked words ≡ solo_in (shown_given given.now)) }
