@@ -20,7 +20,7 @@ use Rattle.strong_pairs.specs.Tasks.{AreStepsAt}
 use Rattle.strong_pairs.proofs.Shifted.{taken_is, shifted_lead}
 use Rattle.strong_pairs.proofs.Entered.{lead_positive}
 use Rattle.strong_pairs.proofs.Chaining.{meeting, first-length, second-length}
-use Rattle.pair_book.specs.Logs.{IsPairRecipe, IsFromPair, StandsFor, turned}
+use Rattle.pair_work.specs.Recipes.{IsPairRecipe, IsFromPair, StandsFor, turned}
 
 -- ---- the monomials
 
