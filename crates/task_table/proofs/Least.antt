@@ -12,7 +12,8 @@ use Rattle.task_table.specs.Inner.{IsHint}
 use Rattle.task_table.proofs.Counting.{number_within}
 use Rattle.task_table.proofs.Ordering.{before_number}
 
-pub least_at : (wanted : Wanted) (entries : List (List Term)) (table : Table) (hint : Hint) (t : Task) → table.order ≡ ByNumber → IsHint wanted table.states hint →
+pub least_at : (wanted : Wanted) (entries : List (List Term)) (table : Table) (hint : Hint) (t : Task) → table.order ≡ ByNumber
+  → IsHint wanted table.states hint →
     is_wanted wanted (state_at table.states hint.number) ≡ true → hint.row < table.count → number_of t ≡ hint.number → IsTask (hint.row + 1) t
     → IsLeast wanted entries table t
 least_at wanted entries table hint t by h is row number task = record {

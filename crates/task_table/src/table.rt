@@ -6,7 +6,8 @@ ghost use Rattle.module_vec.specs.Reducers.{IsEntry};
 ghost use Rattle.task_table.specs.declared.order.Order.TheVariants.{ByNumber, ByCost};
 ghost use Rattle.task_table.specs.declared.TheConstants.{ENTRIES as MOST};
 ghost use Rattle.task_table.specs.Tasks.{IsTask};
-ghost use Rattle.task_table.specs.Tables.{IsTable, IsOver, Takes, FindsLeast, empty, put, reopen, reopened_count, state_of};
+ghost use Rattle.task_table.specs.Tables.{IsTable, IsOver, Takes, FindsLeast, empty, put, reopen, reopened_count};
+ghost use Rattle.task_table.specs.Tables.{state_of};
 ghost use Rattle.task_table.specs.Rows.{grown};
 
 use crate::Order;
@@ -138,8 +139,8 @@ impl TaskTable {
         }
     }
 
-    /// The least task with a wanted state, or `None` where there is none. The list has the entries' vectors. By cost all
-    /// states are gone through.
+    /// The least task with a wanted state, or `None` where there is none. The list has the entries' vectors. By cost
+    /// all states are gone through.
     pub fn least<L: VecList>(&self, list: &L, wanted: Wanted) -> Option<Task>
         requires { IsOver (L.vectors list.now) self.now }
         ensures { FindsLeast wanted (L.vectors list.now) self.now result }

@@ -42,7 +42,8 @@ invariant_of-self c =
       unclosed_hint = subst (λ (ss : List TaskState). IsHint Unclosed ss c.self.inside.unclosed_hint) (sym e) h.0;
       costs_capacity = let z = c.queue_anew.ensures.same.1 in omega (arith, z, c.self.invariant.costs_capacity);
       queued = record {
-        tasks = λ by. subst (λ (qs : List Profile). AreQueued qs (take c.self.inside.states.len (new ++ drop (length new) items)) c.queue_anew.new.costs.queue.numbers)
+        tasks = λ by. subst (λ (qs : List Profile). AreQueued qs (take c.self.inside.states.len (new ++ drop (length new) items))
+          c.queue_anew.new.costs.queue.numbers)
             (sym c.queue_anew.ensures.same.0)
             (subst (λ (ss : List TaskState). AreQueued c.self.inside.costs.profiles ss c.queue_anew.new.costs.queue.numbers) c.deref.ensures.value
             (c.queue_anew.ensures.queued by));

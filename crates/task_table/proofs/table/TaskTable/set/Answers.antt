@@ -37,7 +37,8 @@ invariant_of-self c =
           let numbers = c.requeue.new.costs.queue.numbers in
           let items = c.self.inside.states.items in
           let value = c.deref.ensures.value ∙ ap (λ (n : ℕ). slice_set items n c.args.state) c.number-at.ensures in record {
-            tasks = λ by. subst (λ (qs : List Profile). AreQueued qs (slice_set items (number_of c.args.task) c.args.state) numbers) (sym c.requeue.ensures.same.0)
+            tasks = λ by. subst (λ (qs : List Profile). AreQueued qs (slice_set items (number_of c.args.task) c.args.state) numbers)
+              (sym c.requeue.ensures.same.0)
                 (subst (λ (ss : List TaskState). AreQueued ps ss numbers) value (c.requeue.ensures.queued by));
             room = λ by. let r = c.self.invariant.queued.room by in omega (arith, r, c.requeue.ensures.room);
           };
