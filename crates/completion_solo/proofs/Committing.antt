@@ -169,7 +169,7 @@ module _ (mid new : Held) (t : Task) (b : IsBook mid) (hand : IsInHand mid t) (n
     longer = ap (λ (h : Held). h.entries) f.is
 
     abbrev row : Table
-    row = grown mid.tasks (settled_row mid.entries e.vector)
+    row = grown mid.tasks (settled_row mid.entries e.vector) e.vector
 
     table_row : IsTable row
     table_row = let n = b.count in let r = b.room in table_grown mid.tasks mid.entries e.vector b.table b.count (omega (arith, n, r, few))

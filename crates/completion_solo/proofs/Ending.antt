@@ -26,12 +26,12 @@ use Rattle.pair_work.specs.declared.outcome.Close.{Close}
 use Rattle.pair_work.specs.declared.outcome.Close.TheVariants.{Covered, Zero, Rest}
 use Rattle.pair_book.specs.declared.faults.CommitFault.{CommitFault}
 use Rattle.pair_book.specs.declared.faults.CommitFault.TheVariants as faults
-use Rattle.pair_book.specs.Books.{Held, IsBook, IsSealed, IsSealedBy, GivesBack, with_state}
+use Rattle.pair_book.specs.Books.{Held, IsBook, IsSealed, IsSealedBy, TakesTask, GivesBack, with_state}
 use Rattle.pair_book.specs.Commits.{Refuses, OnRest, Passes, IsStranger, IsFresh, IsLeadDivisor}
 use Rattle.pair_book.specs.Logs.{NoneDivides}
 use Rattle.pair_work.specs.Outcomes.{Worked, AllThere}
 use Rattle.pair_work.specs.Works.{Works, ClosesAs, LeavesRest}
-use Rattle.pair_book.proofs.Keeping.{task_in, task_out, book_reopened}
+use Rattle.pair_book.proofs.Keeping.{task_in, task_out, open_unclosed, book_reopened}
 use Rattle.pair_book.proofs.Strength.{strong}
 use Rattle.reducer_index.specs.Leads.{AreLeads}
 use Rattle.completion_solo.specs.Ends.{IsFull, IsSpent, IsTaskOf, IsTrulyClosed, AreClosedBefore, StopsAt}
@@ -60,12 +60,16 @@ closed_before h b t first u k goes = truly h b u k (first.before u (task_in h u 
 unclosed_task : (h : Held) → IsBook h → (t : Task) → IsFirstUnclosed h t → IsTaskOf h.entries t
 unclosed_task h b t first = task_of h b t (task_out h t b first.task) (unclosed_not_never (state_of h.tasks t) first.is)
 
-no_seal : (h : Held) (t : Task) (seal : Option Seal) → IsFirstUnclosed h t → IsSealedBy h seal → seal ≡ None
-no_seal h t None first is = refl
-no_seal h t (Some s) first (is, none) = absurd (not_both (is_unclosed (state_of h.tasks t)) first.is (none t first.task))
+no_seal : (h : Held) (t : Task) (seal : Option Seal) → IsTask h.tasks.count t → is_unclosed (state_of h.tasks t) ≡ true → IsSealedBy h seal → seal ≡ None
+no_seal h t None task is by = refl
+no_seal h t (Some s) task is (by, none) = absurd (not_both (is_unclosed (state_of h.tasks t)) is (none t task))
 
 pub unsealed : (h : Held) → IsBook h → (t : Task) → IsFirstUnclosed h t → h.seal ≡ None
-unsealed h b t first = no_seal h t h.seal first b.seal
+unsealed h b t first = no_seal h t h.seal first.task first.is b.seal
+
+-- a book with an open task isn't sealed
+pub unsealed_open : (h : Held) → IsBook h → (t : Task) (mid : Held) → TakesTask h (Some t) mid → h.seal ≡ None
+unsealed_open h b t mid (_, (least, _)) = no_seal h t h.seal least.task (open_unclosed (state_of h.tasks t) least.is) b.seal
 
 -- ---- sealed
 

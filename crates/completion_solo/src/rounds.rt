@@ -36,18 +36,15 @@ pub fn one_round(
     requires { IsReady (arc_value p.now) book.old index.old stale }
     ensures { Rounds (arc_value p.now) book.old stale result book.new index.new }
 {
-    let Some(least) = book.least() else {
-        return Ok(Round::Ended(sealed(alloc, book)?));
-    };
     if is_spent(book) {
-        return Ok(Round::Ended(End::Spent {
-            commits: book.commits(),
-            task: least,
-        }));
+        return Ok(Round::Ended(spent(alloc, book)?));
     }
     if let Some(task) = book.take() {
         return work_taken(alloc, p, book, index, task, stale);
     }
+    let Some(least) = book.least() else {
+        return Ok(Round::Ended(sealed(alloc, book)?));
+    };
     if stale {
         book.soften();
         return Ok(Round::GoesOn { stale: false });
@@ -61,6 +58,22 @@ fn is_spent(book: &Book) -> bool
     ensures book { IsBook book.now }
 {
     book.limits().budget == Some(book.commits())
+}
+
+/// The end where the commits have reached the budget.
+fn spent(alloc: Global, book: &mut Book) -> Result<End, AllocError>
+    requires none_taken { NoneTaken book.old }
+    requires spent { (book.old).limits.budget ≡ Some (book.old).commits }
+    ensures { Finishes (book.old).source book.old result book.new }
+{
+    book.known();
+    let Some(task) = book.least() else {
+        return Ok(sealed(alloc, book)?);
+    };
+    Ok(End::Spent {
+        commits: book.commits(),
+        task,
+    })
 }
 
 /// Seals a book all of whose tasks are closed.

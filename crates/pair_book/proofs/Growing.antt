@@ -1,6 +1,8 @@
 -- What a book keeps when an entry is appended.
 use Rattle.std.proofs.Common.{ℕ, ◌+◌, ◌<◌, ◌≤◌, ◌≡◌, inl, inr, arith, refl, sym, ap, ◌∙◌, List, [], ◌∷◌, ◌++◌, length, Bool, true, false, take, Option, Some}
-use Rattle.std.proofs.Common.{None, subst, length-append}
+use Rattle.std.proofs.Common.{None, subst, map, length-append}
+use Rattle.task_table.specs.declared.profiles.Profile.{Profile}
+use Rattle.task_table.specs.Profiles.{profile_of}
 use Rattle.std.proofs.lemmas.List.{map-append, length-map}
 use Rattle.std.proofs.lemmas.List.Sums.{sum_by_push, sum_by-append}
 use Rattle.std.proofs.lemmas.Option.{slice_get_within}
@@ -70,7 +72,7 @@ seal_none h (Some s) e = absurd (cc)
 
 pub book_grown : (h : Held) (e : BasisEntry) (commits : ℕ) → IsBook h → h.seal ≡ None → IsBasisEntry e → e.source ≡ h.source → IsShort e
     → IsNextEntry (vectors_of h.entries) e → Fits h e → commits ≤ h.commits + 1 →
-    IsBook (record h { entries = h.entries ++ e ∷ []; tasks = grown h.tasks (settled_row h.entries e.vector); commits = commits })
+    IsBook (record h { entries = h.entries ++ e ∷ []; tasks = grown h.tasks (settled_row h.entries e.vector) e.vector; commits = commits })
 book_grown h e commits b fresh entry source short next fits more =
     let es = h.entries in
     let n : length (es ++ e ∷ []) ≡ length es + 1 = length-append es (e ∷ []) in
@@ -82,7 +84,7 @@ book_grown h e commits b fresh entry source short next fits more =
     let lt : h.tasks.count < h.tasks.room = omega (arith, f0, count, room) in
     let down : (u : Task) → IsTask (length (es ++ e ∷ [])) u → IsTask (length es + 1) u = λ u k. (k.0, let a = k.1 in omega (arith, a, n)) in
     let all = all_push IsBasisEntry es e b.lawful.entries entry in
-    let new : Held = record h { entries = es ++ e ∷ []; tasks = grown h.tasks (settled_row es e.vector); commits = commits } in
+    let new : Held = record h { entries = es ++ e ∷ []; tasks = grown h.tasks (settled_row es e.vector) e.vector; commits = commits } in
     record {
       lawful = lawful_grows h.source h.base es e b.lawful source entry next;
       short = all_push IsShort es e b.short short;
@@ -92,6 +94,8 @@ book_grown h e commits b fresh entry source short next fits more =
       table = table_grown h.tasks es e.vector b.table b.count lt;
       order = b.order;
       count = omega (arith, n, count);
+      over = ap (λ (ps : List Profile). ps ++ profile_of e.vector ∷ []) b.over
+          ∙ (sym (map-append profile_of (vectors_of es) (e.vector ∷ [])) ∙ ap (map profile_of) (sym v));
       room = b.room;
       truly = λ u k c pair. elim (older (length es) u (down u k)) [
         | inl o ↦
@@ -131,7 +135,7 @@ pub book_appended : (h : Held) (t : Task) (e : BasisEntry) (closed : Bool) → I
 book_appended h t e closed b may entry source short next fits shown =
     let n = length-append h.entries (e ∷ []) in
     let k = may.0.0 in
-    let mid : Held = record h { entries = h.entries ++ e ∷ []; tasks = grown h.tasks (settled_row h.entries e.vector); commits = h.commits + 1 } in
+    let mid : Held = record h { entries = h.entries ++ e ∷ []; tasks = grown h.tasks (settled_row h.entries e.vector) e.vector; commits = h.commits + 1 } in
     book_put mid t (state_after closed) (h.commits + 1)
     (book_grown h e (h.commits + 1) b may.1 entry source short next fits (omega arith))
     (k.0, let a = k.1 in omega (arith, a, n))

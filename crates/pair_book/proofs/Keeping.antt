@@ -75,7 +75,7 @@ seal_kept h new None p q keep is = tt
 seal_kept h new (Some s) p q keep is = (is.0 ∙ (λ i. record { source = sym p i; entries = sym q i }), keep is.1)
 
 pub table_put : (tasks : Table) (t : Task) (s : TaskState) → IsTable tasks → IsTable (put tasks t s)
-table_put tasks t s h = record { states = length-set tasks.states (number_of t) s ∙ h.states; within = h.within; most = h.most }
+table_put tasks t s h = record { states = length-set tasks.states (number_of t) s ∙ h.states; profiles = h.profiles; within = h.within; most = h.most }
 
 -- an unclosed task gets another state
 pub book_put : (h : Held) (t : Task) (s : TaskState) (commits : ℕ) → IsBook h → IsTask (length h.entries) t → is_unclosed (state_of h.tasks t) ≡ true
@@ -93,6 +93,7 @@ book_put h t s commits b k was never shown more =
       table = table_put h.tasks t s b.table;
       order = b.order;
       count = b.count;
+      over = b.over;
       room = b.room;
       truly = λ u ku c. elim (put_read h.tasks t u s b.table m (task_in h u b ku)) [
         | inl e ↦ b.truly u ku (sym (ap is_unclosed e) ∙ c)
@@ -168,9 +169,11 @@ book_reopened h from b = record {
   within = b.within;
   terms = b.terms;
   steps = b.steps;
-  table = record { states = length-map h.tasks.states (reopened from) ∙ b.table.states; within = b.table.within; most = b.table.most };
+  table = record { states = length-map h.tasks.states (reopened from) ∙ b.table.states; profiles = b.table.profiles; within = b.table.within;
+    most = b.table.most };
   order = b.order;
   count = b.count;
+  over = b.over;
   room = b.room;
   truly = λ u k c. b.truly u k (sym (unclosed_reopened from (state_of h.tasks u))
       ∙ (sym (ap is_unclosed (state_reopened from h.tasks.states (number_of u))) ∙ c));

@@ -135,6 +135,7 @@ book_new p limits es tasks base all fresh few terms order room = record {
   table = fresh.table;
   order = order;
   count = fresh.count;
+  over = fresh.over;
   room = room;
   truly = λ t k c pair. settled_closed (vectors_of es) (are_entries es all) t pair
       (first_shut (settled_at (vectors_of es) t) (sym (ap is_unclosed (fresh.each t k)) ∙ c));

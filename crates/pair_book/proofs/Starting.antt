@@ -1,6 +1,8 @@
 -- A new log, and what appending an entry does to tasks.
 use Rattle.std.proofs.Common.{ℕ, zero, suc, ◌+◌, ◌<◌, ◌≤◌, ◌≡◌, ◌⊎◌, inl, inr, arith, refl, sym, ap, ◌∙◌, List, [], ◌∷◌, ◌++◌, length, map, Bool, take}
 use Rattle.std.proofs.Common.{length-append, get_or}
+use Rattle.task_table.specs.declared.profiles.Profile.{Profile}
+use Rattle.task_table.specs.Profiles.{profile_of}
 use Rattle.std.proofs.lemmas.List.{length-map, get_or_append_left, get_or-append-add, take_more, map-append}
 use Rattle.outcomes.specs.declared.tasks.Task.{Task}
 use Rattle.outcomes.specs.declared.kinds.PairKind.{PairKind}
@@ -45,24 +47,25 @@ row_long es v = let a = row_length (settled_row es v) in let b = length-map es (
     in omega (arith, a, b)
 
 pub table_grown : (tasks : Table) (es : List BasisEntry) (v : List Term) → IsTable tasks → tasks.count ≡ length es → tasks.count < tasks.room
-    → IsTable (grown tasks (settled_row es v))
+    → IsTable (grown tasks (settled_row es v) v)
 table_grown tasks es v h n room = record {
   states = let a = length-append tasks.states (row_states (settled_row es v)) in let l = row_long es v in let s = h.states
       in let x = tasks_below_next tasks.count in omega (arith, a, l, s, x, n);
+  profiles = let p = length-append tasks.profiles (profile_of v ∷ []) in let q = h.profiles in omega (arith, p, q);
   within = omega (arith, room);
   most = h.most;
 }
 
 -- an old task keeps its state
 pub state_old : (tasks : Table) (es : List BasisEntry) (v : List Term) (u : Task) → IsTable tasks → IsTask tasks.count u
-    → state_of (grown tasks (settled_row es v)) u ≡ state_of tasks u
+    → state_of (grown tasks (settled_row es v) v) u ≡ state_of tasks u
 state_old tasks es v u h k = let w = number_within u tasks.count k in let s = h.states
     in get_or_append_left tasks.states (row_states (settled_row es v)) Never (number_of u) (omega (arith, w, s))
 
 -- a new task has that of the row
 pub state_new : (tasks : Table) (es : List BasisEntry) (v : List Term) (u : Task) → IsTable tasks → tasks.count ≡ length es → u.j ≡ length es
     → u.i < length es →
-    state_of (grown tasks (settled_row es v)) u ≡ first_state (settled_of u.kind (settled_by (lead_at (vectors_of es) u.i) (lead_of v)))
+    state_of (grown tasks (settled_row es v) v) u ≡ first_state (settled_of u.kind (settled_by (lead_at (vectors_of es) u.i) (lead_of v)))
 state_new tasks es v u h n j i =
     let row = row_states (settled_row es v) in
     let q : tasks_below u.j ≡ length tasks.states = ap tasks_below (j ∙ sym n) ∙ sym h.states in
@@ -92,17 +95,24 @@ settled_new es e u j i =
     let second : lead_at (vectors_of (es ++ e ∷ [])) u.j ≡ lead_of e.vector = ap (lead_at (vectors_of (es ++ e ∷ []))) j ∙ lead_end es e in
     λ x. settled_of u.kind (settled_by (lead_left es (e ∷ []) u.i i x) (second x))
 
+none_of : {X : Type 0} (xs : List X) → length xs ≡ 0 → xs ≡ []
+none_of [] n = refl
+none_of (x ∷ xs) n = absurd (omega (arith, n))
+
 pub none_new : (tasks : Table) → IsTable tasks → tasks.count ≡ 0 → AreNew [] tasks
-none_new tasks h n = record { table = h; count = n; each = λ t k. let a = k.1 in absurd (omega (arith, a)) }
+none_new tasks h n = record { table = h; count = n; over = let p = h.profiles in none_of tasks.profiles (omega (arith, p, n)); each = λ t k. let a = k.1
+  in absurd (omega (arith, a)) }
 
 -- an entry is entered
 pub one_new : (es : List BasisEntry) (e : BasisEntry) (tasks : Table) → AreNew es tasks → tasks.count < tasks.room
-    → AreNew (es ++ e ∷ []) (grown tasks (settled_row es e.vector))
+    → AreNew (es ++ e ∷ []) (grown tasks (settled_row es e.vector) e.vector)
 one_new es e tasks a room =
     let n = length-append es (e ∷ []) in
     record {
       table = table_grown tasks es e.vector a.table a.count room;
       count = let c = a.count in omega (arith, n, c);
+      over = ap (λ (ps : List Profile). ps ++ profile_of e.vector ∷ []) a.over
+          ∙ (sym (map-append profile_of (vectors_of es) (e.vector ∷ [])) ∙ ap (map profile_of) (sym (map-append (λ (z : BasisEntry). z.vector) es (e ∷ []))));
       each = λ u k. elim (older (length es) u (k.0, let z = k.1 in omega (arith, z, n))) [
         | inl o ↦ state_old tasks es e.vector u a.table (o.0, let z = o.1 in let c = a.count in omega (arith, z, c))
             ∙ (a.each u o ∙ ap first_state (sym (settled_old es e u o)))

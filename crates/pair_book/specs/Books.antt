@@ -9,7 +9,7 @@ use Rattle.task_table.specs.declared.states.TaskState.{TaskState}
 use Rattle.task_table.specs.declared.states.TaskState.TheVariants.{Open, Hard}
 use Rattle.task_table.specs.declared.states.Wanted.TheVariants.{Unclosed}
 use Rattle.task_table.specs.Tasks.{IsTask, is_taken, is_unclosed, is_never, is_closed_later}
-use Rattle.task_table.specs.Tables.{Table, IsTable, Takes, NoneIs, IsLeast, state_of, put}
+use Rattle.task_table.specs.Tables.{Table, IsTable, IsOver, Takes, NoneIs, IsLeast, state_of, put}
 use Rattle.task_table.specs.Rows.{settled_of, first_state}
 use Rattle.basis_entry.specs.Entries.{BasisEntry, vectors_of}
 use Rattle.basis_entry.specs.Base.{AreBase}
@@ -60,6 +60,7 @@ pub record IsBook (h : Held) : Type 0 where
   pub table : IsTable h.tasks
   pub order : h.tasks.order ≡ h.limits.order
   pub count : h.tasks.count ≡ length h.entries
+  pub over : IsOver (vectors_of h.entries) h.tasks
   pub room : h.tasks.room ≡ h.limits.entries
   pub truly : (t : Task) → IsTask (length h.entries) t → is_unclosed (state_of h.tasks t) ≡ false
       → IsPair (vectors_of h.entries) t.i t.j → IsClosed (vectors_of h.entries) t.kind t.i t.j
@@ -110,6 +111,7 @@ AreWithin p limits = (es : List BasisEntry) → AreBase p es → (length es ≤ 
 pub record AreNew (es : List BasisEntry) (tasks : Table) : Type 0 where
   pub table : IsTable tasks
   pub count : tasks.count ≡ length es
+  pub over : IsOver (vectors_of es) tasks
   pub each : (t : Task) → IsTask (length es) t → state_of tasks t
       ≡ first_state (settled_of t.kind (settled_by (lead_at (vectors_of es) t.i) (lead_at (vectors_of es) t.j)))
 

@@ -122,7 +122,7 @@ closed_by h t = record (with_state h t Closed) { commits = h.commits + 1 }
 abbrev pub appended_by : Held → Task → BasisEntry → Bool → Held
 appended_by h t e closed = record h {
   entries = h.entries ++ e ∷ [];
-  tasks = put (grown h.tasks (settled_row h.entries e.vector)) t (state_after closed);
+  tasks = put (grown h.tasks (settled_row h.entries e.vector) e.vector) t (state_after closed);
   commits = h.commits + 1;
 }
 

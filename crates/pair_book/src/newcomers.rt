@@ -83,9 +83,10 @@ pub fn enter(log: &mut Log, tasks: &mut TaskTable, entry: Arc<Entry>)
     requires room { tasks.old.room ≡ log.old.room }
     requires within { length log.old.entries < log.old.room }
     ensures log { log.new ≡ record log.old { entries = log.old.entries ++ arc_value entry ∷ [] } }
-    ensures tasks { tasks.new ≡ grown tasks.old (settled_row log.old.entries (arc_value entry).vector) }
+    ensures tasks { tasks.new ≡ grown tasks.old (settled_row log.old.entries (arc_value entry).vector)
+        (arc_value entry).vector }
 {
     let lead = entry_lead(&entry);
-    tasks.push(&Newcomer { log, lead });
+    tasks.push(&Newcomer { log, lead }, entry.vector());
     log.push(entry);
 }

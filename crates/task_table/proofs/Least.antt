@@ -12,16 +12,14 @@ use Rattle.task_table.specs.Inner.{IsHint}
 use Rattle.task_table.proofs.Counting.{number_within}
 use Rattle.task_table.proofs.Ordering.{before_number}
 
-by_number : (order : Order) → order ≡ ByNumber
-by_number ByNumber = refl
-
-pub least_at : (wanted : Wanted) (entries : List (List Term)) (table : Table) (hint : Hint) (t : Task) → IsHint wanted table.states hint →
+pub least_at : (wanted : Wanted) (entries : List (List Term)) (table : Table) (hint : Hint) (t : Task) → table.order ≡ ByNumber
+  → IsHint wanted table.states hint →
     is_wanted wanted (state_at table.states hint.number) ≡ true → hint.row < table.count → number_of t ≡ hint.number → IsTask (hint.row + 1) t
     → IsLeast wanted entries table t
-least_at wanted entries table hint t h is row number task = record {
+least_at wanted entries table hint t by h is row number task = record {
   task = (task.0, let a = task.1 in omega (arith, a, row));
   is = ap (λ k. is_wanted wanted (state_at table.states k)) number ∙ is;
-  before = λ u k b. let l = before_number table.order entries u t (by_number table.order) k.0 b in h.before (number_of u) (omega (arith, l, number));
+  before = λ u k b. let l = before_number table.order entries u t by k.0 b in h.before (number_of u) (omega (arith, l, number));
 }
 
 pub none_at_end : (wanted : Wanted) (table : Table) (hint : Hint) → IsTable table → IsHint wanted table.states hint → hint.number ≡ length table.states

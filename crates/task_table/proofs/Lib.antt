@@ -5,3 +5,6 @@ pub mod Reading
 pub mod Least
 pub mod Pushing
 pub mod Putting
+pub mod Queueing
+pub mod Costing
+pub mod Pricing

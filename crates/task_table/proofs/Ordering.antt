@@ -1,13 +1,15 @@
 -- The order of tasks is a strict total order, and by number it is that of the numbers.
-use Rattle.std.proofs.Common.{ℕ, ◌+◌, ◌<◌, ◌≡◌, ◌≢◌, ◌⊎◌, inl, inr, arith, refl, sym, ◌∙◌, List, ◌++◌, length}
+use Rattle.std.proofs.Common.{ℕ, ◌+◌, ◌<◌, ◌≡◌, ◌≢◌, ◌⊎◌, inl, inr, arith, refl, sym, ◌∙◌, subst, List, [], ◌++◌, length}
 use Rattle.module_vec.specs.declared.places.Term.{Term}
 use Rattle.outcomes.specs.declared.tasks.Task.{Task}
 use Rattle.outcomes.specs.declared.kinds.PairKind.{PairKind}
 use Rattle.outcomes.specs.declared.kinds.PairKind.TheVariants.{S, G}
 use Rattle.task_table.specs.declared.order.Order.{Order}
-use Rattle.task_table.specs.declared.order.Order.TheVariants.{ByNumber}
+use Rattle.task_table.specs.declared.order.Order.TheVariants.{ByNumber, ByCost}
 use Rattle.task_table.specs.Tasks.{IsTask, tasks_below, number_of, kind_number}
-use Rattle.task_table.specs.Orders.{rank, HasLowerNumber, Before}
+use Rattle.task_table.specs.Orders.{Rank, HasLowerRank, rank, cost, HasLowerNumber, Before}
+use Rattle.task_table.specs.Profiles.{profile_of}
+use Rattle.std.proofs.lemmas.List.{get_or_append_left}
 use Rattle.task_table.proofs.Counting.{number_within, tasks_below_grow, kind_small}
 
 pub three : (a b : ℕ) → (a < b) ⊎ ((a ≡ b) ⊎ (b < a))
@@ -64,12 +66,49 @@ numbers_apart t u a b = elim (lower_total t u) [
   ]
 ]
 
+-- ---- ranks
+
+rank_total : (r s : Rank) → (HasLowerRank r s) ⊎ ((r ≡ s) ⊎ (HasLowerRank s r))
+rank_total r s = elim (three r.length s.length) [
+  | inl p ↦ inl (inl p)
+  | inr q ↦ elim q [
+    | inr p ↦ inr (inr (inl p))
+    | inl e ↦ elim (three r.degree s.degree) [
+      | inl p ↦ inl (inr (e, inl p))
+      | inr q ↦ elim q [
+        | inr p ↦ inr (inr (inr (sym e, inl p)))
+        | inl f ↦ elim (three r.digits s.digits) [
+          | inl p ↦ inl (inr (e, inr (f, p)))
+          | inr q ↦ elim q [
+            | inr p ↦ inr (inr (inr (sym e, inr (sym f, p))))
+            | inl g ↦ inr (inl (λ i. record { length = e i; degree = f i; digits = g i }))
+          ]
+        ]
+      ]
+    ]
+  ]
+]
+
+rank_self : (r : Rank) → HasLowerRank r r → ⊥
+rank_self r (inl p) = omega (arith, p)
+rank_self r (inr (e, inl p)) = omega (arith, p)
+rank_self r (inr (e, inr (f, p))) = omega (arith, p)
+
+rank_chain : (r s q : Rank) → HasLowerRank r s → HasLowerRank s q → HasLowerRank r q
+rank_chain r s q (inl x) (inl y) = inl (omega (arith, x, y))
+rank_chain r s q (inl x) (inr (e, y)) = inl (omega (arith, x, e))
+rank_chain r s q (inr (e, x)) (inl y) = inl (omega (arith, e, y))
+rank_chain r s q (inr (e, inl x)) (inr (f, inl y)) = inr (e ∙ f, inl (omega (arith, x, y)))
+rank_chain r s q (inr (e, inl x)) (inr (f, inr (g, y))) = inr (e ∙ f, inl (omega (arith, x, g)))
+rank_chain r s q (inr (e, inr (g, x))) (inr (f, inl y)) = inr (e ∙ f, inl (omega (arith, g, y)))
+rank_chain r s q (inr (e, inr (g, x))) (inr (f, inr (h, y))) = inr (e ∙ f, inr (g ∙ h, omega (arith, x, y)))
+
 -- ---- the laws
 
 -- of two tasks one comes before the other, or they are one
 pub before_total : (order : Order) (entries : List (List Term)) (t u : Task) → (Before order entries t u) ⊎ ((t ≡ u) ⊎ (Before order entries u t))
 unfolding Before
-before_total order entries t u = elim (three (rank order entries t) (rank order entries u)) [
+before_total order entries t u = elim (rank_total (rank order entries t) (rank order entries u)) [
   | inl p ↦ inl (inl p)
   | inr q ↦ elim q [
     | inr p ↦ inr (inr (inl p))
@@ -90,7 +129,7 @@ lower_self t (inr (e, inr (f, p))) = omega (arith, p)
 
 pub before_not_itself : (order : Order) (entries : List (List Term)) (t : Task) → Before order entries t t → ⊥
 unfolding Before
-before_not_itself order entries t (inl p) = omega (arith, p)
+before_not_itself order entries t (inl p) = rank_self (rank order entries t) p
 before_not_itself order entries t (inr (e, p)) = lower_self t p
 
 lower_chain : (t u v : Task) → HasLowerNumber t u → HasLowerNumber u v → HasLowerNumber t v
@@ -104,15 +143,22 @@ lower_chain t u v (inr (e, inr (g, p))) (inr (f, inr (h, q))) = inr (e ∙ f, in
 
 pub before_chain : (order : Order) (entries : List (List Term)) (t u v : Task) → Before order entries t u → Before order entries u v → Before order entries t v
 unfolding Before
-before_chain order entries t u v (inl p) (inl q) = inl (omega (arith, p, q))
-before_chain order entries t u v (inl p) (inr (e, q)) = inl (omega (arith, p, e))
-before_chain order entries t u v (inr (e, p)) (inl q) = inl (omega (arith, e, q))
+before_chain order entries t u v (inl p) (inl q) = inl (rank_chain (rank order entries t) (rank order entries u) (rank order entries v) p q)
+before_chain order entries t u v (inl p) (inr (e, q)) = inl (subst (HasLowerRank (rank order entries t)) e p)
+before_chain order entries t u v (inr (e, p)) (inl q) = inl (subst (λ (r : Rank). HasLowerRank r (rank order entries v)) (sym e) q)
 before_chain order entries t u v (inr (e, p)) (inr (f, q)) = inr (e ∙ f, lower_chain t u v p q)
 
 -- the rank of a task doesn't change when entries are appended
 pub rank_stays : (order : Order) (entries more : List (List Term)) (t : Task) → IsTask (length entries) t
     → rank order (entries ++ more) t ≡ rank order entries t
 rank_stays ByNumber entries more t h = refl
+rank_stays ByCost entries more t h =
+    let i = get_or_append_left entries more [] t.i (let a = h.0 in let b = h.1 in omega (arith, a, b)) in
+    let j = get_or_append_left entries more [] t.j h.1 in
+    λ k. cost (profile_of (i k)) (profile_of (j k))
+
+moved : {r s q w : Rank} → r ≡ s → q ≡ w → HasLowerRank r q → HasLowerRank s w
+moved {r} {s} {q} {w} e f h = subst (λ (x : Rank). HasLowerRank s x) f (subst (λ (x : Rank). HasLowerRank x q) e h)
 
 pub before_stays : (order : Order) (entries more : List (List Term)) (t u : Task) → IsTask (length entries) t → IsTask (length entries) u →
     (Before order entries t u → Before order (entries ++ more) t u) × (Before order (entries ++ more) t u → Before order entries t u)
@@ -120,13 +166,17 @@ unfolding Before
 before_stays order entries more t u h k =
     let a = rank_stays order entries more t h in
     let b = rank_stays order entries more u k in (
-      (λ x. elim x [ inl p ↦ inl (omega (arith, a, b, p)) | inr (e, p) ↦ inr (a ∙ (e ∙ sym b), p) ]),
-      (λ x. elim x [ inl p ↦ inl (omega (arith, a, b, p)) | inr (e, p) ↦ inr (sym a ∙ (e ∙ b), p) ]),
+      (λ x. elim x [ inl p ↦ inl (moved (sym a) (sym b) p) | inr (e, p) ↦ inr (a ∙ (e ∙ sym b), p) ]),
+      (λ x. elim x [ inl p ↦ inl (moved a b p) | inr (e, p) ↦ inr (sym a ∙ (e ∙ b), p) ]),
     )
+
+pub other_order : ByCost ≡ ByNumber → ⊥
+other_order e = cc
 
 -- by number, what comes before has a lower number
 pub before_number : (order : Order) (entries : List (List Term)) (t u : Task) → order ≡ ByNumber → t.i < t.j → Before order entries t u
     → number_of t < number_of u
 unfolding Before
-before_number ByNumber entries t u is h (inl p) = absurd (omega (arith, p))
+before_number ByNumber entries t u is h (inl p) = absurd (rank_self (rank ByNumber entries t) p)
 before_number ByNumber entries t u is h (inr (e, p)) = lower_number t u h p
+before_number ByCost entries t u is h before = absurd (other_order is)

@@ -1,5 +1,9 @@
 pub mod Tasks
+pub mod Profiles
 pub mod Orders
 pub mod Tables
 pub mod Rows
+pub mod Queues
+pub mod Keys
+pub mod Queueing
 pub mod Inner

@@ -11,18 +11,23 @@ use Rattle.task_table.specs.declared.states.Wanted.{Wanted}
 use Rattle.task_table.specs.declared.states.Wanted.TheVariants.{OpenOnes}
 use Rattle.task_table.specs.declared.states.Reopened.{Reopened}
 use Rattle.task_table.specs.Tasks.{IsTask, tasks_below, number_of, is_wanted, is_reopened, reopened}
+use Rattle.task_table.specs.declared.profiles.Profile.{Profile}
+use Rattle.task_table.specs.Profiles.{profile_of}
 use Rattle.task_table.specs.Orders.{Before}
 
--- the order of the tasks, how many entries the log has, for how many there is room, and the states by number
+-- the order of the tasks, how many entries the log has, for how many there is room, the states by number, and what the
+-- order looks at in the entries
 pub record Table : Type 0 where
   pub order : Order
   pub room : ℕ
   pub count : ℕ
   pub states : List TaskState
+  pub profiles : List Profile
 
--- there is a state for each task
+-- there is a state for each task, and a profile for each entry
 pub record IsTable (table : Table) : Type 0 where
   pub states : length table.states ≡ tasks_below table.count
+  pub profiles : length table.profiles ≡ table.count
   pub within : table.count ≤ table.room
   pub most : table.room ≤ ENTRIES
 
@@ -35,6 +40,10 @@ state_of table t = state_at table.states (number_of t)
 -- one task gets another state
 abbrev pub put : Table → Task → TaskState → Table
 put table t s = record table { states = slice_set table.states (number_of t) s }
+
+-- the entries have these vectors
+abbrev pub IsOver : List (List Term) → Table → Type 0
+IsOver entries table = table.profiles ≡ map profile_of entries
 
 -- the least task with a wanted state
 pub record IsLeast (wanted : Wanted) (entries : List (List Term)) (table : Table) (t : Task) : Type 0 where
@@ -66,4 +75,4 @@ reopened_count from table = count_by (is_reopened from) table.states
 
 -- a table for a log without entries
 abbrev pub empty : Order → ℕ → Table
-empty order room = record { order = order; room = room; count = 0; states = [] }
+empty order room = record { order = order; room = room; count = 0; states = []; profiles = [] }

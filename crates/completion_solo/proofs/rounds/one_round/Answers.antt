@@ -1,41 +1,35 @@
-use Rattle.std.proofs.Common.{◌≡◌, ℕ, sym, subst}
+use Rattle.std.proofs.Common.{◌≡◌, false, sym, subst}
 use Rattle.std.specs.Arc.{arc_value}
-use Rattle.outcomes.specs.declared.ends.End.TheVariants.{Spent}
 use Rattle.task_table.specs.declared.states.Reopened.TheVariants.{HardOnes}
 use Rattle.task_table.specs.Tables.{reopen}
 use Rattle.pair_book.specs.Books.{Held}
-use Rattle.completion_solo.specs.Finishing.{EndsWith}
+use Rattle.completion_solo.specs.Rounds.{IsReady}
 use Rattle.completion_solo.proofs.Composing.{round_on, due_now, none_taken_now}
-use Rattle.completion_solo.proofs.Ending.{ends_spent, unsealed, opened_again}
+use Rattle.completion_solo.proofs.Ending.{unsealed_open, opened_again}
 use Rattle.completion_solo.proofs.Numbers.{not_both}
 use Rattle.completion_solo.proofs.Taking.{took}
 use Rattle.completion_solo.proofs.rounds.one_round.Goals as goal
 
-pub returns-then-is_spent : goal.returns-then-is_spent
-returns-then-is_spent c =
-    let h : Held = c.args.book.now in
-    let p = arc_value c.args.p.now in
-    subst (λ (n : ℕ). EndsWith p h (Spent n c.in-Some.least) h) (sym c.commits.ensures.is)
-    (ends_spent p h c.in-Some.least c.is_spent.ensures.book c.requires.source c.requires.none_taken c.in-Some.ensures
-    (c.is_spent.ensures.is.0 c.if-is_spent.true))
+pub spent-requires-clause-spent : goal.spent-requires-clause-spent
+spent-requires-clause-spent c = c.is_spent.ensures.is.0 c.if-is_spent.true
 
 pub work_taken-requires-clause-due : goal.work_taken-requires-clause-due
 work_taken-requires-clause-due c =
     let h : Held = c.args.book.now in
     let b = c.is_spent.ensures.book in
-    let k = took h c.take.new.self c.in-Some-take.task b c.requires.none_taken
-    ((λ e. not_both c.is_spent.result (c.is_spent.ensures.is.1 e) c.if-is_spent.false), unsealed h b c.in-Some.least c.in-Some.ensures)
-    c.in-Some-take.ensures in
-    due_now (arc_value c.args.p.now) h c.take.new.self c.in-Some-take.task c.args.index.now c.args.stale k c.requires
+    let k = took h c.take.new.self c.in-Some.task b c.requires.none_taken
+    ((λ e. not_both c.is_spent.result (c.is_spent.ensures.is.1 e) c.if-is_spent.false), unsealed_open h b c.in-Some.task c.take.new.self c.in-Some.ensures)
+    c.in-Some.ensures in
+    due_now (arc_value c.args.p.now) h c.take.new.self c.in-Some.task c.args.index.now c.args.stale k c.requires
 
-pub returns-in-Some-take : goal.returns-in-Some-take
-returns-in-Some-take c =
+pub returns-in-Some : goal.returns-in-Some
+returns-in-Some c =
     let h : Held = c.args.book.now in
     let b = c.is_spent.ensures.book in
-    let k = took h c.take.new.self c.in-Some-take.task b c.requires.none_taken
-    ((λ e. not_both c.is_spent.result (c.is_spent.ensures.is.1 e) c.if-is_spent.false), unsealed h b c.in-Some.least c.in-Some.ensures)
-    c.in-Some-take.ensures in
-    round_on (arc_value c.args.p.now) h c.take.new.self c.work_taken.new.book c.in-Some-take.task c.args.stale c.work_taken.result c.work_taken.new.index k
+    let k = took h c.take.new.self c.in-Some.task b c.requires.none_taken
+    ((λ e. not_both c.is_spent.result (c.is_spent.ensures.is.1 e) c.if-is_spent.false), unsealed_open h b c.in-Some.task c.take.new.self c.in-Some.ensures)
+    c.in-Some.ensures in
+    round_on (arc_value c.args.p.now) h c.take.new.self c.work_taken.new.book c.in-Some.task c.args.stale c.work_taken.result c.work_taken.new.index k
     c.work_taken.ensures
 
 pub returns-then-stale : goal.returns-then-stale
@@ -44,5 +38,10 @@ returns-then-stale c =
     let new : Held = c.soften.new.self in
     rw c.if-stale.true (opened_again (arc_value c.args.p.now) h new c.args.index.now c.is_spent.ensures.book c.requires.source c.requires.none_taken
     c.requires.are_leads
-    (subst (λ (x : Held). new ≡ record x { tasks = reopen HardOnes x.tasks }) (none_taken_now h c.take.new.self c.in_default-take.ensures)
+    (subst (λ (x : Held). new ≡ record x { tasks = reopen HardOnes x.tasks }) (none_taken_now h c.take.new.self c.in_default.ensures)
     c.soften.ensures.new))
+
+pub stopped-requires-clause-ready : goal.stopped-requires-clause-ready
+stopped-requires-clause-ready c =
+    subst (λ (h : Held). IsReady (arc_value c.args.p.now) h c.args.index.now false) (sym (none_taken_now c.args.book.now c.take.new.self c.in_default.ensures))
+    (subst (IsReady (arc_value c.args.p.now) c.args.book.now c.args.index.now) c.if-stale.false c.requires)

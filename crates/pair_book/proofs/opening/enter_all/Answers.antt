@@ -21,15 +21,15 @@ loop-entry-preserved c =
     let lt : i < length base = omega arith in
     let g : map arc_value (take (i + 1) base) ≡ xs ++ e ∷ [] = map_take_more arc_value base i c.entry-item.result lt c.entry-item.is in
     let same : arc_value c.in_ok-try_clone.field-0 ≡ e = c.in_ok-try_clone.ensures in
-    let t : c.enter.new.tasks ≡ grown c.loop-entry.tasks (settled_row xs e.vector) = c.enter.ensures.tasks
-    ∙ (λ k. grown c.loop-entry.tasks (settled_row (inv.log_is k).entries (same k).vector)) in
+    let t : c.enter.new.tasks ≡ grown c.loop-entry.tasks (settled_row xs e.vector) e.vector = c.enter.ensures.tasks
+    ∙ (λ k. grown c.loop-entry.tasks (settled_row (inv.log_is k).entries (same k).vector) (same k).vector) in
     let n : length xs ≡ i = length-map (take i base) arc_value ∙ length-take-le i base (omega (arith, lt)) in
     let s = sum_by_push (λ (z : BasisEntry). length z.vector) xs e in
     let long : length c.terms.result.now ≡ length e.vector = ap length (c.terms.ensures.is
     ∙ (c.vector.ensures.is ∙ ap (λ (z : BasisEntry). z.vector) c.deref.ensures)) in
     let q = ap terms_of g in
     let room : c.loop-entry.tasks.count < c.loop-entry.tasks.room = omega (arith, n, lt, inv.tasks_new.count, inv.room, c.requires.room, c.requires.within) in
-    let fresh : AreNew (xs ++ e ∷ []) (grown c.loop-entry.tasks (settled_row xs e.vector)) = one_new xs e c.loop-entry.tasks inv.tasks_new room in
+    let fresh : AreNew (xs ++ e ∷ []) (grown c.loop-entry.tasks (settled_row xs e.vector) e.vector) = one_new xs e c.loop-entry.tasks inv.tasks_new room in
     record {
       log_is = c.enter.ensures.log ∙ ((λ k. record (inv.log_is k) { entries = (inv.log_is k).entries ++ same k ∷ [] })
           ∙ ap (λ (es : List BasisEntry). record c.args.log.now { entries = es }) (sym g));

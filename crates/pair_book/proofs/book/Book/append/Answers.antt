@@ -47,7 +47,7 @@ invariant_of-self c =
     } in
     let follows = subst (λ (h : Held). IsNextEntry (vectors_of h.entries) e) (sym c.self.view_is) next in
     let entries : c.enter.new.log.entries ≡ old ++ e ∷ [] = ap (λ (l : Logged). l.entries) c.enter.ensures.log in
-    let tasks : c.set.new.self ≡ put (grown c.self.inside.tasks (settled_row old e.vector)) c.args.task (state_after closed) =
+    let tasks : c.set.new.self ≡ put (grown c.self.inside.tasks (settled_row old e.vector) e.vector) c.args.task (state_after closed) =
     c.set.ensures ∙ (λ k. put (c.enter.ensures.tasks k) c.args.task (c.after.ensures k)) in
     let shown : closed ≡ true → IsClosed (vectors_of (old ++ e ∷ [])) c.args.task.kind c.args.task.i c.args.task.j =
     λ z. subst (λ (es : List BasisEntry). IsClosed (vectors_of es) c.args.task.kind c.args.task.i c.args.task.j) entries (c.is_closed-closed.ensures.0 z) in
