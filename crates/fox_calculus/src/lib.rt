@@ -12,6 +12,7 @@ mod listing;
 mod running;
 mod small;
 
+pub use binomials::{binomial, constant, image};
 pub use derivatives::fox;
 pub use listing::generators;
 pub use vector_text::{

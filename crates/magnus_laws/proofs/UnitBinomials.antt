@@ -59,7 +59,7 @@ module _ (p : Presented) (few : length p.names ≤ GENERATORS) where
   between false false true = refl
   between false false false = refl
 
-  alike_on : (s t u : List ℕ) → CountAlike s t → CountAlike t u → CountAlike s u
+  pub alike_on : (s t u : List ℕ) → CountAlike s t → CountAlike t u → CountAlike s u
   alike_on s t u h k c below =
       member_same p (difference s u c) (difference s t c ++ difference t u c) (λ x. between (here s c x) (here t c x) (here u c x))
       (member_sum p (difference s t c) (difference t u c) (h c below) (k c below))
@@ -71,7 +71,7 @@ module _ (p : Presented) (few : length p.names ≤ GENERATORS) where
   swapped false true = refl
   swapped false false = refl
 
-  alike_back : (s t : List ℕ) → CountAlike s t → CountAlike t s
+  pub alike_back : (s t : List ℕ) → CountAlike s t → CountAlike t s
   alike_back s t h c below =
       member_same p (difference t s c) (scale (negsuc 0) (difference s t c)) (λ x. swapped (here t c x) (here s c x))
       (member_scale p (negsuc 0) (difference s t c) (h c below))
@@ -80,7 +80,7 @@ module _ (p : Presented) (few : length p.names ≤ GENERATORS) where
   cancelled true = refl
   cancelled false = refl
 
-  alike_self : (s : List ℕ) → CountAlike s s
+  pub alike_self : (s : List ℕ) → CountAlike s s
   alike_self s c below = member_same p (difference s s c) [] (λ x. cancelled (here s c x)) (member_nothing p)
 
   times_one : (a b : Bool)
@@ -100,7 +100,7 @@ module _ (p : Presented) (few : length p.names ≤ GENERATORS) where
       (member_of_generator p (pos 1) t (binomial (unit_monomial g) c) long (unit_binomial g c small below))
 
   -- the two exponents of a generator, of which one becomes 0
-  alike_pair : (g : ℕ) → g < n → (front : List ℕ) (a b : ℕ) (back : List ℕ) → length front ≡ 2 * g → HasVariables (front ++ a ∷ b ∷ back)
+  pub alike_pair : (g : ℕ) → g < n → (front : List ℕ) (a b : ℕ) (back : List ℕ) → length front ≡ 2 * g → HasVariables (front ++ a ∷ b ∷ back)
       → CountAlike (front ++ a ∷ b ∷ back) (front ++ positive_part (pos a +ℤ neg_ℤ (pos b)) ∷ negative_part (pos a +ℤ neg_ℤ (pos b)) ∷ back)
   alike_pair g small front zero zero back e long = alike_self (front ++ 0 ∷ 0 ∷ back)
   alike_pair g small front (suc a) zero back e long =

@@ -70,7 +70,7 @@ module _ (p : Presented) (few : length p.names ≤ GENERATORS) where
   fox-up w over = fox_after-up [] w tt over
 
   -- ---- multiples
-  congruent_next : (q : ℤ) (s t : List ℕ) (c : ℕ) (v w : FormalSum Place) → IsMember p (difference s t c) → AreCongruent p v w
+  pub congruent_next : (q : ℤ) (s t : List ℕ) (c : ℕ) (v w : FormalSum Place) → IsMember p (difference s t c) → AreCongruent p v w
       → AreCongruent p ((q, record { m = s; c = c }) ∷ v) ((q, record { m = t; c = c }) ∷ w)
   congruent_next q s t c v w d h =
       let first : FormalSum Place = (q, record { m = s; c = c }) ∷ v in

@@ -1,0 +1,5 @@
+pub mod Images
+pub mod Certificates
+pub mod Weights
+pub mod Checking
+pub mod Adding

@@ -1,0 +1,24 @@
+//! Flat certificates: that a word is trivial is shown by the relators alone.
+//!
+//! A flat certificate says that the Fox vector of a word is a sum of multiples of the relators' Fox vectors, of relator
+//! binomials and of the modulus, in the group ring of the free abelian group on the generators. Whoever has the
+//! presentation, the word and the certificate can add it up; no basis and no reduction is needed.
+#![tactic(auto)]
+
+mod check;
+mod faults;
+pub mod laws;
+mod lines;
+mod products;
+mod relators;
+mod totals;
+
+pub use check::check_flat;
+pub use faults::FlatSumFault;
+pub use lines::{Flat, FlatKind};
+
+/// A certificate has at most so many lines.
+pub const LINES: u32 = 1_000_000;
+
+/// The terms that are added up stand at most at so many places.
+pub const PLACES: u32 = 1_000_000;
