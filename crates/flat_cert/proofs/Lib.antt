@@ -6,3 +6,5 @@ pub mod Entries
 pub mod Adding
 pub mod Taking
 pub mod Answering
+pub mod LineTexts
+pub mod Texts

@@ -3,3 +3,4 @@ pub mod Certificates
 pub mod Weights
 pub mod Checking
 pub mod Adding
+pub mod Texts

@@ -3,6 +3,7 @@
 ghost use Rattle.std.specs.Prelude.{◌≡◌};
 ghost use Rattle.flat_cert.specs.declared.faults.AddFault.TheVariants as added;
 ghost use Rattle.flat_cert.specs.declared.faults.FlatSumFault.TheVariants.{NoMemory};
+ghost use Rattle.flat_cert.specs.declared.faults.FlatTextFault.TheVariants as texts;
 ghost use Rattle.flat_cert.specs.Checking.{sum_fault};
 
 use module_vec::Place;
@@ -59,5 +60,30 @@ impl From<AllocError> for FlatSumFault {
 
     fn from(_: AllocError) -> FlatSumFault {
         FlatSumFault::NoMemory
+    }
+}
+
+/// Why a text gives no certificate.
+#[derive(Clone, Copy, Debug, PartialEq, Eq)]
+pub enum FlatTextFault {
+    /// The line with this number is the first that can't stand there; it is one more than the last line's number where
+    /// a line is missing.
+    Line { line: u32 },
+    NoMemory,
+}
+
+impl From<AllocError> for FlatTextFault {
+    ghost from_gives = { λ _ e. e ≡ texts.NoMemory };
+
+    fn from(_: AllocError) -> FlatTextFault {
+        FlatTextFault::NoMemory
+    }
+}
+
+impl<T: Drop> From<AllocFailed<T>> for FlatTextFault {
+    ghost from_gives = { λ _ e. e ≡ texts.NoMemory };
+
+    fn from(_: AllocFailed<T>) -> FlatTextFault {
+        FlatTextFault::NoMemory
     }
 }

@@ -8,14 +8,19 @@
 mod check;
 mod faults;
 pub mod laws;
+
+mod line_text;
 mod lines;
 mod products;
+
+mod reading;
 mod relators;
 mod totals;
 
 pub use check::check_flat;
-pub use faults::FlatSumFault;
+pub use faults::{FlatSumFault, FlatTextFault};
 pub use lines::{Flat, FlatKind};
+pub use reading::read_flat;
 
 /// A certificate has at most so many lines.
 pub const LINES: u32 = 1_000_000;
