@@ -1,5 +1,5 @@
 -- Reading a certificate: what is told by each way out.
-use Rattle.std.proofs.Common.{◌≡◌, ◌≢◌, ℕ, ◌+◌, ◌<◌, ◌≤◌, List, [], ◌∷◌, ◌++◌, length, Some, None, refl, sym, ap, subst, ◌∙◌, arith, append_assoc, append-nil}
+use Rattle.std.proofs.Common.{◌≡◌, ◌≢◌, ℕ, suc, ◌+◌, ◌<◌, ◌≤◌, ◌==◌, true, false, List, [], ◌∷◌, ◌++◌, length, Some, None, refl, sym, ap, subst, ◌∙◌, arith, append_assoc, append-nil}
 use Rattle.std.specs.List.{AllByRecursion, flat_map}
 use Rattle.std.proofs.lemmas.List.{length-append}
 use Rattle.std.proofs.lemmas.Grind.{flat_map-append}
@@ -13,6 +13,13 @@ use Rattle.flat_cert.specs.declared.lines.Flat.{Flat}
 use Rattle.flat_cert.specs.Certificates.{IsFlat}
 use Rattle.flat_cert.specs.Texts.{line_text, lines_text, title, last_line, certificate_text, IsCertificate, NoneFollows, IsNoTitle, CantStand, IsFirstFault}
 use Rattle.flat_cert.specs.Texts.IsFirstFault.{at_title, behind, after_last}
+
+pub nothing_left : (t : List ℕ) → true ≡ (length t == 0) → t ≡ []
+nothing_left [] e = refl
+nothing_left (b ∷ t) e = let wrong : (suc (length t) == 0) ≡ false = grind arith in let clash : true ≡ false = e ∙ wrong in absurd cc
+
+pub something_left : (t : List ℕ) → false ≡ (length t == 0) → t ≡ [] → ⊥
+something_left t e none = let wrong : false ≡ true = e ∙ ap (λ (u : List ℕ). length u == 0) none in cc
 
 module _ (p : Presented) (text : List ℕ) where
   pub no_title : cut 10 text ≡ None → IsFirstFault p text 1

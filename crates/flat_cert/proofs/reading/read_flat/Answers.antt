@@ -1,6 +1,6 @@
-use Rattle.std.proofs.Common.{rules, ◌≡◌, ◌+◌, ◌++◌, ◌∷◌, [], true, false, length, sym, ap, subst, ◌∙◌, arith}
+use Rattle.std.proofs.Common.{◌≡◌, ◌<◌, ◌+◌, ◌++◌, ◌∷◌, [], true, false, length, sym, ap, subst, ◌∙◌, arith}
 use Rattle.flat_cert.specs.Texts.{title, lines_text, IsCertificate, IsFirstFault}
-use Rattle.flat_cert.proofs.Texts.{no_title, other_title, begun, no_lines, missing, goes_on, whole, too_many, no_line, one_more, longer}
+use Rattle.flat_cert.proofs.Texts.{nothing_left, something_left, no_title, other_title, begun, no_lines, missing, goes_on, whole, too_many, no_line, one_more, longer}
 use Rattle.flat_cert.proofs.reading.read_flat.Goals as goal
 
 pub returns-in_default : goal.returns-in_default
@@ -23,11 +23,11 @@ returns-then-not-is_empty c =
     goes_on c.args.p.now c.args.text.now c.loop-line.list.items c.loop-line.rest.now c.loop-line.invariant.certificate
     c.loop-line.invariant.text c.in-Some-cut.line.now c.in-Some-cut.others.now c.in-Some-cut.ensures.parts
     (c.len.result + 2 + 1) (omega (arith, c.len.ensures)) (c.is_same-in-Some-cut.ensures.0 c.if-is_same.true)
-    (λ none. ?)
+    (something_left c.in-Some-cut.others.now c.if-not-is_empty.ensures)
 
 pub returns-then-is_same : goal.returns-then-is_same
 returns-then-is_same c =
-    let none : c.in-Some-cut.others.now ≡ [] = search rules in
+    let none : c.in-Some-cut.others.now ≡ [] = nothing_left c.in-Some-cut.others.now c.if-not-is_empty.ensures in
     (c.loop-line.invariant.certificate, whole c.args.p.now c.args.text.now c.loop-line.list.items c.loop-line.rest.now c.loop-line.invariant.certificate
     c.loop-line.invariant.text
     c.in-Some-cut.line.now c.in-Some-cut.others.now c.in-Some-cut.ensures.parts (c.is_same-in-Some-cut.ensures.0 c.if-is_same.true) none)
@@ -58,5 +58,7 @@ loop-line-preserved c =
     }
 
 pub returns : goal.returns
-returns c = subst (IsFirstFault c.args.p.now c.args.text.now) (?) (missing c.args.p.now c.args.text.now c.loop-line.list.items c.loop-line.rest.now c.loop-line.invariant.certificate
-    c.loop-line.invariant.text c.in-None.ensures.parts)
+returns c =
+    let number : length c.loop-line.list.items + 2 ≡ c.len-2.result + 2 = omega (arith, c.len-2.ensures) in
+    subst (IsFirstFault c.args.p.now c.args.text.now) number (missing c.args.p.now c.args.text.now c.loop-line.list.items c.loop-line.rest.now
+    c.loop-line.invariant.certificate c.loop-line.invariant.text c.in_default-cut.ensures.parts)
