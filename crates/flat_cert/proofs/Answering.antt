@@ -76,10 +76,13 @@ module _ (p : Presented) (w : List Letter) (ls : List Flat) (v : List Term) (is 
       nothing_left none = (λ x. sym (left x) ∙ none x, within)
 
       pub something_left : (at : Place) → IsGreatest (λ x. sum_at last x ≢ pos 0) at → Answers p w ls (Err (NotZero at))
-      something_left at greatest = (record {
-            here = λ none. greatest.here (left at ∙ none);
-            above = λ x b some. greatest.above x b (λ none. some (sym (left x) ∙ none));
-          }, within)
+      something_left at greatest = (
+        record {
+          here = λ none. greatest.here (left at ∙ none);
+          above = λ x b some. greatest.above x b (λ none. some (sym (left x) ∙ none));
+        },
+        within,
+      )
 
 -- where nothing is left the two images are the same
 pub images_same : (p : Presented) (w : List Letter) (ls : List Flat) → ((x : Place) → left_at p w ls x ≡ pos 0)

@@ -34,10 +34,10 @@ parts_cancelled (z ∷ p) (a ∷ []) e h = absurd (omega (arith, e))
 parts_cancelled (z ∷ p) (a ∷ b ∷ s) e h =
     let first : z ≡ pos a +ℤ neg_ℤ (pos b) = h 0 (omega arith) in
     let rest : both_parts p ≡ cancelled s = parts_cancelled p s (omega (arith, e)) (λ g lt.
-        let even : 2 * suc g ≡ suc (suc (2 * g)) = omega arith in
-        let odd : 2 * suc g + 1 ≡ suc (suc (2 * g + 1)) = omega arith in
-        h (suc g) (omega (arith, lt))
-        ∙ λ i. pos (slice_index (a ∷ b ∷ s) (even i)) -ℤ pos (slice_index (a ∷ b ∷ s) (odd i))) in
+    let even : 2 * suc g ≡ suc (suc (2 * g)) = omega arith in
+    let odd : 2 * suc g + 1 ≡ suc (suc (2 * g + 1)) = omega arith in
+    h (suc g) (omega (arith, lt))
+    ∙ λ i. pos (slice_index (a ∷ b ∷ s) (even i)) -ℤ pos (slice_index (a ∷ b ∷ s) (odd i))) in
     λ i. (ap positive_part first ∙ positive_cancelled a b) i ∷ (ap negative_part first ∙ negative_cancelled a b) i ∷ rest i
 
 pub product_cancelled : (p : List ℤ) (s t : List ℕ) → length p ≡ 24 → length s ≡ 48 → length t ≡ 48
@@ -48,8 +48,8 @@ product_cancelled p s t count long long' h =
     ap (λ k. both_parts p ++ replicate k 0) none
     ∙ append-nil (both_parts p)
     ∙ parts_cancelled p (product s t) (omega (arith, length_product s t same, long, count)) (λ g lt.
-        h g (omega (arith, lt, count))
-        ∙ λ i. pos (sym (product_at s t (2 * g) same) i) -ℤ pos (sym (product_at s t (2 * g + 1) same) i))
+    h g (omega (arith, lt, count))
+    ∙ λ i. pos (sym (product_at s t (2 * g) same) i) -ℤ pos (sym (product_at s t (2 * g + 1) same) i))
 
 pub degree_cancelled : (p : List ℤ) (s : List ℕ) → monomial_of p ≡ s → sum_by unsigned_abs p ≡ degree s
 degree_cancelled p s e = sym (degree-monomial_of p) ∙ ap degree e

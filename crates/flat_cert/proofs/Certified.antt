@@ -61,10 +61,13 @@ one_variables = refl
 
 multiple_is_over : (n : ℕ) (q : ℤ) (t : List ℕ) (v : FormalSum Place) → HasVariables t → MonoIsOver n t → IsSumOver n v → IsSumOver n (multiple moved q t v)
 multiple_is_over n q t [] long over all = tt
-multiple_is_over n q t ((k, x) ∷ v) long over all = (record {
-      variables = length-product VARIABLES t x.m long all.0.variables;
-      over = record { mono = product_over n t x.m over all.0.over.mono; component = all.0.over.component };
-    }, multiple_is_over n q t v long over all.1)
+multiple_is_over n q t ((k, x) ∷ v) long over all = (
+  record {
+    variables = length-product VARIABLES t x.m long all.0.variables;
+    over = record { mono = product_over n t x.m over all.0.over.mono; component = all.0.over.component };
+  },
+  multiple_is_over n q t v long over all.1,
+)
 
 module _ (p : Presented) (known : IsPresented p) where
   abbrev n : ℕ
@@ -84,11 +87,13 @@ module _ (p : Presented) (known : IsPresented p) where
 
   pub generator_is_over : (what : FlatKind) → IsKind p what → IsSumOver n (generator_of p what)
   generator_is_over (Rel j) is = fox_is_over n (relator p j) (relator_is_over j is)
-  generator_is_over (Bin j c) is =
-      (record { variables = image_variables (relator p j); over = record { mono = image_over n (relator p j) (relator_is_over j is.0); component = is.1 } }, (
-        record { variables = one_variables; over = record { mono = one_over n; component = is.1 } },
-        tt,
-      ))
+  generator_is_over (Bin j c) is = (
+    record { variables = image_variables (relator p j); over = record { mono = image_over n (relator p j) (relator_is_over j is.0); component = is.1 } },
+    (
+      record { variables = one_variables; over = record { mono = one_over n; component = is.1 } },
+      tt,
+    ),
+  )
   generator_is_over (Mod c) is = (record { variables = one_variables; over = record { mono = one_over n; component = is.0 } }, tt)
 
   certificate_is_over : (ls : List Flat) → AreFlat p ls → IsSumOver n (certificate_sum p ls)

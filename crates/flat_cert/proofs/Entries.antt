@@ -112,9 +112,11 @@ weight_first d es x is some = by (is_eq (place_cmp x d.0))
 -- something stands at each key
 keys_stand : (es : Entries) → AllByRecursion IsTotal es → AllByRecursion (λ x. 0 < weight_at es x) (keys_of es)
 keys_stand [] all = tt
-keys_stand (d ∷ es) all =
-    (rw (test.reflexive d.0) all.0.some, all_more (λ x. 0 < weight_at es x) (λ x. 0 < weight_at (d ∷ es) x) (keys_of es) (λ x some. weight_first d es x all.0 some)
-    (keys_stand es all.1))
+keys_stand (d ∷ es) all = (
+  rw (test.reflexive d.0) all.0.some,
+  all_more (λ x. 0 < weight_at es x) (λ x. 0 < weight_at (d ∷ es) x) (keys_of es) (λ x some. weight_first d es x all.0 some)
+      (keys_stand es all.1),
+)
 
 above_apart : (p : Place) (xs : List Place) → AllByRecursion (λ y. place_cmp p y ≡ Less) xs → AllByRecursion (λ y. y ≢ p) xs
 above_apart p [] all = tt
@@ -142,9 +144,12 @@ length_keys (d ∷ es) = omega (arith, length_keys es)
 pub too_many : (es : Entries) (x : Place) (W : Place → ℕ) → AreTotals es → IsStrictlySortedBy place_cmp (keys_of es) → found es x ≡ None → PLACES ≤ length es
     → 0 < W x → ((y : Place) → weight_at es y ≤ W y) → IsBeyond W
 too_many es x W are sorted new full some more =
-    inr (inr (x ∷ keys_of es, (not_found_apart es x new, sorted_distinct (keys_of es) sorted),
-    (some, all_more (λ y. 0 < weight_at es y) (λ y. 0 < W y) (keys_of es) (λ y h. omega (arith, h, more y)) (keys_stand es are.all)),
-    omega (arith, full, length_keys es)))
+    inr (inr (
+      x ∷ keys_of es,
+      (not_found_apart es x new, sorted_distinct (keys_of es) sorted),
+      (some, all_more (λ y. 0 < weight_at es y) (λ y. 0 < W y) (keys_of es) (λ y h. omega (arith, h, more y)) (keys_stand es are.all)),
+      omega (arith, full, length_keys es),
+    ))
 
 -- ---- the last entry
 

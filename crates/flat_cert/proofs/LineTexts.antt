@@ -86,10 +86,10 @@ flat_from n (a ∷ []) e h = refl
 flat_from zero (a ∷ b ∷ s) e h = absurd (omega (arith, e))
 flat_from (suc n) (a ∷ b ∷ s) e h =
     let rest : cancelled s ≡ s = flat_from n s (omega (arith, e)) (λ k lt.
-        let even : 2 * suc k ≡ suc (suc (2 * k)) = omega arith in
-        let odd : 2 * suc k + 1 ≡ suc (suc (2 * k + 1)) = omega arith in
-        subst (λ i. (slice_index (a ∷ b ∷ s) i ≡ 0) ⊎ (slice_index s (2 * k + 1) ≡ 0)) even
-        (subst (λ i. (slice_index (a ∷ b ∷ s) (2 * suc k) ≡ 0) ⊎ (slice_index (a ∷ b ∷ s) i ≡ 0)) odd (h (suc k) (omega (arith, lt))))) in
+    let even : 2 * suc k ≡ suc (suc (2 * k)) = omega arith in
+    let odd : 2 * suc k + 1 ≡ suc (suc (2 * k + 1)) = omega arith in
+    subst (λ i. (slice_index (a ∷ b ∷ s) i ≡ 0) ⊎ (slice_index s (2 * k + 1) ≡ 0)) even
+    (subst (λ i. (slice_index (a ∷ b ∷ s) (2 * suc k) ≡ 0) ⊎ (slice_index (a ∷ b ∷ s) i ≡ 0)) odd (h (suc k) (omega (arith, lt))))) in
     by (h 0 (omega arith)) rest
   where
     by : (a ≡ 0) ⊎ (b ≡ 0) → cancelled s ≡ s → (a - b) ∷ (b - a) ∷ cancelled s ≡ a ∷ b ∷ s
@@ -267,6 +267,8 @@ module _ (p : Presented) (known : IsPresented p) where
             → IsRead (kind_text p.names) (IsKind p) last (Some what)
             → IsRead (line_text p.names) (IsFlat p) text (Some (record { k = q; t = t; what = what }))
         line_read q what a flat b =
-            let r = in_range q a.0 in
-            (record { range = r.1; nonzero = r.0; mono = mono.0; flat = flat; kind = b.0 }, cut_joins 42 text front rest k
-            ∙ rw (a.1, cut_joins 32 rest middle last m, mono.1, b.1) refl)
+            let r = in_range q a.0 in (
+              record { range = r.1; nonzero = r.0; mono = mono.0; flat = flat; kind = b.0 },
+              cut_joins 42 text front rest k
+                  ∙ rw (a.1, cut_joins 32 rest middle last m, mono.1, b.1) refl,
+            )

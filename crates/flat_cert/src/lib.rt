@@ -8,11 +8,9 @@
 mod check;
 mod faults;
 pub mod laws;
-
 mod line_text;
 mod lines;
 mod products;
-
 mod reading;
 mod relators;
 mod totals;
@@ -27,3 +25,6 @@ pub const LINES: u32 = 1_000_000;
 
 /// The terms that are added up stand at most at so many places.
 pub const PLACES: u32 = 1_000_000;
+
+#[cfg(test)]
+mod tests;

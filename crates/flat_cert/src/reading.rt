@@ -38,5 +38,7 @@ pub fn read_flat(alloc: Global, p: &Presentation, text: &[u8]) -> Result<Vec<Fla
         list.push(flat)?;
         rest = others;
     }
-    Err(FlatTextFault::Line { line: list.len() as u32 + 2 })
+    Err(FlatTextFault::Line {
+        line: list.len() as u32 + 2,
+    })
 }

@@ -11,9 +11,9 @@ ghost use Rattle.module_vec.specs.Results.{IsGreatest};
 ghost use Rattle.flat_cert.specs.Images.{flat_image};
 ghost use Rattle.flat_cert.specs.Adding.{sum_at, weight_in, Adds, IsSmall, IsWith};
 
-use crate::products::flat_product;
 use crate::PLACES;
 use crate::faults::AddFault;
+use crate::products::flat_product;
 use laurent_terms::Mono;
 use module_vec::{COEFFICIENT, Place, Term, checked_product};
 use std::alloc::Global;

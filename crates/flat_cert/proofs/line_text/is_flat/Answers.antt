@@ -5,9 +5,11 @@ use Rattle.flat_cert.proofs.line_text.is_flat.Goals as goal
 use Rattle.flat_cert.proofs.line_text.is_flat.Goals.{else-exp-gt0-via-then-exp-gt0+else-exp-gt0-2, else-exp-gt0-via-else-exp-gt0}
 
 pub returns-then-exp-gt0-2 : goal.returns-then-exp-gt0-2
-returns-then-exp-gt0-2 c =
-    (λ e. absurd cc, λ flat. absurd (not_missing c.args.m.now c.loop-g.g (omega (arith, c.exp.ensures, c.if-exp-gt0.true))
-    (omega (arith, c.exp-then-exp-gt0.ensures, c.if-exp-gt0-2.true)) flat))
+returns-then-exp-gt0-2 c = (
+  λ e. absurd cc,
+  λ flat. absurd (not_missing c.args.m.now c.loop-g.g (omega (arith, c.exp.ensures, c.if-exp-gt0.true))
+      (omega (arith, c.exp-then-exp-gt0.ensures, c.if-exp-gt0-2.true)) flat),
+)
 
 pub loop-g-preserved : goal.loop-g-preserved
 loop-g-preserved c k lt = by (k == c.loop-g.g) refl

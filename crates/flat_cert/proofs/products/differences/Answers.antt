@@ -17,8 +17,18 @@ loop-g-preserved c =
     let both : FitsSigned w32 (c.from.result +ℤ c.from-in-loop-g.result -ℤ c.from-in-loop-g-2.result -ℤ c.from-in-loop-g-3.result) = search rules in
     let z : ℤ = c.from.result +ℤ c.from-in-loop-g.result -ℤ c.from-in-loop-g-2.result -ℤ c.from-in-loop-g-3.result in
     let is : z ≡ difference_in c.args.s.now c.args.t.now c.loop-g.g =
-    omega (arith, ints, c.from.ensures, c.from-in-loop-g.ensures, c.from-in-loop-g-2.ensures, c.from-in-loop-g-3.ensures, c.exp.ensures,
-    c.exp-in-loop-g.ensures, c.exp-in-loop-g-2.ensures, c.exp-in-loop-g-3.ensures) in
+    omega (
+      arith,
+      ints,
+      c.from.ensures,
+      c.from-in-loop-g.ensures,
+      c.from-in-loop-g-2.ensures,
+      c.from-in-loop-g-3.ensures,
+      c.exp.ensures,
+      c.exp-in-loop-g.ensures,
+      c.exp-in-loop-g-2.ensures,
+      c.exp-in-loop-g-3.ensures,
+    ) in
     simp to_z-of_z (record {
       whole = length-set c.loop-g.made c.loop-g.g z ∙ c.loop-g.invariant.whole;
       each = next_each c.loop-g.made c.args.s.now c.args.t.now c.loop-g.g z c.loop-g.invariant.whole c.loop-g-test.true is c.loop-g.invariant.each;

@@ -27,10 +27,12 @@ returns-then-not-is_empty c =
 
 pub returns-then-is_same : goal.returns-then-is_same
 returns-then-is_same c =
-    let none : c.in-Some-cut.others.now ≡ [] = nothing_left c.in-Some-cut.others.now c.if-not-is_empty.ensures in
-    (c.loop-line.invariant.certificate, whole c.args.p.now c.args.text.now c.loop-line.list.items c.loop-line.rest.now c.loop-line.invariant.certificate
-    c.loop-line.invariant.text
-    c.in-Some-cut.line.now c.in-Some-cut.others.now c.in-Some-cut.ensures.parts (c.is_same-in-Some-cut.ensures.0 c.if-is_same.true) none)
+    let none : c.in-Some-cut.others.now ≡ [] = nothing_left c.in-Some-cut.others.now c.if-not-is_empty.ensures in (
+      c.loop-line.invariant.certificate,
+      whole c.args.p.now c.args.text.now c.loop-line.list.items c.loop-line.rest.now c.loop-line.invariant.certificate
+          c.loop-line.invariant.text
+          c.in-Some-cut.line.now c.in-Some-cut.others.now c.in-Some-cut.ensures.parts (c.is_same-in-Some-cut.ensures.0 c.if-is_same.true) none,
+    )
 
 pub returns-then-len : goal.returns-then-len
 returns-then-len c =
@@ -50,11 +52,11 @@ loop-line-preserved c =
     let room : length c.loop-line.list.items < 1000000 = omega (arith, c.if-len.false, c.len-in-Some-cut.ensures) in
     record {
       certificate = subst (IsCertificate c.args.p.now) (sym c.in_ok-push.ensures.items) (one_more c.args.p.now c.args.text.now c.loop-line.list.items c.loop-line.rest.now c.loop-line.invariant.certificate
-    c.loop-line.invariant.text
+          c.loop-line.invariant.text
           c.in-Some-cut.line.now c.in-Some-cut.others.now c.in-Some-cut.ensures.parts c.in-Some-line_of.flat c.in-Some-line_of.ensures room);
       text = subst (λ ls. c.args.text.now ≡ title ++ 10 ∷ (lines_text c.args.p.now.names ls ++ c.in-Some-cut.others.now)) (sym c.in_ok-push.ensures.items)
           (longer c.args.p.now c.args.text.now c.loop-line.list.items c.loop-line.rest.now c.loop-line.invariant.certificate
-    c.loop-line.invariant.text c.in-Some-cut.line.now c.in-Some-cut.others.now c.in-Some-cut.ensures.parts c.in-Some-line_of.flat c.in-Some-line_of.ensures room);
+          c.loop-line.invariant.text c.in-Some-cut.line.now c.in-Some-cut.others.now c.in-Some-cut.ensures.parts c.in-Some-line_of.flat c.in-Some-line_of.ensures room);
     }
 
 pub returns : goal.returns

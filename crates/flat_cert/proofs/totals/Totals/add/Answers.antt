@@ -66,6 +66,7 @@ returns c =
     let before : c.copied-before.result ≡ found es c.args.at = c.copied-before.ensures ∙ c.get.ensures.value in
     let is : IsWith c.copied-before.result c.args.k c.in-Some.after = simp to_z-of_z at c.in-Some.ensures in
     let here : IsWith (found es c.args.at) c.args.k c.in-Some.after = subst (λ o. IsWith o c.args.k c.in-Some.after) before is in
-    subst (λ es. Adds es ((c.args.k, c.args.at) ∷ []) c.insert.new.self.entries (Ok tt)) c.self.view_is
-    (added_sum es c.insert.new.self.entries c.args.at c.args.k c.in-Some.after here c.in_ok-insert.ensures.updates.0,
-    added_weight es c.insert.new.self.entries c.args.at c.args.k c.in-Some.after here c.in_ok-insert.ensures.updates.0)
+    subst (λ es. Adds es ((c.args.k, c.args.at) ∷ []) c.insert.new.self.entries (Ok tt)) c.self.view_is (
+      added_sum es c.insert.new.self.entries c.args.at c.args.k c.in-Some.after here c.in_ok-insert.ensures.updates.0,
+      added_weight es c.insert.new.self.entries c.args.at c.args.k c.in-Some.after here c.in_ok-insert.ensures.updates.0,
+    )
