@@ -1,10 +1,9 @@
 -- The product of two monomials with x_g·y_g cancelled, from the differences of exponents.
-use Rattle.std.proofs.Common.{◌≡◌, ℕ, zero, suc, ◌+◌, ◌-◌, ◌*◌, ◌<◌, ◌≤◌, ℤ, pos, negsuc, ◌+ℤ◌, ◌-ℤ◌, neg_ℤ, List, [], ◌∷◌, ◌++◌, length, slice_index, slice_index_or}
+use Rattle.std.proofs.Common.{◌≡◌, ℕ, zero, suc, ◌+◌, ◌-◌, ◌*◌, ◌<◌, ℤ, pos, ◌+ℤ◌, ◌-ℤ◌, neg_ℤ, List, [], ◌∷◌, ◌++◌, length, slice_index, slice_index_or}
 use Rattle.std.proofs.Common.{replicate, refl, sym, ap, ◌∙◌, arith, append-nil, sum_by}
 use Rattle.std.specs.Prelude.{unsigned_abs, slice_set, ◌==◌, Bool, true, false, ◌≢◌}
 use Rattle.std.proofs.lemmas.Bool.Decides.{nat_tests}
 use Rattle.std.proofs.lemmas.List.{get_or-set_same, get_or-set_other}
-use borrow.Author.Differences.{ints}
 use Rattle.laurent_terms.specs.Monomials.{degree, product, positive_part, negative_part, both_parts, monomial_of}
 use Rattle.laurent_terms.proofs.IntegerVectors.{degree-monomial_of}
 use Rattle.flat_cert.specs.Images.{cancelled}

@@ -1,17 +1,14 @@
 -- The entries of a map of totals: within the limits they are not beyond them, and the greatest place.
-use Rattle.std.proofs.Common.{◌≡◌, ◌≢◌, ◌⊎◌, inl, inr, ℕ, zero, suc, ◌+◌, ◌<◌, ◌≤◌, Bool, true, false, cond, ℤ, pos, ◌+ℤ◌, List, [], ◌∷◌, ◌++◌, length, refl, sym, ap, subst, ◌∙◌, arith}
-use Rattle.std.specs.Prelude.{Option, Some, None, unsigned_abs}
+use Rattle.std.proofs.Common.{◌≡◌, ◌≢◌, ◌⊎◌, inl, inr, ℕ, suc, ◌<◌, ◌≤◌, Bool, true, false, cond, pos, List, [], ◌∷◌, ◌++◌, length, refl, sym, ap, subst, ◌∙◌, arith}
+use Rattle.std.specs.Prelude.{Option, Some, None}
 use Rattle.std.specs.List.{AllByRecursion}
 use Rattle.std.specs.List.Sorted.{IsStrictlySortedBy}
 use Rattle.std.specs.Map.{keys_of}
 use Rattle.std.specs.Ordering.{is_eq}
 use Rattle.std.specs.declared.cmp.Ordering.TheVariants.{Less}
-use Rattle.formal_sums.proofs.Keys.{eq-above, eq-below, eq-apart}
-use Rattle.laurent_terms.specs.declared.TheConstants.{DEGREE}
-use Rattle.laurent_terms.specs.Monomials.{degree}
-use Rattle.module_vec.specs.declared.TheConstants.{COEFFICIENT}
+use Rattle.formal_sums.proofs.Keys.{eq-above, eq-apart}
 use Rattle.module_vec.specs.declared.places.Place.{Place}
-use Rattle.module_vec.specs.Places.{place_cmp, same_place, IsBelow}
+use Rattle.module_vec.specs.Places.{place_cmp, IsBelow}
 use Rattle.module_vec.specs.Results.{IsGreatest}
 use Rattle.module_vec.proofs.Order.{test, order}
 use Rattle.flat_cert.specs.declared.TheConstants.{PLACES}

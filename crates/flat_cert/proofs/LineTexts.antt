@@ -1,15 +1,14 @@
 -- The texts of lines.
-use Rattle.std.proofs.Common.{◌≡◌, ◌≢◌, ◌⊎◌, inl, inr, ℕ, zero, suc, ◌+◌, ◌-◌, ◌*◌, ◌<◌, ◌≤◌, slice_index, ℤ, pos, negsuc, List, [], ◌∷◌, ◌++◌, length, ◌==◌, false, Some, None, Ok, Err, decimal, refl}
+use Rattle.std.proofs.Common.{◌≡◌, ◌≢◌, ◌⊎◌, inl, inr, ℕ, zero, suc, ◌+◌, ◌-◌, ◌*◌, ◌<◌, slice_index, ℤ, pos, negsuc, List, [], ◌∷◌, ◌++◌, length, Some, None, Ok, Err, decimal, refl}
 use Rattle.std.proofs.Common.{sym, ap, subst, ◌∙◌, arith}
 use Rattle.std.specs.Prelude.{codes}
-use Rattle.std.proofs.lemmas.Option.{none-some, same_Some}
+use Rattle.std.proofs.lemmas.Option.{none-some}
 use Rattle.spelling.specs.Spelling.{IsRead, IsSmall, cut, coefficient, IsCoefficient}
 use Rattle.spelling.proofs.Cuts.{cut_here, cut_joins}
 use Rattle.spelling.proofs.Numbers.{decimal_same}
-use Rattle.spelling.proofs.Lacking.{Lacks, lacks_append, decimal_lacks, coefficient_lacks}
+use Rattle.spelling.proofs.Lacking.{decimal_lacks, coefficient_lacks}
 use Rattle.word_text.specs.Scan.{is_name_byte, is_letter, is_digit}
 use Rattle.word_text.specs.Machine.{finding}
-use Rattle.presentation.specs.declared.TheConstants.{RELATORS}
 use Rattle.presentation.specs.Presented.{Presented, IsPresented}
 use Rattle.presentation.specs.Writing.{name_of}
 use Rattle.presentation.proofs.WritingNames.{name_found}

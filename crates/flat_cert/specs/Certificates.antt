@@ -1,11 +1,10 @@
 -- Flat certificates: sums of multiples of the relators' Fox vectors, of relator binomials and of the modulus.
-use Rattle.std.specs.Prelude.{◌≡◌, ◌≢◌, ℕ, ◌-◌, ◌<◌, ◌≤◌, pos, List, [], length, get_or}
+use Rattle.std.specs.Prelude.{◌≢◌, ℕ, ◌-◌, ◌<◌, ◌≤◌, pos, List, [], length, get_or}
 use Rattle.std.specs.List.{AllByRecursion, flat_map}
 use Rattle.free_words.specs.declared.letter.Letter.{Letter}
 use Rattle.presentation.specs.Presented.{Presented}
 use Rattle.formal_sums.specs.FormalSum.{FormalSum}
 use Rattle.formal_sums.specs.Span.{multiple}
-use Rattle.laurent_terms.specs.Monomials.{IsMonomial}
 use Rattle.module_vec.specs.declared.places.Place.{Place}
 use Rattle.module_vec.specs.Places.{moved}
 use Rattle.module_vec.specs.Vectors.{InRange}

@@ -2,7 +2,7 @@
 use Rattle.std.specs.Prelude.{◌≡◌, ◌≢◌, ℕ, ◌+◌, ℤ, pos, ◌-ℤ◌, List, [], ◌∷◌, Result, Ok, Err}
 use Rattle.free_words.specs.declared.letter.Letter.{Letter}
 use Rattle.presentation.specs.Presented.{Presented}
-use Rattle.formal_sums.specs.FormalSum.{FormalSum, coefficient}
+use Rattle.formal_sums.specs.FormalSum.{coefficient}
 use Rattle.formal_sums.specs.Span.{multiple}
 use Rattle.module_vec.specs.declared.places.Place.{Place}
 use Rattle.module_vec.specs.declared.places.Term.{Term}

@@ -1,5 +1,4 @@
-use Rattle.std.proofs.Common.{◌≡◌, true, false, sym, ap, ◌∙◌, arith}
-use Rattle.std.specs.Prelude.{codes}
+use Rattle.std.proofs.Common.{◌≡◌, true, false, sym, ◌∙◌, arith}
 use Rattle.flat_cert.proofs.LineTexts.{no_word, no_kind, no_relator, relator_read, no_parts, no_space, no_number, no_name, binomial_read, no_component, modulus_read}
 use Rattle.flat_cert.proofs.line_text.kind_of.Goals as goal
 use Rattle.flat_cert.proofs.line_text.kind_of.Goals.{else-is_same-3-via-then-is_same-3+else-modulus-gt0, else-is_same-3-via-else-is_same-3}

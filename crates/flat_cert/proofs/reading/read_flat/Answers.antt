@@ -1,4 +1,4 @@
-use Rattle.std.proofs.Common.{◌≡◌, ◌<◌, ◌+◌, ◌++◌, ◌∷◌, [], true, false, length, sym, ap, subst, ◌∙◌, arith}
+use Rattle.std.proofs.Common.{◌≡◌, ◌<◌, ◌+◌, ◌++◌, ◌∷◌, [], true, false, length, sym, subst, ◌∙◌, arith}
 use Rattle.flat_cert.specs.Texts.{title, lines_text, IsCertificate, IsFirstFault}
 use Rattle.flat_cert.proofs.Texts.{nothing_left, something_left, no_title, other_title, begun, no_lines, missing, goes_on, whole, too_many, no_line, one_more, longer}
 use Rattle.flat_cert.proofs.reading.read_flat.Goals as goal
