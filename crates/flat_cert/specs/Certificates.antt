@@ -40,7 +40,8 @@ pub record IsFlat (p : Presented) (l : Flat) : Type 0 where
 abbrev pub AreFlat : Presented → List Flat → Type 0
 AreFlat p ls = AllByRecursion (IsFlat p) ls
 
--- what the line is a multiple of: the Fox vector of a relator, (x^a - 1)·e_c for the exponent sums a of a relator, or m·e_c
+-- what the line is a multiple of: the Fox vector of a relator, (x^a - 1)·e_c for the exponent sums a of a relator,
+-- or m·e_c
 abbrev pub generator_of : Presented → FlatKind → FormalSum Place
 generator_of p (Rel j) = fox (relator p j)
 generator_of p (Bin j c) = binomial (image (relator p j)) c
