@@ -1,9 +1,9 @@
 -- Adding to totals, one term after another.
-use Rattle.std.proofs.Common.{◌≡◌, ◌≢◌, ◌⊎◌, inl, inr, ℕ, zero, suc, ◌+◌, ◌<◌, ◌≤◌, Bool, true, false, cond, ℤ, pos, ◌+ℤ◌, ◌*ℤ◌, List, [], ◌∷◌, ◌++◌, length, refl, sym, ap, subst, ◌∙◌, arith}
+use Rattle.std.proofs.Common.{◌≡◌, ◌≢◌, ◌⊎◌, inl, inr, ℕ, ◌+◌, ◌<◌, ◌≤◌, Bool, true, false, cond, ℤ, pos, ◌+ℤ◌, ◌*ℤ◌, List, [], ◌∷◌, ◌++◌, refl, sym, ap}
+use Rattle.std.proofs.Common.{subst, ◌∙◌, arith}
 use Rattle.std.specs.Prelude.{Option, Some, None, Ok, Err, Result, unsigned_abs}
 use Rattle.std.specs.Option.{is_some}
 use Rattle.std.specs.List.{AllByRecursion}
-use Rattle.std.specs.Map.{lookup}
 use Rattle.std.specs.BTreeMap.{insert_entry}
 use Rattle.std.specs.Ordering.{is_eq, match_ordering}
 use Rattle.std.specs.declared.cmp.Ordering.{Ordering}
@@ -18,7 +18,7 @@ use Rattle.laurent_terms.specs.Monomials.{degree, product}
 use Rattle.module_vec.specs.declared.TheConstants.{COEFFICIENT}
 use Rattle.module_vec.specs.declared.places.Place.{Place}
 use Rattle.module_vec.specs.declared.places.Term.{Term}
-use Rattle.module_vec.specs.Places.{place_cmp, same_place, moved, IsPlace}
+use Rattle.module_vec.specs.Places.{place_cmp, same_place, moved}
 use Rattle.module_vec.specs.Vectors.{sum_of}
 use Rattle.module_vec.proofs.Order.{test, place_exact}
 use Rattle.flat_cert.specs.declared.faults.AddFault.{AddFault}
@@ -26,8 +26,8 @@ use Rattle.flat_cert.specs.declared.faults.AddFault.TheVariants.{Beyond, NoMemor
 use Rattle.flat_cert.specs.declared.totals.Total.{Total}
 use Rattle.flat_cert.specs.declared.TheConstants.{PLACES}
 use Rattle.flat_cert.specs.Images.{cancelled, flat_place, flat_image}
-use Rattle.flat_cert.specs.Weights.{weight, IsBeyond}
-use Rattle.flat_cert.specs.Adding.{sum_in, weight_in, found, sum_at, weight_at, IsTotal, IsWith, AreTotals, Adds}
+use Rattle.flat_cert.specs.Weights.{weight}
+use Rattle.flat_cert.specs.Adding.{sum_in, weight_in, found, sum_at, weight_at, IsTotal, IsWith, Adds}
 use Rattle.flat_cert.proofs.Weights.{weight-append, beyond_more, abs_some}
 use Rattle.flat_cert.proofs.Entries.{Entries}
 

@@ -1,11 +1,10 @@
 -- What is left of a Fox vector, and that no limit is passed.
-use Rattle.std.proofs.Common.{◌≡◌, ◌≢◌, ℕ, ◌+◌, ◌<◌, ◌≤◌, ℤ, pos, ◌+ℤ◌, ◌-ℤ◌, List, [], ◌∷◌, ◌++◌, length, refl, sym, ap, subst, ◌∙◌, arith}
+use Rattle.std.proofs.Common.{◌≡◌, ◌≢◌, ◌+◌, pos, List, [], ◌∷◌, refl, sym, ap, ◌∙◌, arith}
 use Rattle.std.specs.Prelude.{Ok, Err}
 use Rattle.std.specs.List.{AllByRecursion}
 use borrow.Author.Differences.{ints}
 use Rattle.free_words.specs.declared.letter.Letter.{Letter}
-use Rattle.presentation.specs.Presented.{Presented, IsPresented}
-use Rattle.derivation.specs.Moves.{IsWordOver, Trivial}
+use Rattle.presentation.specs.Presented.{Presented}
 use Rattle.formal_sums.specs.FormalSum.{FormalSum, Same, coefficient, rename}
 use Rattle.formal_sums.specs.Span.{multiple}
 use Rattle.formal_sums.proofs.Spans.{scale-one}
@@ -23,10 +22,10 @@ use Rattle.flat_cert.specs.declared.faults.AddFault.TheVariants.{Beyond, NoMemor
 use Rattle.flat_cert.specs.declared.faults.FlatSumFault.TheVariants.{NotZero}
 use Rattle.flat_cert.specs.declared.lines.Flat.{Flat}
 use Rattle.flat_cert.specs.Images.{flat_image}
-use Rattle.flat_cert.specs.Certificates.{AreFlat, certificate_sum}
-use Rattle.flat_cert.specs.Weights.{weight, IsBeyond}
+use Rattle.flat_cert.specs.Certificates.{certificate_sum}
+use Rattle.flat_cert.specs.Weights.{weight}
 use Rattle.flat_cert.specs.Checking.{Vectors, AreVectors, lines_weight, whole_weight, left_at, IsWithin, Answers, sum_fault}
-use Rattle.flat_cert.specs.Adding.{sum_at, weight_at, AreTotals, Adds, Weighs, TakesLines}
+use Rattle.flat_cert.specs.Adding.{sum_at, weight_at, AreTotals, Adds, TakesLines}
 use Rattle.flat_cert.proofs.Weights.{beyond_more}
 use Rattle.flat_cert.proofs.Entries.{Entries, not_beyond}
 use Rattle.flat_cert.proofs.Taking.{written_same, flat_same}

@@ -1,10 +1,9 @@
 -- The product of two monomials with x_g·y_g cancelled, from the differences of exponents.
-use Rattle.std.proofs.Common.{◌≡◌, ℕ, zero, suc, ◌+◌, ◌-◌, ◌*◌, ◌<◌, ◌≤◌, ℤ, pos, negsuc, ◌+ℤ◌, ◌-ℤ◌, neg_ℤ, List, [], ◌∷◌, ◌++◌, length, slice_index, slice_index_or}
+use Rattle.std.proofs.Common.{◌≡◌, ℕ, zero, suc, ◌+◌, ◌-◌, ◌*◌, ◌<◌, ℤ, pos, ◌+ℤ◌, ◌-ℤ◌, neg_ℤ, List, [], ◌∷◌, ◌++◌, length, slice_index, slice_index_or}
 use Rattle.std.proofs.Common.{replicate, refl, sym, ap, ◌∙◌, arith, append-nil, sum_by}
 use Rattle.std.specs.Prelude.{unsigned_abs, slice_set, ◌==◌, Bool, true, false, ◌≢◌}
 use Rattle.std.proofs.lemmas.Bool.Decides.{nat_tests}
 use Rattle.std.proofs.lemmas.List.{get_or-set_same, get_or-set_other}
-use borrow.Author.Differences.{ints}
 use Rattle.laurent_terms.specs.Monomials.{degree, product, positive_part, negative_part, both_parts, monomial_of}
 use Rattle.laurent_terms.proofs.IntegerVectors.{degree-monomial_of}
 use Rattle.flat_cert.specs.Images.{cancelled}
@@ -63,7 +62,8 @@ next_each made s t g z count below is each k lt = by (k == g) refl
     by : (b : Bool) → (k == g) ≡ b → slice_index_or (slice_set made g z) k (pos 0) ≡ difference_in s t k
     by true e =
         let same : k ≡ g = grind (arith, nat_tests) in
-        ap (λ i. slice_index_or (slice_set made g z) i (pos 0)) same ∙ get_or-set_same made g z (pos 0) (omega (arith, count, below)) ∙ is ∙ ap (difference_in s t) (sym same)
+        ap (λ i. slice_index_or (slice_set made g z) i (pos 0)) same ∙ get_or-set_same made g z (pos 0) (omega (arith, count, below)) ∙ is
+          ∙ ap (difference_in s t) (sym same)
     by false e =
         let other : k ≢ g = grind (arith, nat_tests) in
         get_or-set_other made g k z (pos 0) other ∙ each k (omega (arith, lt, other))

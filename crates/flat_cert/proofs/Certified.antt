@@ -1,26 +1,24 @@
 -- A word is trivial whose Fox vector has the flat image of the sum of a certificate.
-use Rattle.std.proofs.Common.{◌≡◌, ℕ, ◌+◌, ◌-◌, ◌*◌, ◌<◌, ◌≤◌, Bool, true, false, cond, ℤ, ◌*ℤ◌, List, [], ◌∷◌, ◌++◌, length, get_or, refl, sym, subst, arith}
+use Rattle.std.proofs.Common.{ℕ, ◌-◌, Bool, true, false, ℤ, List, [], ◌∷◌, ◌++◌, length, refl, sym, subst, arith}
 use Rattle.std.specs.Prelude.{Contains}
-use Rattle.std.specs.List.{AllByRecursion, flat_map}
+use Rattle.std.specs.List.{AllByRecursion}
 use Rattle.std.proofs.lemmas.List.Elements.{Contains-get_or}
 use Rattle.std.proofs.lemmas.List.Concat.{flat_map-cons}
 use Rattle.free_words.specs.declared.letter.Letter.{Letter}
 use Rattle.free_words.specs.Words.{IsOver}
-use Rattle.free_words.proofs.OverLemmas.{IsOver-append}
 use Rattle.presentation.specs.Presented.{Presented, IsPresented}
 use Rattle.derivation.specs.Moves.{IsWordOver, Trivial}
 use Rattle.formal_sums.specs.FormalSum.{FormalSum, Same}
 use Rattle.formal_sums.specs.Span.{multiple}
 use Rattle.laurent_terms.specs.declared.TheConstants.{VARIABLES}
-use Rattle.laurent_terms.specs.Monomials.{one, product}
+use Rattle.laurent_terms.specs.Monomials.{one}
 use Rattle.laurent_terms.proofs.IntegerVectors.{length-monomial_of}
 use Rattle.module_vec.specs.declared.places.Place.{Place}
 use Rattle.module_vec.specs.Places.{same_place, moved}
 use Rattle.module_vec.proofs.FallingTerms.{all_join}
-use Rattle.vector_text.specs.Over.{MonoIsOver, PlaceIsOver, IsMonoOf}
+use Rattle.vector_text.specs.Over.{MonoIsOver, PlaceIsOver}
 use Rattle.vector_text.proofs.Over.{one_over, product_over}
 use Rattle.fox_calculus.specs.Fox.{exponent_sums, image, letter_term, fox_after, fox}
-use Rattle.fox_calculus.specs.Generators.{binomial, constant}
 use Rattle.fox_calculus.specs.Module.{HasVariables, IsGenerator, IsMember}
 use Rattle.fox_calculus.specs.Module.IsGenerator.{relator_vector, relator_binomial, modulus_vector}
 use Rattle.fox_calculus.proofs.Sums.{sums_length}
@@ -32,8 +30,8 @@ use Rattle.magnus_laws.proofs.Upward.{relator_over}
 use Rattle.flat_cert.specs.declared.lines.Flat.{Flat}
 use Rattle.flat_cert.specs.declared.lines.FlatKind.{FlatKind}
 use Rattle.flat_cert.specs.declared.lines.FlatKind.TheVariants.{Rel, Bin, Mod}
-use Rattle.flat_cert.specs.Images.{flat_image, IsPlaceOver, IsSumOver}
-use Rattle.flat_cert.specs.Certificates.{IsRelator, relator, IsKind, IsFlat, AreFlat, generator_of, value_of, certificate_sum}
+use Rattle.flat_cert.specs.Images.{flat_image, IsSumOver}
+use Rattle.flat_cert.specs.Certificates.{IsRelator, relator, IsKind, AreFlat, generator_of, value_of, certificate_sum}
 use Rattle.flat_cert.proofs.Images.{images_congruent}
 
 pub image_variables : (u : List Letter) → HasVariables (image u)

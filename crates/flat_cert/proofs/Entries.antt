@@ -1,17 +1,15 @@
 -- The entries of a map of totals: within the limits they are not beyond them, and the greatest place.
-use Rattle.std.proofs.Common.{◌≡◌, ◌≢◌, ◌⊎◌, inl, inr, ℕ, zero, suc, ◌+◌, ◌<◌, ◌≤◌, Bool, true, false, cond, ℤ, pos, ◌+ℤ◌, List, [], ◌∷◌, ◌++◌, length, refl, sym, ap, subst, ◌∙◌, arith}
-use Rattle.std.specs.Prelude.{Option, Some, None, unsigned_abs}
+use Rattle.std.proofs.Common.{◌≡◌, ◌≢◌, ◌⊎◌, inl, inr, ℕ, suc, ◌<◌, ◌≤◌, Bool, true, false, cond, pos, List, [], ◌∷◌, ◌++◌, length, refl, sym, ap, subst}
+use Rattle.std.proofs.Common.{◌∙◌, arith}
+use Rattle.std.specs.Prelude.{Option, Some, None}
 use Rattle.std.specs.List.{AllByRecursion}
 use Rattle.std.specs.List.Sorted.{IsStrictlySortedBy}
 use Rattle.std.specs.Map.{keys_of}
 use Rattle.std.specs.Ordering.{is_eq}
 use Rattle.std.specs.declared.cmp.Ordering.TheVariants.{Less}
-use Rattle.formal_sums.proofs.Keys.{eq-above, eq-below, eq-apart}
-use Rattle.laurent_terms.specs.declared.TheConstants.{DEGREE}
-use Rattle.laurent_terms.specs.Monomials.{degree}
-use Rattle.module_vec.specs.declared.TheConstants.{COEFFICIENT}
+use Rattle.formal_sums.proofs.Keys.{eq-above, eq-apart}
 use Rattle.module_vec.specs.declared.places.Place.{Place}
-use Rattle.module_vec.specs.Places.{place_cmp, same_place, IsBelow}
+use Rattle.module_vec.specs.Places.{place_cmp, IsBelow}
 use Rattle.module_vec.specs.Results.{IsGreatest}
 use Rattle.module_vec.proofs.Order.{test, order}
 use Rattle.flat_cert.specs.declared.TheConstants.{PLACES}
@@ -78,7 +76,8 @@ found_dropped x y (d ∷ es) apart = by (is_eq (place_cmp x d.0)) refl (found_dr
 abbrev IsFound : Entries → Place → Type 0
 IsFound es x = (t : Total) × (found es x ≡ Some t)
 
-still_found : (x : Place) (es : Entries) (ys : List Place) → AllByRecursion (λ y. y ≢ x) ys → AllByRecursion (IsFound es) ys → AllByRecursion (IsFound (dropped x es)) ys
+still_found : (x : Place) (es : Entries) (ys : List Place) → AllByRecursion (λ y. y ≢ x) ys → AllByRecursion (IsFound es) ys
+  → AllByRecursion (IsFound (dropped x es)) ys
 still_found x es [] apart all = tt
 still_found x es (y ∷ ys) apart all = ((all.0.0, found_dropped x y es apart.0 ∙ all.0.1), still_found x es ys apart.1 all.1)
 
@@ -189,7 +188,8 @@ sum_there : (es : Entries) (p : Place) (t : Total) (x : Place) → AllByRecursio
     → sum_at (es ++ (p, t) ∷ []) x ≡ sum_in (cond (is_eq (place_cmp x p)) (Some t) None)
 sum_there es p t x all h = ap sum_in (found_last es p t x (all_at_most es p x all h))
 
-pub last_greatest : (old es : Entries) (p : Place) (t : Total) → old ≡ es ++ (p, t) ∷ [] → AllByRecursion (λ q. place_cmp q p ≡ Less) (keys_of es) → t.sum ≢ pos 0
+pub last_greatest : (old es : Entries) (p : Place) (t : Total) → old ≡ es ++ (p, t) ∷ [] → AllByRecursion (λ q. place_cmp q p ≡ Less) (keys_of es)
+  → t.sum ≢ pos 0
     → IsGreatest (λ x. sum_at old x ≢ pos 0) p
 last_greatest old es p t is all some = record {
   here = λ none. some (sym own ∙ sym (read p) ∙ none);

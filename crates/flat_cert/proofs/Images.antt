@@ -1,28 +1,26 @@
 -- Vectors with one flat image differ by multiples of unit binomials.
-use Rattle.std.proofs.Common.{◌≡◌, ℕ, zero, suc, ◌+◌, ◌-◌, ◌*◌, ◌<◌, ◌≤◌, nat_lt, Bool, true, false, ℤ, pos, negsuc, ◌+ℤ◌, neg_ℤ, List, [], ◌∷◌, ◌++◌, length}
-use Rattle.std.proofs.Common.{slice_index, refl, sym, ap, subst, ◌∙◌, arith, append_assoc}
+use Rattle.std.proofs.Common.{◌≡◌, ℕ, zero, suc, ◌+◌, ◌-◌, ◌*◌, ◌<◌, ◌≤◌, nat_lt, Bool, true, false, pos, negsuc, ◌+ℤ◌, neg_ℤ, List, [], ◌∷◌, ◌++◌, length}
+use Rattle.std.proofs.Common.{slice_index, refl, ap, subst, ◌∙◌, arith, append_assoc}
 use Rattle.std.specs.Prelude.{Contains}
-use Rattle.std.specs.List.{AllByRecursion}
 use Rattle.std.proofs.lemmas.List.{length-append}
 use borrow.Author.Differences.{ints}
 use Rattle.free_words.specs.declared.letter.Letter.{Letter}
 use Rattle.free_words.specs.declared.TheConstants.{GENERATORS}
 use Rattle.presentation.specs.Presented.{Presented, IsPresented}
 use Rattle.formal_sums.specs.FormalSum.{FormalSum, Same, scale}
-use Rattle.formal_sums.specs.Span.{SumOfMultiples, IsSpanned}
+use Rattle.formal_sums.specs.Span.{SumOfMultiples}
 use Rattle.formal_sums.specs.Span.SumOfMultiples.{nothing, more}
 use Rattle.laurent_terms.specs.Monomials.{positive_part, negative_part}
 use Rattle.module_vec.specs.declared.places.Place.{Place}
 use Rattle.module_vec.specs.Places.{same_place, moved}
-use Rattle.vector_text.specs.Over.{MonoIsOver, PlaceIsOver}
-use Rattle.fox_calculus.specs.Generators.{binomial, unit_monomial}
+use Rattle.vector_text.specs.Over.{MonoIsOver}
 use Rattle.fox_calculus.specs.Module.{HasVariables, IsGenerator, IsMember}
 use Rattle.fox_calculus.specs.Module.IsGenerator.{relator_vector, relator_binomial, unit_binomial, modulus_vector}
 use Rattle.magnus_laws.specs.Congruence.{AreCongruent}
 use Rattle.magnus_laws.proofs.Members.{member_nothing, congruent_same, congruent_back, congruent_on}
-use Rattle.magnus_laws.proofs.UnitBinomials.{difference, CountAlike, alike_on, alike_self, alike_pair}
+use Rattle.magnus_laws.proofs.UnitBinomials.{CountAlike, alike_on, alike_self, alike_pair}
 use Rattle.magnus_laws.proofs.Upward.{congruent_next}
-use Rattle.flat_cert.specs.Images.{cancelled, flat_place, flat_image, IsPlaceOver, IsSumOver, IsUnitBinomial, IsSumOfUnits}
+use Rattle.flat_cert.specs.Images.{cancelled, flat_image, IsSumOver, IsUnitBinomial, IsSumOfUnits}
 use Rattle.flat_cert.specs.Images.IsUnitBinomial.{of_generator}
 
 pub positive_cancelled : (a b : ℕ) → positive_part (pos a +ℤ neg_ℤ (pos b)) ≡ a - b

@@ -1,11 +1,11 @@
 -- Taking the values of lines away.
-use Rattle.std.proofs.Common.{◌≡◌, ◌≢◌, ℕ, zero, suc, ◌+◌, ◌-◌, ◌<◌, ◌≤◌, ℤ, pos, ◌+ℤ◌, ◌-ℤ◌, ◌*ℤ◌, neg_ℤ, List, [], ◌∷◌, ◌++◌, length, get_or, refl, sym, ap, subst, ◌∙◌, arith}
+use Rattle.std.proofs.Common.{◌≡◌, ℕ, zero, suc, ◌+◌, ◌<◌, ℤ, ◌+ℤ◌, ◌*ℤ◌, neg_ℤ, List, [], ◌∷◌, ◌++◌, length, get_or, refl, sym, ap, subst, ◌∙◌, arith}
 use Rattle.std.specs.Prelude.{Ok, Err, IfOk}
 use Rattle.std.proofs.lemmas.List.Concat.{flat_map-cons}
 use borrow.Author.Differences.{ints}
 use Rattle.free_words.specs.declared.letter.Letter.{Letter}
 use Rattle.presentation.specs.Presented.{Presented}
-use Rattle.formal_sums.specs.FormalSum.{FormalSum, Same, coefficient, scale, rename}
+use Rattle.formal_sums.specs.FormalSum.{FormalSum, Same, coefficient, rename}
 use Rattle.formal_sums.specs.Span.{multiple}
 use Rattle.formal_sums.proofs.Coefficients.{coefficient-append, coefficient-scale, rename-append, rename-scale}
 use Rattle.formal_sums.proofs.Evaluation.{Same-rename}
@@ -21,13 +21,12 @@ use Rattle.fox_calculus.specs.Generators.{IsWritten}
 use Rattle.flat_cert.specs.declared.faults.AddFault.{AddFault}
 use Rattle.flat_cert.specs.declared.faults.AddFault.TheVariants.{Beyond, NoMemory}
 use Rattle.flat_cert.specs.declared.lines.Flat.{Flat}
-use Rattle.flat_cert.specs.declared.lines.FlatKind.{FlatKind}
 use Rattle.flat_cert.specs.declared.relators.RelatorVector.{RelatorVector}
 use Rattle.flat_cert.specs.Images.{flat_place, flat_image}
-use Rattle.flat_cert.specs.Certificates.{IsKind, IsFlat, generator_of, value_of, certificate_sum}
-use Rattle.flat_cert.specs.Weights.{weight, IsBeyond}
+use Rattle.flat_cert.specs.Certificates.{IsFlat, generator_of, value_of, certificate_sum}
+use Rattle.flat_cert.specs.Weights.{weight}
 use Rattle.flat_cert.specs.Checking.{Vectors, lines_weight}
-use Rattle.flat_cert.specs.Adding.{sum_at, weight_at, Adds, Weighs, Loses, TakesAway, TakesLines, AreRelators}
+use Rattle.flat_cert.specs.Adding.{weight_at, Adds, Weighs, Loses, TakesAway, TakesLines, AreRelators}
 use Rattle.flat_cert.proofs.Weights.{beyond_more, weight_turned}
 use Rattle.flat_cert.proofs.Entries.{Entries}
 use Rattle.flat_cert.proofs.Adding.{Answer}
@@ -91,9 +90,11 @@ module _ (p : Presented) where
 
   pub takes_on : (old mid new : Entries) (l : Flat) (ls : List Flat) (r : Answer) → IsFlat p l → TakesAway old l.k l.t (generator_of p l.what) mid (Ok tt)
       → TakesLines p mid ls new r → TakesLines p old (l ∷ ls) new r
-  takes_on old mid new l ls r is one more = record { sums = sums r more.sums; weights = λ vs are. weights vs (one.weights (vs.of l.what) (are l.what is.kind)) r (more.weights vs are) }
+  takes_on old mid new l ls r is one more = record { sums = sums r more.sums; weights =
+    λ vs are. weights vs (one.weights (vs.of l.what) (are l.what is.kind)) r (more.weights vs are) }
     where
-      sums : (r : Answer) → IfOk r (λ _. Loses mid (flat_image (certificate_sum p ls)) new) → IfOk r (λ _. Loses old (flat_image (certificate_sum p (l ∷ ls))) new)
+      sums : (r : Answer) → IfOk r (λ _. Loses mid (flat_image (certificate_sum p ls)) new)
+        → IfOk r (λ _. Loses old (flat_image (certificate_sum p (l ∷ ls))) new)
       sums (Ok u) h = λ x. omega (arith, ints, h x, one.sums x, sum_first l ls x)
       sums (Err e) h = tt
 

@@ -1,9 +1,8 @@
 -- Reading a certificate: what is told by each way out.
-use Rattle.std.proofs.Common.{◌≡◌, ◌≢◌, ℕ, suc, ◌+◌, ◌<◌, ◌≤◌, ◌==◌, true, false, List, [], ◌∷◌, ◌++◌, length, Some, None, refl, sym, ap, subst, ◌∙◌, arith, append_assoc, append-nil}
-use Rattle.std.specs.List.{AllByRecursion, flat_map}
+use Rattle.std.proofs.Common.{◌≡◌, ℕ, suc, ◌+◌, ◌<◌, ◌≤◌, ◌==◌, true, false, List, [], ◌∷◌, ◌++◌, length, Some, None, refl, sym, ap, subst, ◌∙◌, arith}
+use Rattle.std.proofs.Common.{append_assoc, append-nil}
 use Rattle.std.proofs.lemmas.List.{length-append}
 use Rattle.std.proofs.lemmas.Grind.{flat_map-append}
-use Rattle.std.proofs.lemmas.List.Concat.{flat_map-cons}
 use Rattle.spelling.specs.Spelling.{IsRead, cut}
 use Rattle.spelling.proofs.Cuts.{cut_joins}
 use Rattle.presentation.specs.Presented.{Presented}
@@ -11,7 +10,7 @@ use Rattle.module_vec.proofs.FallingTerms.{all_join, all_back}
 use Rattle.flat_cert.specs.declared.TheConstants.{LINES}
 use Rattle.flat_cert.specs.declared.lines.Flat.{Flat}
 use Rattle.flat_cert.specs.Certificates.{IsFlat}
-use Rattle.flat_cert.specs.Texts.{line_text, lines_text, title, last_line, certificate_text, IsCertificate, NoneFollows, IsNoTitle, CantStand, IsFirstFault}
+use Rattle.flat_cert.specs.Texts.{line_text, lines_text, title, last_line, certificate_text, IsCertificate, IsNoTitle, CantStand, IsFirstFault}
 use Rattle.flat_cert.specs.Texts.IsFirstFault.{at_title, behind, after_last}
 
 pub nothing_left : (t : List ℕ) → true ≡ (length t == 0) → t ≡ []

@@ -2,7 +2,8 @@
 use Rattle.std.specs.List.{AllByRecursion}
 use Rattle.std.specs.Map.{lookup}
 use Rattle.std.specs.Ordering.{is_eq}
-use Rattle.std.specs.Prelude.{◌≡◌, ◌-◌, ℕ, ◌+◌, ◌*◌, ◌<◌, ◌≤◌, ℤ, pos, ◌+ℤ◌, ◌-ℤ◌, unsigned_abs, slice_index, List, [], ◌∷◌, length, Option, Some, None, Result, Ok, Err, IfOk}
+use Rattle.std.specs.Prelude.{◌≡◌, ℕ, ◌+◌, ◌*◌, ◌<◌, ◌≤◌, ℤ, pos, ◌+ℤ◌, ◌-ℤ◌, unsigned_abs, slice_index, List, []}
+use Rattle.std.specs.Prelude.{◌∷◌, length, Option, Some, None, Result, Ok, Err, IfOk}
 use Rattle.free_words.specs.declared.letter.Letter.{Letter}
 use Rattle.presentation.specs.Presented.{Presented}
 use Rattle.formal_sums.specs.FormalSum.{FormalSum, coefficient}
@@ -28,7 +29,8 @@ use Rattle.flat_cert.specs.Checking.{Vectors, lines_weight}
 
 -- the exponent of x_g less that of y_g in the product
 abbrev pub difference_in : List ℕ → List ℕ → ℕ → ℤ
-difference_in s t g = pos (slice_index s (2 * g) + slice_index t (2 * g)) -ℤ pos (slice_index s (2 * g + 1) + slice_index t (2 * g + 1))
+difference_in s t g = pos (slice_index s (2 * g) + slice_index t (2 * g)) -ℤ pos
+  (slice_index s (2 * g + 1) + slice_index t (2 * g + 1))
 
 abbrev pub sum_in : Option Total → ℤ
 sum_in None = pos 0
@@ -86,7 +88,8 @@ abbrev pub Loses : List (Place × Total) → FormalSum Place → List (Place × 
 Loses old v new = (x : Place) → sum_at new x ≡ sum_at old x -ℤ coefficient same_place v x
 
 -- what comes of taking k·t·f away
-pub record TakesAway (old : List (Place × Total)) (k : ℤ) (t : List ℕ) (f : FormalSum Place) (new : List (Place × Total))
+pub record TakesAway (old : List (Place × Total)) (k : ℤ) (t : List ℕ) (f : FormalSum Place)
+  (new : List (Place × Total))
     (r : Result (Unit {0}) AddFault) : Type 0 where
   pub sums : IfOk r (λ _. Loses old (flat_image (multiple moved k t f)) new)
   pub weights : (g : List Term) → IsWritten f g → Weighs old (weight (flat_image (multiple moved k t (sum_of g)))) new r

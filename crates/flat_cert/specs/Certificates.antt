@@ -1,11 +1,10 @@
 -- Flat certificates: sums of multiples of the relators' Fox vectors, of relator binomials and of the modulus.
-use Rattle.std.specs.Prelude.{◌≡◌, ◌≢◌, ℕ, ◌-◌, ◌<◌, ◌≤◌, pos, List, [], length, get_or}
+use Rattle.std.specs.Prelude.{◌≢◌, ℕ, ◌-◌, ◌<◌, ◌≤◌, pos, List, [], length, get_or}
 use Rattle.std.specs.List.{AllByRecursion, flat_map}
 use Rattle.free_words.specs.declared.letter.Letter.{Letter}
 use Rattle.presentation.specs.Presented.{Presented}
 use Rattle.formal_sums.specs.FormalSum.{FormalSum}
 use Rattle.formal_sums.specs.Span.{multiple}
-use Rattle.laurent_terms.specs.Monomials.{IsMonomial}
 use Rattle.module_vec.specs.declared.places.Place.{Place}
 use Rattle.module_vec.specs.Places.{moved}
 use Rattle.module_vec.specs.Vectors.{InRange}
@@ -41,7 +40,8 @@ pub record IsFlat (p : Presented) (l : Flat) : Type 0 where
 abbrev pub AreFlat : Presented → List Flat → Type 0
 AreFlat p ls = AllByRecursion (IsFlat p) ls
 
--- what the line is a multiple of: the Fox vector of a relator, (x^a - 1)·e_c for the exponent sums a of a relator, or m·e_c
+-- what the line is a multiple of: the Fox vector of a relator, (x^a - 1)·e_c for the exponent sums a of a relator,
+-- or m·e_c
 abbrev pub generator_of : Presented → FlatKind → FormalSum Place
 generator_of p (Rel j) = fox (relator p j)
 generator_of p (Bin j c) = binomial (image (relator p j)) c

@@ -2,7 +2,7 @@
 use Rattle.std.specs.Prelude.{◌≡◌, ◌≢◌, ℕ, ◌+◌, ℤ, pos, ◌-ℤ◌, List, [], ◌∷◌, Result, Ok, Err}
 use Rattle.free_words.specs.declared.letter.Letter.{Letter}
 use Rattle.presentation.specs.Presented.{Presented}
-use Rattle.formal_sums.specs.FormalSum.{FormalSum, coefficient}
+use Rattle.formal_sums.specs.FormalSum.{coefficient}
 use Rattle.formal_sums.specs.Span.{multiple}
 use Rattle.module_vec.specs.declared.places.Place.{Place}
 use Rattle.module_vec.specs.declared.places.Term.{Term}
@@ -33,7 +33,8 @@ pub record AreVectors (p : Presented) (w : List Letter) (vs : Vectors) : Type 0 
 -- what the absolute values of the terms of the lines at x add up to
 abbrev pub lines_weight : Vectors → List Flat → Place → ℕ
 lines_weight vs [] x = 0
-lines_weight vs (l ∷ ls) x = weight (flat_image (multiple moved l.k l.t (sum_of (vs.of l.what)))) x + lines_weight vs ls x
+lines_weight vs (l ∷ ls) x = weight (flat_image (multiple moved l.k l.t (sum_of (vs.of l.what)))) x
+  + lines_weight vs ls x
 
 -- the same with the terms of the word's vector
 abbrev pub whole_weight : Vectors → List Flat → Place → ℕ
@@ -41,7 +42,8 @@ whole_weight vs ls x = weight (flat_image (sum_of vs.word)) x + lines_weight vs 
 
 -- where the sum is taken from the Fox vector of the word, what is left at x
 abbrev pub left_at : Presented → List Letter → List Flat → Place → ℤ
-left_at p w ls x = coefficient same_place (flat_image (fox w)) x -ℤ coefficient same_place (flat_image (certificate_sum p ls)) x
+left_at p w ls x = coefficient same_place (flat_image (fox w)) x -ℤ coefficient same_place
+  (flat_image (certificate_sum p ls)) x
 
 abbrev pub IsWithin : Presented → List Letter → List Flat → Type 0
 IsWithin p w ls = (vs : Vectors) → AreVectors p w vs → IsBeyond (whole_weight vs ls) → ⊥

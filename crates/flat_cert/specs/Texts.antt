@@ -1,6 +1,7 @@
 -- The texts of certificates, and the first line of another text that can't stand.
-use Rattle.std.specs.List.{AllByRecursion, flat_map}
-use Rattle.std.specs.Prelude.{◌≡◌, ◌≢◌, ℕ, ◌+◌, ◌≤◌, List, [], ◌∷◌, ◌++◌, length, codes, decimal, Option, Some, None, Result, Ok, Err, Vec}
+use Rattle.std.specs.List.{flat_map}
+use Rattle.std.specs.Prelude.{◌≡◌, ◌≢◌, ℕ, ◌+◌, ◌≤◌, List, [], ◌∷◌, ◌++◌, length, codes, decimal, Option, Some, None}
+use Rattle.std.specs.Prelude.{Result, Ok, Err, Vec}
 use Rattle.std.specs.declared.alloc.Global.{Global}
 use Rattle.spelling.specs.Spelling.{coefficient, cut}
 use Rattle.presentation.specs.Presented.{Presented}
@@ -12,7 +13,7 @@ use Rattle.flat_cert.specs.declared.lines.FlatKind.{FlatKind}
 use Rattle.flat_cert.specs.declared.lines.FlatKind.TheVariants.{Rel, Bin, Mod}
 use Rattle.flat_cert.specs.declared.faults.FlatTextFault.{FlatTextFault}
 use Rattle.flat_cert.specs.declared.faults.FlatTextFault.TheVariants.{Line, NoMemory}
-use Rattle.flat_cert.specs.Certificates.{IsFlat, AreFlat}
+use Rattle.flat_cert.specs.Certificates.{AreFlat}
 
 -- what a line is a multiple of
 abbrev pub kind_text : List (List ℕ) → FlatKind → List ℕ

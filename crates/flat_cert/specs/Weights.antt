@@ -1,4 +1,5 @@
--- How much a computation at flat places may take: limits on places, on the coefficients at one place, and on their number.
+-- How much a computation at flat places may take: limits on places, on the coefficients at one place, and on their
+-- number.
 use Rattle.std.specs.Prelude.{◌≢◌, ◌⊎◌, ℕ, ◌+◌, ◌<◌, if◌then◌else◌, unsigned_abs, List, [], ◌∷◌, length}
 use Rattle.std.specs.List.{AllByRecursion}
 use Rattle.formal_sums.specs.FormalSum.{FormalSum}

@@ -43,7 +43,8 @@ pub fn check_flat(
     requires short { length w.now ≤ COMPOSED }
     requires lines { AreFlat p.now list.now }
     ensures exact { Answers p.now w.now list.now result }
-    ensures equal { IfOk result (λ _. Same same_place (flat_image (fox w.now)) (flat_image (certificate_sum p.now list.now))) }
+    ensures equal { IfOk result (λ _. Same same_place (flat_image (fox w.now))
+        (flat_image (certificate_sum p.now list.now))) }
     ensures sound { IfOk result (λ _. Trivial p.now w.now) }
 {
     p.known();

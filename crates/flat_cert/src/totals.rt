@@ -28,8 +28,8 @@ struct Total {
     weight: u128,
 }
 
-/// Coefficients, added up at each place, that stay within the limits of [`FlatSumFault::Beyond`](crate::FlatSumFault::Beyond). Contracts see the
-/// places with what was added there.
+/// Coefficients, added up at each place, that stay within the limits of
+/// [`FlatSumFault::Beyond`](crate::FlatSumFault::Beyond). Contracts see the places with what was added there.
 #[derive(Drop)]
 pub struct Totals {
     places: BTreeMap<Place, Total>,

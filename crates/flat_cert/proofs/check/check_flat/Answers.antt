@@ -1,4 +1,4 @@
-use Rattle.std.proofs.Common.{◌≡◌, ◌∙◌, ap, sym, subst, pos, [], Ok, Err}
+use Rattle.std.proofs.Common.{◌∙◌, ap, sym, subst, pos, [], Ok, Err}
 use Rattle.std.proofs.lemmas.Result.{err_from_is_err_and}
 use Rattle.laurent_terms.specs.Monomials.{one}
 use Rattle.flat_cert.specs.Checking.{Answers}

@@ -1,4 +1,4 @@
-use Rattle.std.proofs.Common.{rules, arith, ◌≡◌, ap, subst, pos, ◌-ℤ◌, neg_ℤ, FitsSigned}
+use Rattle.std.proofs.Common.{rules, arith, ◌≡◌, subst, pos, ◌-ℤ◌, neg_ℤ, FitsSigned}
 use mir.Syntax.{w128}
 use Rattle.std.proofs.lemmas.Int.{to_z-of_z}
 use borrow.Author.Differences.{ints}

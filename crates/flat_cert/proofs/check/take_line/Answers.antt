@@ -3,7 +3,6 @@ use mir.Syntax.{w128}
 use Rattle.std.proofs.lemmas.Int.{to_z-of_z}
 use Rattle.fox_calculus.specs.Fox.{fox, image}
 use Rattle.fox_calculus.specs.Generators.{IsWritten, binomial, constant}
-use Rattle.flat_cert.specs.declared.lines.FlatKind.TheVariants.{Rel, Bin, Mod}
 use Rattle.flat_cert.specs.Certificates.{relator, IsKind, generator_of}
 use Rattle.flat_cert.specs.Adding.{TakesAway}
 use Rattle.flat_cert.proofs.Taking.{relators_length, relator_at}

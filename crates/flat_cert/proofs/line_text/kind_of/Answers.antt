@@ -1,6 +1,6 @@
-use Rattle.std.proofs.Common.{◌≡◌, true, false, sym, ap, ◌∙◌, arith}
-use Rattle.std.specs.Prelude.{codes}
-use Rattle.flat_cert.proofs.LineTexts.{no_word, no_kind, no_relator, relator_read, no_parts, no_space, no_number, no_name, binomial_read, no_component, modulus_read}
+use Rattle.std.proofs.Common.{◌≡◌, true, false, sym, ◌∙◌, arith}
+use Rattle.flat_cert.proofs.LineTexts.{no_word, no_kind, no_relator, relator_read, no_parts, no_space, no_number, no_name, binomial_read, no_component}
+use Rattle.flat_cert.proofs.LineTexts.{modulus_read}
 use Rattle.flat_cert.proofs.line_text.kind_of.Goals as goal
 use Rattle.flat_cert.proofs.line_text.kind_of.Goals.{else-is_same-3-via-then-is_same-3+else-modulus-gt0, else-is_same-3-via-else-is_same-3}
 
@@ -20,18 +20,21 @@ returns-then-is_same c =
 pub returns-in_err-number : goal.returns-in_err-number
 returns-in_err-number c =
     rw c.from_residual-in_err-number.ensures (no_parts c.args.p.now c.known.ensures c.args.text.now c.in_ok-word.word.now c.in_ok-word.rest.now
-    c.in_ok-word.ensures.parts (c.is_same-2.ensures.0 c.if-is_same-2.true) (no_space c.args.p.now c.known.ensures c.in_ok-word.rest.now c.in_err-number.ensures.parts))
+    c.in_ok-word.ensures.parts (c.is_same-2.ensures.0 c.if-is_same-2.true) (no_space c.args.p.now c.known.ensures c.in_ok-word.rest.now
+      c.in_err-number.ensures.parts))
 
 pub returns-in_err-relator-2 : goal.returns-in_err-relator-2
 returns-in_err-relator-2 c =
     rw c.from_residual-in_err-relator-2.ensures (no_parts c.args.p.now c.known.ensures c.args.text.now c.in_ok-word.word.now c.in_ok-word.rest.now
-    c.in_ok-word.ensures.parts (c.is_same-2.ensures.0 c.if-is_same-2.true) (no_number c.args.p.now c.known.ensures c.in_ok-word.rest.now c.in_ok-number.number.now c.in_ok-number.name.now c.in_ok-number.ensures.parts
+    c.in_ok-word.ensures.parts (c.is_same-2.ensures.0 c.if-is_same-2.true) (no_number c.args.p.now c.known.ensures c.in_ok-word.rest.now
+      c.in_ok-number.number.now c.in_ok-number.name.now c.in_ok-number.ensures.parts
     c.in_err-relator-2.ensures))
 
 pub returns-in_err-c : goal.returns-in_err-c
 returns-in_err-c c =
     rw c.from_residual-in_err-c.ensures (no_parts c.args.p.now c.known.ensures c.args.text.now c.in_ok-word.word.now c.in_ok-word.rest.now
-    c.in_ok-word.ensures.parts (c.is_same-2.ensures.0 c.if-is_same-2.true) (no_name c.args.p.now c.known.ensures c.in_ok-word.rest.now c.in_ok-number.number.now c.in_ok-number.name.now c.in_ok-number.ensures.parts
+    c.in_ok-word.ensures.parts (c.is_same-2.ensures.0 c.if-is_same-2.true) (no_name c.args.p.now c.known.ensures c.in_ok-word.rest.now
+      c.in_ok-number.number.now c.in_ok-number.name.now c.in_ok-number.ensures.parts
     (sym c.in_err-c.ensures.number)))
 
 pub returns-then-is_same-2 : goal.returns-then-is_same-2
@@ -48,7 +51,8 @@ returns-in_err-c-2 c =
 pub returns-then-modulus-gt0 : goal.returns-then-modulus-gt0
 returns-then-modulus-gt0 c =
     modulus_read c.args.p.now c.known.ensures c.args.text.now c.in_ok-word.word.now c.in_ok-word.rest.now c.in_ok-c-2.c c.in_ok-word.ensures.parts
-    (c.is_same-3.ensures.0 c.if-is_same-3.true) (sym c.in_ok-c-2.ensures.number) c.in_ok-c-2.ensures.inside (omega (arith, c.if-modulus-gt0.true, c.modulus.ensures))
+    (c.is_same-3.ensures.0 c.if-is_same-3.true) (sym c.in_ok-c-2.ensures.number) c.in_ok-c-2.ensures.inside
+      (omega (arith, c.if-modulus-gt0.true, c.modulus.ensures))
 
 pub returns : goal.returns
 returns c =

@@ -1,4 +1,4 @@
-use Rattle.std.proofs.Common.{◌≡◌, ◌⊎◌, inl, inr, ◌<◌, length, sym, ap, ◌∙◌, arith}
+use Rattle.std.proofs.Common.{◌≡◌, ◌⊎◌, inl, inr, ◌<◌, length, ap, arith}
 use Rattle.flat_cert.proofs.LineTexts.{no_relator_number, other_number}
 use Rattle.flat_cert.proofs.line_text.relator_of.Goals as goal
 use Rattle.flat_cert.proofs.line_text.relator_of.Goals.{then-j-eq0-via-then-j-eq0, then-j-eq0-via-else-j-eq0+then-j-relators}

@@ -1,4 +1,4 @@
-use Rattle.std.proofs.Common.{rules, ◌≡◌, ◌∙◌, ap, sym, arith, pos, ℤ, ◌+ℤ◌, ◌-ℤ◌, length, slice_set, FitsSigned, w32}
+use Rattle.std.proofs.Common.{rules, ◌≡◌, ◌∙◌, arith, ℤ, ◌+ℤ◌, ◌-ℤ◌, FitsSigned, w32}
 use Rattle.std.proofs.lemmas.Int.{to_z-of_z}
 use Rattle.std.proofs.lemmas.List.{length-set}
 use borrow.Author.Differences.{ints}

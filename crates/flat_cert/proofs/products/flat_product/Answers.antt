@@ -1,6 +1,6 @@
 use Rattle.std.proofs.Common.{◌≡◌, sum_by, subst}
 use Rattle.std.specs.Prelude.{unsigned_abs}
-use Rattle.laurent_terms.specs.Monomials.{product, degree, monomial_of, MadeWithin}
+use Rattle.laurent_terms.specs.Monomials.{product, monomial_of, MadeWithin}
 use Rattle.flat_cert.specs.Images.{cancelled}
 use Rattle.flat_cert.proofs.Cancelling.{product_cancelled, degree_cancelled}
 use Rattle.flat_cert.proofs.products.flat_product.Goals as goal

@@ -1,6 +1,7 @@
-use Rattle.std.proofs.Common.{◌≡◌, ◌<◌, ◌+◌, ◌++◌, ◌∷◌, [], true, false, length, sym, ap, subst, ◌∙◌, arith}
+use Rattle.std.proofs.Common.{◌≡◌, ◌<◌, ◌+◌, ◌++◌, ◌∷◌, [], true, false, length, sym, subst, ◌∙◌, arith}
 use Rattle.flat_cert.specs.Texts.{title, lines_text, IsCertificate, IsFirstFault}
-use Rattle.flat_cert.proofs.Texts.{nothing_left, something_left, no_title, other_title, begun, no_lines, missing, goes_on, whole, too_many, no_line, one_more, longer}
+use Rattle.flat_cert.proofs.Texts.{nothing_left, something_left, no_title, other_title, begun, no_lines, missing, goes_on, whole, too_many, no_line}
+use Rattle.flat_cert.proofs.Texts.{one_more, longer}
 use Rattle.flat_cert.proofs.reading.read_flat.Goals as goal
 
 pub returns-in_default : goal.returns-in_default
@@ -45,18 +46,21 @@ pub returns-in_default-line_of : goal.returns-in_default-line_of
 returns-in_default-line_of c =
     no_line c.args.p.now c.args.text.now c.loop-line.list.items c.loop-line.rest.now c.loop-line.invariant.certificate
     c.loop-line.invariant.text c.in-Some-cut.line.now c.in-Some-cut.others.now c.in-Some-cut.ensures.parts
-    (c.len.result + 2) (omega (arith, c.len.ensures)) (λ same. let wrong : false ≡ true = sym c.if-is_same.false ∙ c.is_same-in-Some-cut.ensures.1 same in cc) c.in_default-line_of.ensures
+    (c.len.result + 2) (omega (arith, c.len.ensures)) (λ same. let wrong : false ≡ true = sym c.if-is_same.false ∙ c.is_same-in-Some-cut.ensures.1 same
+      in cc) c.in_default-line_of.ensures
 
 pub loop-line-preserved : goal.loop-line-preserved
 loop-line-preserved c =
     let room : length c.loop-line.list.items < 1000000 = omega (arith, c.if-len.false, c.len-in-Some-cut.ensures) in
     record {
-      certificate = subst (IsCertificate c.args.p.now) (sym c.in_ok-push.ensures.items) (one_more c.args.p.now c.args.text.now c.loop-line.list.items c.loop-line.rest.now c.loop-line.invariant.certificate
+      certificate = subst (IsCertificate c.args.p.now) (sym c.in_ok-push.ensures.items)
+        (one_more c.args.p.now c.args.text.now c.loop-line.list.items c.loop-line.rest.now c.loop-line.invariant.certificate
           c.loop-line.invariant.text
           c.in-Some-cut.line.now c.in-Some-cut.others.now c.in-Some-cut.ensures.parts c.in-Some-line_of.flat c.in-Some-line_of.ensures room);
       text = subst (λ ls. c.args.text.now ≡ title ++ 10 ∷ (lines_text c.args.p.now.names ls ++ c.in-Some-cut.others.now)) (sym c.in_ok-push.ensures.items)
           (longer c.args.p.now c.args.text.now c.loop-line.list.items c.loop-line.rest.now c.loop-line.invariant.certificate
-          c.loop-line.invariant.text c.in-Some-cut.line.now c.in-Some-cut.others.now c.in-Some-cut.ensures.parts c.in-Some-line_of.flat c.in-Some-line_of.ensures room);
+          c.loop-line.invariant.text c.in-Some-cut.line.now c.in-Some-cut.others.now c.in-Some-cut.ensures.parts c.in-Some-line_of.flat
+            c.in-Some-line_of.ensures room);
     }
 
 pub returns : goal.returns

@@ -1,4 +1,4 @@
-use Rattle.std.proofs.Common.{◌≡◌, ◌∙◌, ap, sym, subst, take, ◌++◌, ◌∷◌, [], ◌+◌}
+use Rattle.std.proofs.Common.{◌∙◌, ap, sym, subst, take, ◌++◌, ◌∷◌, [], ◌+◌}
 use Rattle.std.proofs.lemmas.List.{take_more}
 use Rattle.flat_cert.specs.declared.relators.RelatorVector.{RelatorVector}
 use Rattle.flat_cert.specs.Adding.{AreRelators}

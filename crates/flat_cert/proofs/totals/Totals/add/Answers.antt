@@ -4,7 +4,7 @@ use Rattle.std.proofs.lemmas.Int.{to_z-of_z}
 use Rattle.std.specs.Option.{is_some}
 use Rattle.std.specs.List.{AllByRecursion}
 use Rattle.flat_cert.specs.Weights.{weight, IsBeyond}
-use Rattle.flat_cert.specs.Adding.{found, weight_at, weight_in, IsSmall, IsWith, IsTotal, AreTotals, Adds}
+use Rattle.flat_cert.specs.Adding.{found, weight_at, weight_in, IsSmall, IsWith, IsTotal, Adds}
 use Rattle.flat_cert.proofs.Weights.{weight_own, abs_some}
 use Rattle.flat_cert.proofs.Entries.{small_found, too_many}
 use Rattle.flat_cert.proofs.Adding.{added_sum, added_weight, none_is, few_inserted, all_inserted}

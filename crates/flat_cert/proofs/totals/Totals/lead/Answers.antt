@@ -1,6 +1,5 @@
 use Rattle.std.proofs.Common.{rules, ◌≡◌, ◌∙◌, ap, pos, FitsSigned}
 use mir.Syntax.{w128}
-use Rattle.std.proofs.lemmas.Int.{to_z-of_z}
 use Rattle.flat_cert.specs.Adding.{sum_at}
 use Rattle.flat_cert.proofs.Entries.{Entries, sum_last}
 use Rattle.flat_cert.proofs.totals.Totals.lead.Goals as goal
