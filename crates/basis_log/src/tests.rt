@@ -119,9 +119,11 @@ fn look_finds_what_another_thread_published(rt: HostRuntime) -> Result<(), Fail>
     assert!(rt; done);
     assert_eq!(rt; one.front(), 4);
     assert_eq!(rt; other.look(), 4);
-    told.learn(&mut one);
+    let mut third = row.seat(alloc)?;
+    assert_eq!(rt; third.look(), 4);
+    told.learn(&mut third);
     assert_eq!(rt; told.front(), 4);
-    agree(&mut one, &mut told);
+    agree(&mut third, &mut told);
     assert_eq!(rt; told.look(), 4);
     Ok(())
 }
