@@ -1,8 +1,7 @@
 use Rattle.std.proofs.Common.{rules, arith}
 use Rattle.std.proofs.lemmas.Result.{err_from_is_err_and}
-use Rattle.report_text.specs.Reports.{IsReplied}
 use Rattle.report_text.specs.Closing.{HasClosings}
-use Rattle.report_text.proofs.Lists.{at_place, got, all_more, all_taken}
+use Rattle.report_text.proofs.Lists.{got, all_more, all_taken}
 use Rattle.report_text.proofs.Telling.{closings_go_on, closings_stop, closings_end}
 use Rattle.report_text.proofs.closing.put_closings.Goals as goal
 

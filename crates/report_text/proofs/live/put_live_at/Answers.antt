@@ -1,7 +1,6 @@
 use Rattle.std.proofs.Common.{rules, arith}
 use Rattle.std.proofs.lemmas.Result.{err_from_is_err_and}
-use Rattle.report_text.specs.Reports.{IsReplied}
-use Rattle.report_text.proofs.Lists.{at_place, got}
+use Rattle.report_text.proofs.Lists.{got}
 use Rattle.report_text.proofs.Telling.{sessions_go_on, sessions_stop, sessions_end}
 use Rattle.report_text.proofs.live.put_live_at.Goals as goal
 
