@@ -86,7 +86,7 @@ steps_read n (s ∷ ss) over mono small = (
 )
 
 -- the steps of a recipe have monomials
-HasMonomials : Made → Type 0
+abbrev HasMonomials : Made → Type 0
 HasMonomials (Gen negated) = Unit {0}
 HasMonomials (Sum ss) = AllByRecursion (λ s. IsMonomial s.t) ss
 
