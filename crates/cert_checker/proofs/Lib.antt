@@ -3,7 +3,6 @@ pub mod Lists
 pub mod Passing
 pub mod Signs
 pub mod ShortWords
-pub mod Images
 -- what entries and proofs come to
 pub mod Agreeing
 pub mod Members

@@ -86,7 +86,7 @@ steps_read n (s ∷ ss) over mono small = (
 )
 
 -- the steps of a recipe have monomials
-HasMonomials : Made → Type 0
+abbrev HasMonomials : Made → Type 0
 HasMonomials (Gen negated) = Unit {0}
 HasMonomials (Sum ss) = AllByRecursion (λ s. IsMonomial s.t) ss
 
@@ -114,7 +114,7 @@ module _ (p : Presented) (gens : List (List Term)) where
     omega (arith, at, few),
     (
       made_read (length p.names) (made_by e.recipe) over.recipe (made_monomials e.recipe known.monomials)
-        (next_small gens b (made_by e.recipe) e.vector few next.is),
+          (next_small gens b (made_by e.recipe) e.vector few next.is),
       record { vector = known.entry.vector; over = over.vector },
     ),
   )

@@ -123,7 +123,7 @@ module _ (p : Presented) (gens : List (List Term)) (pres : IsPresented p) (es : 
         let all = known.generators in
         let within = known.within in
         let whole : vectors_of (take (length es + 1) es) ≡ vectors_of es = ap vectors_of (take_all (length es + 1) es (omega arith)) in
-        front_taken p gens pres es seal base (vectors_of es) (are_entries es (basis_entries es known.entries)) (vectors_over (length p.names) es known.over)
+        front_taken p gens pres es seal base (vectors_of es) (are_entries es known.entries) (vectors_over (length p.names) es known.over)
         (omega (arith, number, few)) Sealed (length es + 1) whole
         (omega (arith, few)) tt (λ low. omega (arith, number, all, within)) (omega (arith, number)) ts told
 

@@ -15,8 +15,8 @@ use Rattle.report_text.proofs.Written.{stops_at_once}
 use Rattle.report_text.proofs.closing.put_answer.Goals as goal
 
 pub verdict-requires-clause-question : goal.verdict-requires-clause-question
-verdict-requires-clause-question g c = at_place (CanBeAsked c.args.log.now.pres) c.args.session.now.questions (c.args.number - 1)
-    c.question-question.result.now c.requires.asked c.question-question.ensures
+verdict-requires-clause-question g c = rw c.pres-p.ensures.is (at_place (CanBeAsked c.args.log.now.pres) c.args.session.now.questions
+    (c.args.number - 1) c.question-question.result.now c.requires.asked c.question-question.ensures)
 
 pub returns-in_err-verdict-clause-text : goal.returns-in_err-verdict-clause-text
 returns-in_err-verdict-clause-text g c = λ q r read h.
@@ -35,9 +35,9 @@ put_closing-requires-clause-verdict g c =
     let h : CanBeAsked c.args.log.now.pres c.question-question.result.now =
     at_place (CanBeAsked c.args.log.now.pres) c.args.session.now.questions (c.args.number - 1) c.question-question.result.now c.requires.asked
     c.question-question.ensures in
-    final_over c.args.log.now.pres (vectors_of c.args.log.now.entries) c.args.log.now.entries
+    rw c.pres-p.ensures.is (final_over c.args.log.now.pres (vectors_of c.args.log.now.entries) c.args.log.now.entries
     c.args.log.now.seal refl c.question-question.result.now c.in_ok-verdict.verdict h
-    (are_entries c.args.log.now.entries c.known.ensures) c.pres-p.ensures.log.over c.in_ok-verdict.ensures.is
+    (are_entries c.args.log.now.entries c.known.ensures) c.pres-p.ensures.log.over (rw c.pres-p.ensures.is at c.in_ok-verdict.ensures.is))
 
 pub returns-in_err-put_closing-clause-text : goal.returns-in_err-put_closing-clause-text
 returns-in_err-put_closing-clause-text g c = λ q r read h.
@@ -60,7 +60,7 @@ returns-in_err-put_with_end-clause-text g c = λ q r read h.
     c.question-question.ensures read)
     c.in_ok-verdict.verdict c.put_closing.new.out.items r h (final_verdict c.args.log.now.pres (vectors_of c.args.log.now.entries)
     c.args.log.now.entries c.args.log.now.seal refl
-    c.question-question.result.now c.in_ok-verdict.verdict c.in_ok-verdict.ensures.is) text
+    c.question-question.result.now c.in_ok-verdict.verdict (rw c.pres-p.ensures.is at c.in_ok-verdict.ensures.is)) text
     (g.K.Sink.taken c.args.out.now) (g.K.Sink.taken c.put_with_end.new.out) c.in_err-put_with_end.ensures.text)
 
 pub put_proofs-requires-clause-asked : goal.put_proofs-requires-clause-asked
@@ -71,7 +71,7 @@ pub put_proofs-requires-clause-shown : goal.put_proofs-requires-clause-shown
 put_proofs-requires-clause-shown g c =
     final_shown c.args.log.now.pres (vectors_of c.args.log.now.entries) c.args.log.now.entries
     c.args.log.now.seal refl c.question-question.result.now c.in_ok-verdict.verdict
-    c.in_ok-verdict.ensures.is
+    (rw c.pres-p.ensures.is at c.in_ok-verdict.ensures.is)
     c.front.result c.front.ensures.is
 
 pub returns-clause-text : goal.returns-clause-text
@@ -89,7 +89,7 @@ returns-clause-text g c = λ q r read h.
     c.question-question.ensures read)
     c.in_ok-verdict.verdict c.put_closing.new.out.items r h (final_verdict c.args.log.now.pres (vectors_of c.args.log.now.entries)
     c.args.log.now.entries c.args.log.now.seal refl
-    c.question-question.result.now c.in_ok-verdict.verdict c.in_ok-verdict.ensures.is) text
+    c.question-question.result.now c.in_ok-verdict.verdict (rw c.pres-p.ensures.is at c.in_ok-verdict.ensures.is)) text
     (g.K.Sink.taken c.args.out.now) (g.K.Sink.taken c.put_with_end.new.out) (g.K.Sink.taken c.put_proofs.new.out) c.put_proofs.result c.front.result
     c.front.ensures.is c.in_ok-put_with_end.ensures.text c.put_proofs.ensures.text
 
@@ -99,4 +99,4 @@ returns-clause-told g c = on_ok c.put_proofs.result (λ q read.
     (same_item c.args.session.now.questions (c.args.number - 1) c.question-question.result.now q c.question-question.ensures read)
     (closing_there c.args.log.now.pres (vectors_of c.args.log.now.entries) c.args.log.now.entries
     c.args.log.now.seal refl c.question-question.result.now c.in_ok-verdict.verdict
-    c.in_ok-verdict.ensures.is))
+    (rw c.pres-p.ensures.is at c.in_ok-verdict.ensures.is)))

@@ -1,16 +1,9 @@
 use Rattle.std.proofs.Common.{rules, arith}
 use Rattle.std.proofs.lemmas.Result.{err_from_is_err_and}
-use Rattle.report_text.specs.Reports.{IsReplied}
 use Rattle.report_text.specs.Closing.{HasClosings}
-use Rattle.report_text.proofs.Lists.{at_place, got, all_more, all_taken}
+use Rattle.report_text.proofs.Lists.{got, all_more, all_taken}
 use Rattle.report_text.proofs.Telling.{closings_go_on, closings_stop, closings_end}
 use Rattle.report_text.proofs.closing.put_closings.Goals as goal
-
-pub put_session-requires-clause-replied : goal.put_session-requires-clause-replied
-put_session-requires-clause-replied g c =
-    at_place (IsReplied c.args.log.now.pres c.args.log.now.entries c.args.log.now.seal) c.args.sessions.now
-    c.loop-session.session-index c.session-item.result c.requires.replied
-    (got c.args.sessions.now c.loop-session.session-index c.session-item.result c.loop-session-test.true c.session-item.is)
 
 pub returns-in_err-put_session-clause-text : goal.returns-in_err-put_session-clause-text
 returns-in_err-put_session-clause-text g c = λ ts are.

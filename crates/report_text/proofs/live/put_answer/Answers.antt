@@ -41,12 +41,12 @@ put_live-requires-clause-verdict g c =
     let h : CanBeAsked c.args.log.now.pres c.question-question.result.now =
     at_place (CanBeAsked c.args.log.now.pres) c.args.session.now.questions (c.args.number - 1) c.question-question.result.now c.requires.replied.asked
     c.question-question.ensures in
-    verdict_over c.args.log.now.pres (vectors_below c.args.log.now.entries c.args.kept.front)
+    rw c.pres-p.ensures.is (verdict_over c.args.log.now.pres (vectors_below c.args.log.now.entries c.args.kept.front)
     (seal_below c.args.log.now.entries c.args.log.now.seal c.args.kept.front) c.question-question.result.now
     c.in_ok-verdict.verdict h
     (entries_counted c.args.kept.front (vectors_of c.args.log.now.entries) c.args.log.now.entries
     refl (are_entries c.args.log.now.entries c.known.ensures))
-    (vectors_over (length c.args.log.now.pres.names) c.args.kept.front c.args.log.now.entries c.pres-p.ensures.log.over) c.in_ok-verdict.ensures
+    (vectors_over (length c.args.log.now.pres.names) c.args.kept.front c.args.log.now.entries c.pres-p.ensures.log.over) c.in_ok-verdict.ensures)
 
 pub returns-in_err-put_live-clause-text : goal.returns-in_err-put_live-clause-text
 returns-in_err-put_live-clause-text g c = λ q a read h.

@@ -1,15 +1,8 @@
 use Rattle.std.proofs.Common.{rules, arith}
 use Rattle.std.proofs.lemmas.Result.{err_from_is_err_and}
-use Rattle.report_text.specs.Reports.{IsReplied}
-use Rattle.report_text.proofs.Lists.{at_place, got}
+use Rattle.report_text.proofs.Lists.{got}
 use Rattle.report_text.proofs.Telling.{sessions_go_on, sessions_stop, sessions_end}
 use Rattle.report_text.proofs.live.put_live_at.Goals as goal
-
-pub put_session_at-requires-clause-replied : goal.put_session_at-requires-clause-replied
-put_session_at-requires-clause-replied g c =
-    at_place (IsReplied c.args.log.now.pres c.args.log.now.entries c.args.log.now.seal) c.args.sessions.now
-    c.loop-session.session-index c.session-item.result c.requires.replied
-    (got c.args.sessions.now c.loop-session.session-index c.session-item.result c.loop-session-test.true c.session-item.is)
 
 pub returns-in_err-put_session_at-clause-text : goal.returns-in_err-put_session_at-clause-text
 returns-in_err-put_session_at-clause-text g c = λ ts are.
