@@ -9,5 +9,4 @@ pub mod Resting
 pub mod Working
 pub mod Ending
 pub mod Composing
-pub mod Indexing
 pub mod Free

@@ -20,7 +20,8 @@ use Rattle.task_table.proofs.Putting.{put_same}
 use Rattle.basis_entry.specs.Entries.{BasisEntry, vectors_of}
 use Rattle.basis_entry.proofs.Vectors.{are_entries}
 use Rattle.pair_book.specs.Books.{Held, IsBook, TakesTask, with_state}
-use Rattle.pair_book.specs.Settled.{settled_by, divides_number}
+use Rattle.strong_pairs.specs.Covering.{divides_number}
+use Rattle.pair_book.specs.Settled.{settled_by}
 use Rattle.pair_book.proofs.Keeping.{task_in, task_out, open_unclosed, table_put}
 use Rattle.pair_book.proofs.Opened.{settled_right}
 use Rattle.completion_solo.specs.Ends.{IsTaskOf, IsClosedAtStart}

@@ -1,20 +1,16 @@
 //! `finish`: a completion to its end.
 
-ghost use Rattle.std.specs.Prelude.{◌≡◌, IfOk};
+ghost use Rattle.std.specs.Prelude.{◌≡◌};
 ghost use Rattle.std.specs.Arc.{arc_value};
-ghost use Rattle.reducer_index.specs.Leads.{AreLeads};
-ghost use Rattle.basis_entry.specs.Entries.{vectors_of};
 ghost use Rattle.completion_solo.specs.Finishing.{Finishes, NoneTaken};
 
 use crate::rounds::{Round, one_round};
-use module_vec::VecList;
 use outcomes::End;
 use pair_book::Book;
 use presentation::Presentation;
 use reducer_index::Index;
 use std::alloc::{AllocError, Global};
 use std::sync::Arc;
-use strong_pairs::lead;
 
 /// Completes the log of a book of the presentation, no task of which is taken, in rounds. A round does the first of
 /// these that can be done:
@@ -32,7 +28,7 @@ pub fn finish(alloc: Global, p: &Arc<Presentation>, book: &mut Book) -> Result<E
     requires none_taken { NoneTaken book.old }
     ensures { Finishes (arc_value p.now) book.old result book.new }
 {
-    let mut index = leads(alloc, book)?;
+    let mut index = Index::of_list(alloc, book)?;
     let mut stale = true;
     loop {
         match one_round(alloc, p, book, &mut index, stale)? {
@@ -40,15 +36,4 @@ pub fn finish(alloc: Global, p: &Arc<Presentation>, book: &mut Book) -> Result<E
             Round::GoesOn { stale: again } => stale = again,
         }
     }
-}
-
-/// The index of the leads of a log.
-fn leads(alloc: Global, book: &Book) -> Result<Index, AllocError>
-    ensures { IfOk result (λ index. AreLeads (vectors_of book.now.entries) index) }
-{
-    let mut index = Index::new(alloc);
-    for at in 0..book.count() {
-        index.push(lead(book, at))?;
-    }
-    Ok(index)
 }

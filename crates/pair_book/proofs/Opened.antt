@@ -13,7 +13,7 @@ use Rattle.outcomes.specs.declared.kinds.PairKind.{PairKind}
 use Rattle.outcomes.specs.declared.kinds.PairKind.TheVariants.{S, G}
 use Rattle.module_vec.specs.declared.places.Term.{Term}
 use Rattle.module_vec.specs.Reducers.{AreEntries}
-use Rattle.strong_pairs.specs.Covering.{Divides}
+use Rattle.strong_pairs.specs.Covering.{Divides, divides_number}
 use Rattle.strong_pairs.specs.Pairs.{lead_of, lead_at, IsPair}
 use Rattle.strong_pairs.specs.Tasks.{IsClosed, IsClosedFromStart}
 use Rattle.strong_pairs.proofs.CoverTests.{divides_test}
@@ -28,7 +28,7 @@ use Rattle.basis_entry.proofs.Sizes.{few_terms, bases_alike}
 use Rattle.basis_entry.proofs.Vectors.{are_entries}
 use Rattle.pair_book.specs.declared.limits.Limits.{Limits}
 use Rattle.pair_book.specs.Logs.{IsLawful}
-use Rattle.pair_book.specs.Settled.{divides_number, settled_by}
+use Rattle.pair_book.specs.Settled.{settled_by}
 use Rattle.pair_work.specs.Outcomes.{recipe_steps, IsShort}
 use Rattle.pair_book.specs.LogEntries.{terms_of, steps_of}
 use Rattle.pair_book.specs.Books.{IsBook, AreNew, AreWithin}

@@ -1,13 +1,10 @@
 -- Tasks that are closed when they come, as a test of two leads. The laws say that the test is right.
-use Rattle.std.specs.Prelude.{ℤ, unsigned_abs, ◌%◌, Bool, not, ◌||◌, nat_eq, List, map}
+use Rattle.std.specs.Prelude.{not, ◌||◌, nat_eq, List, map}
 use Rattle.module_vec.specs.declared.places.Term.{Term}
+use Rattle.strong_pairs.specs.Covering.{divides_number}
 use Rattle.strong_pairs.specs.Pairs.{lead_of}
 use Rattle.task_table.specs.declared.rows.Settled.{Settled}
 use Rattle.basis_entry.specs.Entries.{BasisEntry}
-
--- whether a positive number divides another one
-abbrev pub divides_number : ℤ → ℤ → Bool
-divides_number k l = nat_eq (unsigned_abs l % unsigned_abs k) 0
 
 -- no pair, or a G task one of whose lead coefficients divides the other
 abbrev pub settled_by : Term → Term → Settled

@@ -1,19 +1,18 @@
 //! The tasks of an entry that is appended.
 
-ghost use Rattle.std.specs.Prelude.{◌≡◌, ◌<◌, ◌↔◌, IsTrue, ◌++◌, ◌∷◌, [], pos, ◌<ℤ◌, length};
-ghost use Rattle.strong_pairs.specs.Covering.{Divides};
+ghost use Rattle.std.specs.Prelude.{◌≡◌, ◌<◌, ◌++◌, ◌∷◌, [], pos, ◌<ℤ◌, length};
 ghost use Rattle.strong_pairs.specs.Pairs.{lead_of};
 ghost use Rattle.std.specs.Arc.{arc_value};
 ghost use Rattle.module_vec.specs.Reducers.{IsEntry};
 ghost use Rattle.task_table.specs.Rows.{grown};
-ghost use Rattle.pair_book.specs.Settled.{divides_number, settled_by, settled_row};
+ghost use Rattle.pair_book.specs.Settled.{settled_by, settled_row};
 
 use crate::log::Log;
 use basis_entry::Entry;
 use module_vec::{ModVec, Term};
 use std::marker::Model;
 use std::sync::Arc;
-use strong_pairs::lead;
+use strong_pairs::{divides, lead};
 use task_table::{Row, Settled, TaskTable};
 
 /// An entry's lead before the entries of a log.
@@ -44,16 +43,6 @@ impl<'a> Row for Newcomer<'a> {
     fn settled(&self, i: u32) -> Settled {
         settled(&lead(self.log, i), &self.lead)
     }
-}
-
-/// Whether a lead coefficient divides another one.
-pub fn divides(by: i128, k: i128) -> bool
-    requires by { pos 0 <ℤ by }
-    requires k { pos 0 <ℤ k }
-    ensures test { result ≡ divides_number by k }
-    ensures divides { IsTrue result ↔ Divides by k }
-{
-    k % by == 0
 }
 
 /// Which tasks of a pair with these leads are settled.

@@ -11,13 +11,13 @@ ghost use Rattle.pair_work.specs.Outcomes.{used_entry, AllThere, AreRising, IsTh
 ghost use Rattle.strong_pairs.specs.Pairs.{lead_of};
 
 use crate::log::Log;
-use crate::newcomers::{divides, entry_lead};
+use crate::newcomers::entry_lead;
 use crate::{Book, CommitFault};
 use basis_entry::{Entry, Front};
 use module_vec::{Term, VecList};
 use outcomes::Task;
 use pair_work::{Close, Outcome, Used};
-use strong_pairs::lead;
+use strong_pairs::{divides, lead};
 
 /// Whether the log has the entry under its number.
 fn is_there(log: &Log, used: &Used) -> bool

@@ -158,9 +158,15 @@ fn advance(alloc: Global, p: &Arc<Presentation>, book: &mut Book, tasks: u32) ->
 }
 
 /// Whether the book of the presentation is sealed after so many commits, with so many entries.
-fn is_sealed(alloc: Global, text: &str, commits: u32, entries: usize) -> Result<bool, Fail> {
+fn is_sealed(
+    alloc: Global,
+    text: &str,
+    limits: Limits,
+    commits: u32,
+    entries: usize,
+) -> Result<bool, Fail> {
     let p = presentation(alloc, text)?;
-    let mut book = open(alloc, &p, WIDE)?;
+    let mut book = open(alloc, &p, limits)?;
     advance(alloc, &p, &mut book, commits)?;
     if book.take().is_some() || book.least().is_some() || book.commits() != commits {
         return Ok(false);
@@ -174,9 +180,28 @@ fn is_sealed(alloc: Global, text: &str, commits: u32, entries: usize) -> Result<
 #[test]
 fn books_are_sealed(rt: HostRuntime) -> Result<(), Fail> {
     let alloc = rt.alloc();
-    assert!(rt; is_sealed(alloc, FREE, 2, 4)?);
-    assert!(rt; is_sealed(alloc, SOLVABLE, 14, 10)?);
-    assert!(rt; is_sealed(alloc, TORSION, 25, 11)?);
+    assert!(rt; is_sealed(alloc, FREE, WIDE, 2, 4)?);
+    assert!(rt; is_sealed(alloc, SOLVABLE, WIDE, 14, 10)?);
+    assert!(rt; is_sealed(alloc, TORSION, WIDE, 25, 11)?);
+    Ok(())
+}
+
+#[test]
+fn cheap_tasks_go_first(rt: HostRuntime) -> Result<(), Fail> {
+    let alloc = rt.alloc();
+    let p = presentation(alloc, TORSION)?;
+    let limits = Limits {
+        order: Order::ByCost,
+        ..WIDE
+    };
+    let mut book = open(alloc, &p, limits)?;
+    let first = s_task(2, 4);
+    assert!(rt; book.least() == Some(first) && book.take() == Some(first));
+    book.give_back(first, false);
+    assert!(rt; book.take() == Some(first) && book.take() == Some(s_task(3, 5)));
+    let last = taken(&mut book)?;
+    assert!(rt; last.i == 0 && last.j == 1 && last.kind == PairKind::G);
+    assert!(rt; is_sealed(alloc, TORSION, limits, 11, 9)?);
     Ok(())
 }
 

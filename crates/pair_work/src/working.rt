@@ -3,12 +3,11 @@
 ghost use Rattle.std.specs.Prelude.{◌≡◌, ◌≢◌, ℕ, ◌<◌, IfOk, MatchBool, MatchResult, List, [], Some, Ok, negsuc, cond};
 ghost use Rattle.std.specs.Prelude.{map, length, slice_get, true};
 ghost use Rattle.std.specs.Arc.{arc_value};
-ghost use Rattle.std.specs.List.{AllByRecursion};
 ghost use Rattle.formal_sums.specs.FormalSum.{scale};
 ghost use Rattle.module_vec.specs.Vectors.{InRange, sum_of};
 ghost use Rattle.strong_pairs.specs.Pairs.{IsPair};
 ghost use Rattle.basis_entry.specs.Base.{has_negative_lead as is_turned};
-ghost use Rattle.basis_entry.specs.Entries.{AreOf, IsBasisEntry, vectors_of};
+ghost use Rattle.basis_entry.specs.Entries.{AreOf, vectors_of};
 ghost use Rattle.pair_work.specs.Works.{Works, IsUncovered, FindsCovering, IsCarriedOut, HaltsBy, IsOfRest, recipe_of};
 
 use crate::marks::used;
@@ -22,7 +21,7 @@ use reduce_cofactor::reduce;
 use std::alloc::{AllocError, Global};
 use std::sync::Arc;
 use step_lists::Steps;
-use strong_pairs::{covers, pair_steps, pair_vector};
+use strong_pairs::{covers, pair_steps, pair_sum};
 
 /// Works a task by a list of entries of the presentation: a G task is covered, or the pair's vector is reduced by the
 /// whole list. The outcome's front is the number of entries, and each entry used is the list's.
@@ -73,7 +72,7 @@ fn carry_out<L: VecList>(alloc: Global, list: &L, task: Task) -> Result<CarriedO
         (λ fault. HaltsBy (L.vectors list.now) task fault) }
 {
     let (first, second) = pair_steps(list, task.kind, task.i, task.j)?;
-    let vector = pair_vector(alloc, list, task.kind, task.i, task.j)?;
+    let vector = pair_sum(alloc, list, &first, &second)?;
     let (rest, steps) = reduce(alloc, list, list.count(), &vector)?;
     Ok(CarriedOut {
         first,
@@ -114,7 +113,7 @@ fn close<F: Front>(
         done.steps.items done.rest }
     ensures { IfOk result (λ outcome. Works (arc_value p.now) (F.entries list.now) task (Ok outcome)) }
 {
-    known(list);
+    list.known();
     let used = used(alloc, list, &[task.i, task.j], &done.steps)?;
     if done.rest.terms().is_empty() {
         let steps = Steps::of(done.steps);
@@ -141,18 +140,11 @@ fn rest_entry<F: Front>(
     ensures { IfOk result (λ entry. IsOfRest (arc_value p.now) done.rest
         (recipe_of done.first done.second done.steps.items) (arc_value entry)) }
 {
-    known(list);
+    list.known();
     let negated = has_negative_lead(&done.rest);
     let recipe = recipe(alloc, done.first, done.second, &done.steps, negated)?;
     let vector = turned_if(negated, done.rest);
     Entry::sum(alloc, p, list, vector, Steps::of(recipe))
-}
-
-/// What holds of every list of entries.
-fn known<F: Front>(list: &F)
-    ensures { AllByRecursion IsBasisEntry (F.entries list.now) }
-{
-    let _front = list.front();
 }
 
 fn has_negative_lead(vector: &ModVec) -> bool
