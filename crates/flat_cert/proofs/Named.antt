@@ -65,17 +65,23 @@ apart a (pos zero) h = inl (λ e. h (omega (arith, ints, e)))
 apart a (pos (suc n)) h = inr (λ e. absurd (omega (arith, ints, e)))
 apart a (negsuc n) h = inr (λ e. absurd (omega (arith, ints, e)))
 
-pub named_over : (p : Presented) (w : List Letter) (ls : List Flat) (r : Result (Unit {0}) FlatSumFault) → IsPresented p → IsWordOver p w
-    → AreFlat p ls → Answers p w ls r → IfErr r (FaultIsOver (length p.names))
-named_over p w ls (Ok _) known over are answers = tt
-named_over p w ls (Err Beyond) known over are answers = tt
-named_over p w ls (Err NoMemory) known over are answers = tt
-named_over p w ls (Err (NotZero at)) known over are answers =
-    by (apart (coefficient same_place (flat_image (fox w)) at) (coefficient same_place (flat_image (certificate_sum p ls)) at) answers.0.here)
-  where
-    abbrev n : ℕ
-    n = length p.names
+module _ (p : Presented) (w : List Letter) (ls : List Flat) (known : IsPresented p) (over : IsWordOver p w) (are : AreFlat p ls) where
+  abbrev n : ℕ
+  n = length p.names
 
-    by : (coefficient same_place (flat_image (fox w)) at ≢ pos 0) ⊎ (coefficient same_place (flat_image (certificate_sum p ls)) at ≢ pos 0) → PlaceIsOver n at
-    by (inl some) = stands n (flat_image (fox w)) at (flat_over n (fox w) (fox_is_over n w over)) some
-    by (inr some) = stands n (flat_image (certificate_sum p ls)) at (flat_over n (certificate_sum p ls) (certificate_is_over p known ls are)) some
+  abbrev word : FormalSum Place
+  word = flat_image (fox w)
+
+  abbrev sum : FormalSum Place
+  sum = flat_image (certificate_sum p ls)
+
+  left_over : (at : Place) → (coefficient same_place word at ≢ pos 0) ⊎ (coefficient same_place sum at ≢ pos 0) → PlaceIsOver n at
+  left_over at (inl some) = stands n word at (flat_over n (fox w) (fox_is_over n w over)) some
+  left_over at (inr some) = stands n sum at (flat_over n (certificate_sum p ls) (certificate_is_over p known ls are)) some
+
+  pub named_over : (r : Result (Unit {0}) FlatSumFault) → Answers p w ls r → IfErr r (FaultIsOver n)
+  named_over (Ok _) answers = tt
+  named_over (Err Beyond) answers = tt
+  named_over (Err NoMemory) answers = tt
+  named_over (Err (NotZero at)) answers =
+      left_over at (apart (coefficient same_place word at) (coefficient same_place sum at) answers.0.here)

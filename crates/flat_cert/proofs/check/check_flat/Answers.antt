@@ -10,4 +10,4 @@ returns-clause-sound c =
 
 pub returns-clause-over : goal.returns-clause-over
 returns-clause-over c =
-    named_over c.args.p.now c.args.w.now c.args.list.now c.checked.result c.known.ensures c.requires.over c.requires.lines c.checked.ensures
+    named_over c.args.p.now c.args.w.now c.args.list.now c.known.ensures c.requires.over c.requires.lines c.checked.result c.checked.ensures
