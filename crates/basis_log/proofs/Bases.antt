@@ -26,7 +26,7 @@ use Rattle.fox_calculus.proofs.Short.{fox_length, nonzero}
 use Rattle.basis_entry.specs.declared.recipes.Recipe.{Recipe}
 use Rattle.basis_entry.specs.declared.recipes.Recipe.TheVariants.{Gen}
 use Rattle.basis_entry.specs.Base.{has_negative_lead, AreBase, IsOfGenerator}
-use Rattle.basis_entry.specs.Entries.{BasisEntry, IsBasisEntry, AreOf, RecipeIsOver}
+use Rattle.basis_entry.specs.Entries.{BasisEntry, IsBasisEntry, AreOf, RecipeIsOver, HasMonomials}
 use Rattle.basis_entry.proofs.Generators.{generator_some, generator_member}
 use Rattle.basis_entry.proofs.Over.{generator_over, either_over}
 use Rattle.basis_entry.proofs.Vectors.{positive_entry, turned_entry, either_member}
@@ -73,7 +73,13 @@ entry_of p i g e h is some member over =
     let here : Presented → Type 0 = λ q. IsMember q (sum_of e.vector) × VectorIsOver (length q.names) e.vector × RecipeIsOver (length q.names) e.recipe in
     let recipe : RecipeIsOver (length p.names) e.recipe = subst (RecipeIsOver (length p.names)) (sym h.recipe) tt in
     let all = subst here (sym h.source) (either_member p b g e.vector h.vector member, either_over (length p.names) b g e.vector h.vector over, recipe) in
-    record { entry = entry_by b g e.vector is some refl h.vector; member = all.0; over = all.1; recipe = all.2 }
+    record {
+      entry = entry_by b g e.vector is some refl h.vector;
+      member = all.0;
+      over = all.1;
+      recipe = all.2;
+      monomials = subst HasMonomials (sym h.recipe) tt;
+    }
 
 all_by : {X : Type 0} (P : X → Type 0) (xs : List X) → ((i : ℕ) (x : X) → slice_get xs i ≡ Some x → P x) → AllByRecursion P xs
 all_by P [] h = tt

@@ -94,7 +94,7 @@ module _ (p : Presented) (known : IsPresented p) where
   )
   generator_is_over (Mod c) is = (record { variables = one_variables; over = record { mono = one_over n; component = is.0 } }, tt)
 
-  certificate_is_over : (ls : List Flat) → AreFlat p ls → IsSumOver n (certificate_sum p ls)
+  pub certificate_is_over : (ls : List Flat) → AreFlat p ls → IsSumOver n (certificate_sum p ls)
   certificate_is_over [] are = tt
   certificate_is_over (l ∷ ls) are =
       subst (IsSumOver n) (sym (flat_map-cons (value_of p) l ls))

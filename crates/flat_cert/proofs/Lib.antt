@@ -6,5 +6,6 @@ pub mod Entries
 pub mod Adding
 pub mod Taking
 pub mod Answering
+pub mod Named
 pub mod LineTexts
 pub mod Texts

@@ -9,6 +9,7 @@ use Rattle.module_vec.specs.declared.places.Term.{Term}
 use Rattle.module_vec.specs.Places.{same_place, moved}
 use Rattle.module_vec.specs.Vectors.{sum_of}
 use Rattle.module_vec.specs.Results.{IsGreatest}
+use Rattle.vector_text.specs.Over.{PlaceIsOver}
 use Rattle.fox_calculus.specs.Fox.{fox}
 use Rattle.fox_calculus.specs.Generators.{IsWritten}
 use Rattle.flat_cert.specs.declared.lines.Flat.{Flat}
@@ -59,3 +60,9 @@ Answers p w ls (Err NoMemory) = Unit {0}
 abbrev pub sum_fault : AddFault → FlatSumFault
 sum_fault added.Beyond = Beyond
 sum_fault added.NoMemory = NoMemory
+
+-- a place that is named is over n generators
+abbrev pub FaultIsOver : ℕ → FlatSumFault → Type 0
+FaultIsOver n (NotZero at) = PlaceIsOver n at
+FaultIsOver n Beyond = Unit {0}
+FaultIsOver n NoMemory = Unit {0}

@@ -1,6 +1,6 @@
 //! Whether a certificate shows that a word is trivial.
 
-ghost use Rattle.std.specs.Prelude.{◌≢◌, ◌≤◌, pos, length, IfOk};
+ghost use Rattle.std.specs.Prelude.{◌≢◌, ◌≤◌, pos, length, IfOk, IfErr};
 ghost use Rattle.free_words.specs.declared.TheConstants.{COMPOSED};
 ghost use Rattle.free_words.specs.Words.{IsOver};
 ghost use Rattle.derivation.specs.Moves.{Trivial};
@@ -12,7 +12,7 @@ ghost use Rattle.fox_calculus.specs.Fox.{fox};
 ghost use Rattle.fox_calculus.specs.Generators.{IsWritten};
 ghost use Rattle.flat_cert.specs.Images.{flat_image};
 ghost use Rattle.flat_cert.specs.Certificates.{IsFlat, AreFlat, generator_of, certificate_sum};
-ghost use Rattle.flat_cert.specs.Checking.{Answers};
+ghost use Rattle.flat_cert.specs.Checking.{Answers, FaultIsOver};
 ghost use Rattle.flat_cert.specs.Adding.{AreRelators, TakesAway, TakesLines};
 
 use crate::faults::AddFault;
@@ -46,8 +46,20 @@ pub fn check_flat(
     ensures equal { IfOk result (λ _. Same same_place (flat_image (fox w.now))
         (flat_image (certificate_sum p.now list.now))) }
     ensures sound { IfOk result (λ _. Trivial p.now w.now) }
+    // The place that is named is over the presentation's generators, so it can be written.
+    ensures over { IfErr result (FaultIsOver (length p.now.names)) }
 {
     p.known();
+    checked(alloc, p, w, list)
+}
+
+/// The same, without what follows from it.
+fn checked(alloc: Global, p: &Presentation, w: &Word, list: &[Flat]) -> Result<(), FlatSumFault>
+    requires over { IsOver (length p.now.names) w.now }
+    requires short { length w.now ≤ COMPOSED }
+    requires lines { AreFlat p.now list.now }
+    ensures { Answers p.now w.now list.now result }
+{
     let relators = relator_vectors(alloc, p)?;
     let vector = fox(alloc, p, w)?;
     let mut totals = Totals::new(alloc);

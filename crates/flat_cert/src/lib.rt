@@ -17,6 +17,7 @@ mod totals;
 
 pub use check::check_flat;
 pub use faults::{FlatSumFault, FlatTextFault};
+pub use line_text::put_line;
 pub use lines::{Flat, FlatKind};
 pub use reading::read_flat;
 
