@@ -1,4 +1,4 @@
-mod Fronts
+pub mod Fronts
 mod Legality
 mod Indexing
 mod Completed

@@ -15,7 +15,7 @@ ghost use Rattle.solve_commands.specs.declared.sessions.TheConstants.{SESSIONS};
 
 use crate::counting::summary;
 use crate::delivery::is_settled;
-use crate::limits::{ENTRIES, limits, opened};
+use crate::limits::{ENTRIES, limits_with, opened};
 use crate::sessions;
 use command_floor::{Answer, Given, Halt, Status, number_between, refusal};
 use gen_input::large;
@@ -108,7 +108,7 @@ fn summarize(alloc: Global, seed: u32, presentation: &[u8], session: &[u8]) -> R
 {
     let p = presentation_in(alloc, presentation)?;
     let p = Arc::new(alloc, p)?;
-    let limits = limits(ENTRIES, None);
+    let limits = limits_with(ENTRIES, None);
     let book = opened(alloc, &p, limits)?;
     let questions = questions_in(alloc, &p, session)?;
     let sessions = one_session(alloc, questions, book.count())?;

@@ -23,7 +23,7 @@ pub const LOG_TERMS: u32 = 8_000_000;
 pub const LOG_STEPS: u32 = 8_000_000;
 
 /// The limits of a run with so many entries and this budget.
-pub fn limits(entries: u32, budget: Option<u32>) -> Limits
+pub fn limits_with(entries: u32, budget: Option<u32>) -> Limits
     ensures { result ≡ limits_with entries budget }
 {
     Limits {

@@ -7,7 +7,7 @@ ghost use Rattle.command_floor.specs.Parsing.{shown_given};
 ghost use Rattle.command_floor.specs.Settings.{AreInRange};
 ghost use Rattle.solve_commands.specs.Solo.{SoloGives, solo_in, solo_asked, IsWithinTable};
 
-use crate::limits::{ENTRIES, limits, opened};
+use crate::limits::{ENTRIES, limits_with, opened};
 use crate::sessions::{load_sessions, session_names};
 use command_floor::{Given, Halt, load_presentation};
 use legal_report::solve;
@@ -56,7 +56,7 @@ pub fn report<S: Shelf>(alloc: Global, shelf: &mut S, words: &SoloWords) -> Resu
 {
     let p = load_presentation(alloc, shelf, words.presentation)?;
     let p = Arc::new(alloc, p)?;
-    let limits = limits(words.entries, words.budget);
+    let limits = limits_with(words.entries, words.budget);
     let book = opened(alloc, &p, limits)?;
     let sessions = load_sessions(alloc, shelf, &p, &words.sessions, book.count())?;
     let report = solve(alloc, &p, book, sessions, limits)?;
