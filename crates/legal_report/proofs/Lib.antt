@@ -1,6 +1,5 @@
 pub mod Fronts
 mod Legality
-mod Indexing
 mod Completed
 mod Asking
 mod Answering

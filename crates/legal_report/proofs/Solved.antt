@@ -10,7 +10,7 @@ use Rattle.pair_book.specs.declared.limits.Limits.{Limits}
 use Rattle.pair_book.specs.Books.{Held, IsOpened}
 use Rattle.session_core.specs.declared.kept.Kept.{Kept}
 use Rattle.session_core.specs.Questions.{CanBeAsked}
-use Rattle.session_core.specs.Sessions.{SessionState}
+use Rattle.session_core.specs.Sessions.{SessionState, IsSession}
 use Rattle.cert_checker.specs.Texts.{TellsWhole}
 use Rattle.report_text.specs.Histories.{History}
 use Rattle.report_text.specs.Reports.{Reported, IsReportable, IsHistoryOf, text_of}
@@ -37,13 +37,13 @@ askers p limits h ss opened new i s at =
       fronts = subst (AllByRecursion (λ k. k.front ≤ item_count h.entries h.seal)) (sym is.kept) tt;
     }
 
-sourced : (ss : List SessionState) → AllByRecursion (λ s. AllByRecursion HasSource s.questions) ss → AllByRecursion (AllByRecursion HasSource) (questions_of ss)
+sourced : (ss : List SessionState) → AllByRecursion IsSession ss → AllByRecursion (AllByRecursion HasSource) (questions_of ss)
 sourced [] all = tt
-sourced (s ∷ ss) all = (all.0, sourced ss all.1)
+sourced (s ∷ ss) all = (all.0.sources, sourced ss all.1)
 
 -- a legal report of new sessions that were answered, and which is accepted
 pub solution : (limits : Limits) (p : Presented) (least : ℕ) (ss : List SessionState) (r : Reported)
-    → IsPresented p → AllByRecursion (λ s. AllByRecursion HasSource s.questions) ss → limits.entries + 1 < 2 ^ 32 → AreNewSessions p least ss
+    → IsPresented p → AllByRecursion IsSession ss → limits.entries + 1 < 2 ^ 32 → AreNewSessions p least ss
     → IsLegal p limits (questions_of ss) r → AreAnsweredOn p r.entries r.seal ss r.sessions
     → ((h : History) → IsHistoryOf r h → TellsWhole r.pres (text_of r h) (Ok (told_amount r h))) → IsSolution p limits (questions_of ss) r
 solution limits p least ss r known sources few new legal on accepted =

@@ -4,8 +4,6 @@ ghost use Rattle.std.specs.List.{AllByRecursion};
 ghost use Rattle.std.specs.Prelude.{◌≡◌, ◌+◌, ◌≤◌, ◌++◌, ℕ, List, length, map, slice_get, Some, None, option_map, IfOk};
 ghost use Rattle.std.specs.Prelude.{OnOk};
 ghost use Rattle.std.specs.Arc.{arc_value};
-ghost use Rattle.reducer_index.specs.Leads.{AreLeads};
-ghost use Rattle.module_vec.specs.Reducers.{AreEntries};
 ghost use Rattle.basis_entry.specs.Entries.{BasisEntry, AreOf, vectors_of};
 ghost use Rattle.basis_entry.specs.Seals.{item_count};
 ghost use Rattle.session_core.specs.Questions.{CanBeAsked};
@@ -19,7 +17,6 @@ ghost use Rattle.legal_report.specs.Gathering.{IsCompleted};
 
 use basis_entry::{Entry, Front, Sealed};
 use completion_solo::finish;
-use module_vec::VecList;
 use outcomes::End;
 use pair_book::{Book, Limits, SealFault};
 use presentation::Presentation;
@@ -28,7 +25,6 @@ use report_text::Report;
 use session_core::Session;
 use std::alloc::{AllocError, Global};
 use std::sync::Arc;
-use strong_pairs::lead;
 
 /// Completes the log of the book, unless it is sealed already.
 fn complete(alloc: Global, p: &Arc<Presentation>, book: &mut Book) -> Result<End, AllocError>
@@ -36,28 +32,14 @@ fn complete(alloc: Global, p: &Arc<Presentation>, book: &mut Book) -> Result<End
     requires none_taken { NoneTaken book.old }
     ensures { IfOk result (λ end. IsCompleted (arc_value p.now) book.old end book.new) }
 {
-    // The proof needs what holds of the book, and the call says so.
-    let _ = book.commits();
+    book.known();
     match book.sealed() {
         Some(seal) => {
-            // The same of the seal.
-            let _ = seal.entries();
+            seal.known();
             Ok(End::Sealed)
         }
         None => finish(alloc, p, book),
     }
-}
-
-/// The index of the leads of a log.
-#[tactic(auto, using(crate::proofs::Indexing::one_more))]
-fn leads(alloc: Global, book: &Book) -> Result<Index, AllocError>
-    ensures { IfOk result (λ index. AreLeads (vectors_of book.now.entries) index) }
-{
-    let mut index = Index::new(alloc);
-    for at in 0..book.count() {
-        index.push(lead(book, at))?;
-    }
-    Ok(index)
 }
 
 /// Asks each question of the session that has no reply yet by all items of the list.
@@ -75,15 +57,13 @@ fn answer_session<F: Front>(
     while session.next().is_some() {
         let _ = session.ask(alloc, p, list)?;
     }
-    // The proof needs what holds of the session, and the call says so.
-    let _ = session.count();
+    session.known();
     Ok(())
 }
 
 /// Asks each question of the sessions that has no reply yet by all items of the list, in order of sessions and
 /// questions.
-#[tactic(auto, using(crate::proofs::Answering::none_answered, crate::proofs::Answering::one_answered,
-    crate::proofs::Answering::all_answered, crate::proofs::Answering::next_goes_on))]
+#[tactic(auto, using(crate::proofs::Answering::none_answered, crate::proofs::Answering::one_answered, crate::proofs::Answering::all_answered, crate::proofs::Answering::next_goes_on))]
 fn answer<F: Front>(
     alloc: Global,
     p: &Presentation,
@@ -136,8 +116,7 @@ fn seal_of(alloc: Global, book: &mut Book, end: &End) -> Result<Option<Arc<Seale
     requires { book.old.seal ≡ seal_at (book.old).source (book.old).entries end.now }
     ensures { IfOk result (λ seal. option_map arc_value seal ≡ seal_at (book.old).source (book.old).entries end.now) }
 {
-    // The proof needs what holds of the book, and the call says so.
-    let _ = book.commits();
+    book.known();
     match end {
         End::Sealed => match book.seal(alloc) {
             Ok(seal) => Ok(Some(seal)),
@@ -185,11 +164,10 @@ fn finished(alloc: Global, p: &Arc<Presentation>, book: &mut Book) -> Result<End
     ensures completed { IfOk result (λ end. IsCompleted (arc_value p.now) book.old end book.new) }
     ensures books { IfOk result (λ _. IsBook book.old × IsBook book.new) }
 {
-    // The proof needs what holds of the book, and the calls say so.
-    let _ = book.commits();
-    let _ = book.release();
+    book.known();
+    book.release();
     let end = complete(alloc, p, book)?;
-    let _ = book.commits();
+    book.known();
     Ok(end)
 }
 
@@ -215,7 +193,7 @@ pub fn gather(
     let _ = limits;
     let mut book = book;
     let end = finished(alloc, p, &mut book)?;
-    let index = leads(alloc, &book)?;
+    let index = Index::of_list(alloc, &book)?;
     let sessions = answered(alloc, p, &Indexed::over(&book, &index), sessions)?;
     report(alloc, p, book, end, sessions)
 }

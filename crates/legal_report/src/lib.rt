@@ -2,7 +2,6 @@
 #![tactic(auto)]
 
 mod gathering;
-mod known;
 pub mod laws;
 mod solving;
 

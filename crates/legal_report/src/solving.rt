@@ -8,7 +8,6 @@ ghost use Rattle.legal_report.specs.Gathering.{questions_of};
 ghost use Rattle.legal_report.specs.Solutions.{AreNewSessions, IsSolution};
 
 use crate::gathering::gather;
-use crate::known::sources_are_known;
 use pair_book::{Book, Limits};
 use presentation::Presentation;
 use report_acceptance::reports::report_is_accepted;
@@ -32,9 +31,8 @@ pub fn solve(
     requires sessions { AreNewSessions (arc_value p.now) (length book.entries) sessions.items }
     ensures { IfOk result (λ r. IsSolution (arc_value p.now) limits (questions_of sessions.items) (reported r)) }
 {
-    // The proof needs what holds of the presentation, of the questions, and of the report.
     p.known();
-    sources_are_known(&sessions);
+    Session::all_known(&sessions);
     let report = gather(alloc, p, book, sessions, limits)?;
     report_is_accepted(&report);
     Ok(report)

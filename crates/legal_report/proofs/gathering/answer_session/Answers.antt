@@ -13,6 +13,6 @@ loop-alloc-preserved g c =
 pub returns : goal.returns
 returns g c =
     let none : next_question c.loop-alloc.session ≡ None = search rules in
-    let is : IsSession c.loop-alloc.session = c.count.ensures.session in
+    let is : IsSession c.loop-alloc.session = c.known.ensures in
     all_asked c.args.p.now (g.F.Front.entries c.args.list.now) (g.F.Front.seal c.args.list.now) c.args.session.now c.loop-alloc.session
     c.loop-alloc.invariant is none

@@ -1,7 +1,7 @@
 use Rattle.std.proofs.Common.{rules, length}
 use Rattle.std.specs.List.{AllByRecursion}
 use Rattle.presentation.specs.Presented.{IsPresented}
-use Rattle.session_text.specs.Questions.{HasSource}
+use Rattle.session_core.specs.Sessions.{IsSession}
 use Rattle.std.specs.Arc.{arc_value}
 use Rattle.report_text.specs.Reports.{reported}
 use Rattle.legal_report.specs.Gathering.{questions_of}
@@ -20,7 +20,7 @@ report_is_accepted-requires c =
 pub returns : goal.returns
 returns c =
     let known : IsPresented (arc_value c.args.p.now) = search rules in
-    let sources : AllByRecursion (λ s. AllByRecursion HasSource s.questions) c.args.sessions.items = search rules in
+    let sources : AllByRecursion IsSession c.args.sessions.items = search rules in
     solution c.args.limits (arc_value c.args.p.now) (length c.args.book.entries) c.args.sessions.items (reported c.in_ok-report.report) known sources
     c.requires.few c.requires.sessions
     c.in_ok-report.ensures.legal c.in_ok-report.ensures.stand c.report_is_accepted.ensures.told
