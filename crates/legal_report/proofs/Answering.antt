@@ -88,3 +88,5 @@ pub next_goes_on : (p : Presented) (es : List BasisEntry) (seal : Option Seal) (
     → AreAnsweredTo p es seal n olds news
     → ((i : ℕ) (s : SessionState) → slice_get olds i ≡ Some s → CanGoOn p es seal s) → slice_get news n ≡ Some now → CanGoOn p es seal now
 next_goes_on p es seal n olds news now to all here = all n now (sym (to.rest n (omega arith)) ∙ here)
+
+pub ruleset answering = (none_answered, one_answered, all_answered, next_goes_on)

@@ -63,7 +63,7 @@ fn answer_session<F: Front>(
 
 /// Asks each question of the sessions that has no reply yet by all items of the list, in order of sessions and
 /// questions.
-#[tactic(auto, using(crate::proofs::Answering::none_answered, crate::proofs::Answering::one_answered, crate::proofs::Answering::all_answered, crate::proofs::Answering::next_goes_on))]
+#[tactic(auto, using(crate::proofs::Answering::answering))]
 fn answer<F: Front>(
     alloc: Global,
     p: &Presentation,

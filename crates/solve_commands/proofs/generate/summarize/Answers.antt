@@ -23,7 +23,8 @@ returns-clause-exact c =
     let bounds : c.limits_with-limits.result ≡ limits_with ENTRIES None = search rules in
     let read : session_text p c.args.session.now ≡ Ok qs = search rules in
     let solution : IsSolution p (limits_with ENTRIES None) qss r =
-    subst (λ (l : Limits). IsSolution p l qss r) bounds (subst (λ (x : Presented). IsSolution x c.limits_with-limits.result qss r) arc c.in_ok-report.ensures) in
+    subst (λ (l : Limits). IsSolution p l qss r) bounds (subst (λ (x : Presented). IsSolution x c.limits_with-limits.result qss r) arc
+    c.in_ok-report.ensures) in
     summed c.args.seed c.args.presentation.now c.args.session.now p qss qs r c.in_ok-answer.answer c.in_ok-p.ensures.gives read
     (ap questions_of c.in_ok-sessions.ensures) solution
     c.in_ok-answer.ensures.text c.in_ok-answer.ensures.status

@@ -54,7 +54,8 @@ returns-clause-gives g c =
     let presented : IsPresentedIn under q p = search rules in
     let asked : AreQuestionsUnder (g.S.Shelf.under c.load_presentation.new.shelf) p q.sessions (questions_of ss) = search rules in
     let solution : IsSolution p (limits_of q) (questions_of ss) r =
-    subst (λ (l : Limits). IsSolution p l (questions_of ss) r) bounds (subst (λ (x : Presented). IsSolution x c.limits_with-limits.result (questions_of ss) r) arc
+    subst (λ (l : Limits). IsSolution p l (questions_of ss) r) bounds
+    (subst (λ (x : Presented). IsSolution x c.limits_with-limits.result (questions_of ss) r) arc
     c.in_ok-report.ensures) in
     found under q p ss r presented (asked_same (g.S.Shelf.under c.load_presentation.new.shelf) under c.load_presentation.ensures.same p q.sessions
     (questions_of ss) asked) solution
