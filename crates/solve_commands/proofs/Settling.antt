@@ -41,3 +41,5 @@ none_stops s n none le = all_taken (λ k. IsNoStop k.tag) s.kept n le none.all
 
 pub one_stops : (s : SessionState) (n : ℕ) (k : Kept) → slice_get s.kept n ≡ Some k → (IsNoStop k.tag → ⊥) → HasNoStop s → ⊥
 one_stops s n k at stop all = stop (one_of (λ k. IsNoStop k.tag) s.kept n k at all)
+
+pub ruleset settling = (none_yet, one_more, none_stops, one_stops)

@@ -14,7 +14,7 @@ use session_core::{Session, Tag};
 use std::alloc::Global;
 
 /// Whether no reply of the session is a stop.
-#[tactic(auto, using(crate::proofs::Settling::none_yet, crate::proofs::Settling::one_more, crate::proofs::Settling::none_stops, crate::proofs::Settling::one_stops))]
+#[tactic(auto, using(crate::proofs::Settling::settling))]
 fn has_no_stop(session: &Session) -> bool
     requires { length session.now.kept ≡ length session.now.questions }
     ensures { IsTrue result ↔ HasNoStop session.now }
