@@ -169,8 +169,12 @@ book_reopened h from b = record {
   within = b.within;
   terms = b.terms;
   steps = b.steps;
-  table = record { states = length-map h.tasks.states (reopened from) ∙ b.table.states; profiles = b.table.profiles; within = b.table.within;
-    most = b.table.most };
+  table = record {
+    states = length-map h.tasks.states (reopened from) ∙ b.table.states;
+    profiles = b.table.profiles;
+    within = b.table.within;
+    most = b.table.most;
+  };
   order = b.order;
   count = b.count;
   over = b.over;

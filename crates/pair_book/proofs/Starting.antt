@@ -100,8 +100,13 @@ none_of [] n = refl
 none_of (x ∷ xs) n = absurd (omega (arith, n))
 
 pub none_new : (tasks : Table) → IsTable tasks → tasks.count ≡ 0 → AreNew [] tasks
-none_new tasks h n = record { table = h; count = n; over = let p = h.profiles in none_of tasks.profiles (omega (arith, p, n)); each = λ t k. let a = k.1
-  in absurd (omega (arith, a)) }
+none_new tasks h n = record {
+  table = h;
+  count = n;
+  over = let p = h.profiles in none_of tasks.profiles (omega (arith, p, n));
+  each = λ t k. let a = k.1
+      in absurd (omega (arith, a));
+}
 
 -- an entry is entered
 pub one_new : (es : List BasisEntry) (e : BasisEntry) (tasks : Table) → AreNew es tasks → tasks.count < tasks.room

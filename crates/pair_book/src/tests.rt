@@ -74,11 +74,7 @@ fn list(
 }
 
 /// Puts the entry at the end, which is of the presentation.
-fn put(
-    list: &mut Vec<Arc<Entry>>,
-    p: &Arc<Presentation>,
-    entry: &Arc<Entry>,
-) -> Result<(), Fail>
+fn put(list: &mut Vec<Arc<Entry>>, p: &Arc<Presentation>, entry: &Arc<Entry>) -> Result<(), Fail>
     requires { AreOf (arc_value p.now) (map arc_value list.old.items) }
     ensures { IfOk result (λ _. AreOf (arc_value p.now) (map arc_value list.new.items)) }
 {

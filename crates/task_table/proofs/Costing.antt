@@ -1,7 +1,6 @@
 -- Ranks of tasks as numbers.
 use Rattle.std.specs.Int.{IsGcd}
-use Rattle.std.specs.Int.Count.{count_leading_zeros}
-use Rattle.std.proofs.Common.{ℕ, zero, suc, ◌+◌, ◌-◌, ◌*◌, ◌/◌, ◌%◌, ◌<◌, ◌≤◌, ◌≡◌, ◌≢◌, ◌⊎◌, inl, inr, arith, refl, sym, ap, ◌∙◌, max, Bool, true, false}
+use Rattle.std.proofs.Common.{ℕ, zero, suc, ◌+◌, ◌*◌, ◌/◌, ◌%◌, ◌<◌, ◌≤◌, ◌≡◌, ◌≢◌, ◌⊎◌, inl, inr, arith, refl, sym, ap, ◌∙◌, Bool, true, false}
 use Rattle.std.proofs.Common.{cond, nat_eq}
 use Rattle.std.proofs.Common.{ℤ, pos, negsuc, ◌<ℤ◌, unsigned_abs, ◌&&◌}
 use Rattle.std.proofs.lemmas.Int.{ints}
@@ -81,7 +80,7 @@ unfolding cost
 cost_small f g a b = (
   at_most_one (f.short && g.short),
   (let d = degree-common_multiple f.lead.at.m g.lead.at.m (a.monomial.variables ∙ sym b.monomial.variables)
-    in omega (arith, d, a.monomial.most, b.monomial.most)),
+      in omega (arith, d, a.monomial.most, b.monomial.most)),
   max-le (with_few f g a) (with_few g f b),
 ) where
   at_most_one : (t : Bool) → cond t 0 1 ≤ 1
@@ -119,7 +118,7 @@ taken_cheapest c h x s new least more read =
     let k0 = k.is_task.0 in let k1 = k.is_task.1 in
     let e : s ≡ k.task = read k.task (omega (arith, k0, k1, h.most)) (omega (arith, k1, h.most)) k.is in
     let P : Task → Type 0 = λ t. IsTask (length c.profiles) t × IsLeastOf c.queue.numbers (key_of c.profiles t)
-          × HasMore new (key_of c.profiles t) c.queue.numbers in
+    × HasMore new (key_of c.profiles t) c.queue.numbers in
     subst P (sym e) (k.is_task, subst (λ (y : ℕ). IsLeastOf c.queue.numbers y) k.is least, subst (λ (y : ℕ). HasMore new y c.queue.numbers) k.is more)
 
 pub keys_stay : (profiles : List Profile) (f : Profile) (t : Task) → IsTask (length profiles) t → key_of (profiles ++ f ∷ []) t ≡ key_of profiles t
@@ -155,7 +154,7 @@ rank_is entries t = λ k. cost (get_or-map profile_of entries t.i [] k) (get_or-
 
 -- what comes before has a lower key
 pub lower_key : (entries : List (List Term)) (t u : Task) → AllByRecursion IsProfile (map profile_of entries) → length entries ≤ 4096
-  → IsTask (length entries) t
+    → IsTask (length entries) t
     → Before ByCost entries t u → IsTask (length entries) u → key_of (map profile_of entries) t < key_of (map profile_of entries) u
 unfolding key_of Before
 lower_key entries t u all few h before k =

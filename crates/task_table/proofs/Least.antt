@@ -1,9 +1,8 @@
 -- The hint that stands at a wanted task stands at the least one.
-use Rattle.std.proofs.Common.{◌+◌, ◌<◌, ◌≡◌, arith, refl, ap, ◌∙◌, List, length, true}
+use Rattle.std.proofs.Common.{◌+◌, ◌<◌, ◌≡◌, arith, ap, ◌∙◌, List, length, true}
 use Rattle.module_vec.specs.declared.places.Term.{Term}
 use Rattle.outcomes.specs.declared.tasks.Task.{Task}
 use Rattle.task_table.specs.declared.hints.Hint.{Hint}
-use Rattle.task_table.specs.declared.order.Order.{Order}
 use Rattle.task_table.specs.declared.order.Order.TheVariants.{ByNumber}
 use Rattle.task_table.specs.declared.states.Wanted.{Wanted}
 use Rattle.task_table.specs.Tasks.{IsTask, number_of, is_wanted}
@@ -13,7 +12,7 @@ use Rattle.task_table.proofs.Counting.{number_within}
 use Rattle.task_table.proofs.Ordering.{before_number}
 
 pub least_at : (wanted : Wanted) (entries : List (List Term)) (table : Table) (hint : Hint) (t : Task) → table.order ≡ ByNumber
-  → IsHint wanted table.states hint →
+    → IsHint wanted table.states hint →
     is_wanted wanted (state_at table.states hint.number) ≡ true → hint.row < table.count → number_of t ≡ hint.number → IsTask (hint.row + 1) t
     → IsLeast wanted entries table t
 least_at wanted entries table hint t by h is row number task = record {

@@ -10,12 +10,12 @@ use Rattle.task_table.specs.declared.states.TaskState.{TaskState}
 use Rattle.task_table.specs.declared.states.Wanted.{Wanted}
 use Rattle.task_table.specs.declared.states.Wanted.TheVariants.{OpenOnes}
 use Rattle.task_table.specs.declared.order.Order.TheVariants.{ByCost}
-use Rattle.task_table.specs.Keys.{AreQueued, TakesCheapest, key_of}
+use Rattle.task_table.specs.Keys.{AreQueued, key_of}
 use Rattle.task_table.specs.Orders.{Before}
 use Rattle.task_table.specs.Profiles.{IsProfile, profile_of}
-use Rattle.task_table.specs.Queueing.{FindsCheapestBelow, FindsCheapest, IsCheapestBelow, AreQueuedBut, AreQueuedBelow}
+use Rattle.task_table.specs.Queueing.{FindsCheapestBelow, FindsCheapest, AreQueuedBut, AreQueuedBelow}
 use Rattle.task_table.specs.Queues.{HasMore, IsLeastOf}
-use Rattle.task_table.specs.Tables.{Table, IsTable, IsLeast, FindsLeast, state_at}
+use Rattle.task_table.specs.Tables.{Table, IsTable, FindsLeast, state_at}
 use Rattle.task_table.specs.Tasks.{IsTask, number_of, tasks_below, is_open, is_wanted}
 use Rattle.std.proofs.lemmas.List.{get_or-set_same, get_or-set_other, get_or_append_left}
 use Rattle.task_table.proofs.Counting.{number_within, row_within, tasks_below_grow}
@@ -102,7 +102,7 @@ module _ (wanted : Wanted) (profiles : List Profile) (states : List TaskState) (
     cheapest = λ u k lt is. elim (at_number t u (number_of t) h.0 k.0 refl lt) [
       | inl l ↦ below.cheapest u k l is
       | inr e ↦ absurd (not_both (is_wanted wanted (state_at states (number_of u))) is
-        (ap (λ (z : Task). is_wanted wanted (state_at states (number_of z))) e ∙ not))
+          (ap (λ (z : Task). is_wanted wanted (state_at states (number_of z))) e ∙ not))
     ];
   }
 
@@ -163,7 +163,7 @@ least_found wanted entries table (Some t) h by over all finds =
             let within = number_within u table.count k in
             let c = finds.cheapest u (k0, omega (arith, k1, e)) (omega (arith, within, s)) w in
             let low = lower_key entries u t (subst (AllByRecursion IsProfile) over all) (omega (arith, n, o, e, h.within, h.most))
-                  (k0, omega (arith, k1, n, o, e))
+            (k0, omega (arith, k1, n, o, e))
             (subst (λ z. Before z entries u t) by b) (t0, omega (arith, t1, n, o)) in
             let c2 = subst (λ (ps : List Profile). key_of ps t ≤ key_of ps u) over c in
             absurd (omega (arith, low, c2))
@@ -229,7 +229,7 @@ still_queued profiles f states row numbers count n l queued u k lt opens =
     let w0 = w.0 in let w1 = w.1 in
     let v : IsTask (length profiles) u = (w0, omega (arith, w1, n)) in
     let same : state_at (states ++ row) (number_of u) ≡ state_at states (number_of u) =
-          get_or_append_left states row Never (number_of u) (omega (arith, lt, l)) in
+    get_or_append_left states row Never (number_of u) (omega (arith, lt, l)) in
     let q = queued u v (ap is_open (sym same) ∙ opens) in
     subst (Contains numbers) (sym (keys_stay profiles f u v)) q
 

@@ -1,12 +1,12 @@
 -- A heap of reversed numbers is a queue.
-use Rattle.std.proofs.Common.{ℕ, zero, suc, ◌+◌, ◌<◌, ◌≤◌, ◌≡◌, ◌⊎◌, inl, inr, arith, refl, sym, ap, ◌∙◌, List, [], ◌∷◌, length, map, false, Some, None}
-use Rattle.std.specs.List.{Contains, AllByRecursion}
+use Rattle.std.proofs.Common.{ℕ, zero, suc, ◌≤◌, ◌≡◌, ◌⊎◌, inl, inr, arith, refl, sym, ap, List, [], ◌∷◌, length, map, Some, None}
+use Rattle.std.specs.List.{Contains}
 use Rattle.std.specs.List.Sorted.{IsPermutation}
 use Rattle.std.proofs.lemmas.List.Sorted.{Contains-permutation, IsPermutation-map, IsPermutation-sym, length_permutation}
 use Rattle.std.proofs.lemmas.Map.Keys.{ge_from_not_lt}
 use Rattle.std.specs.BinaryHeap.{IsUpperBound}
 use Rattle.std.specs.declared.cmp.Reverse.{Reverse}
-use Rattle.task_table.specs.Queues.{HasMore, IsLeastOf, TakesLeast, reversed_cmp}
+use Rattle.task_table.specs.Queues.{HasMore, TakesLeast, reversed_cmp}
 
 contained_head : (x : ℕ) (xs : List ℕ) → Contains (x ∷ xs) x
 contained_head x xs = (0, omega arith, refl)

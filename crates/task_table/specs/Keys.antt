@@ -1,7 +1,7 @@
 -- A task by its cost as one number of 52 binary digits: its rank, and then its pair and its kind.
 use Rattle.std.specs.List.{AllByRecursion}
 use Rattle.std.specs.Prelude.{◌≡◌, ℕ, ◌+◌, ◌*◌, ◌≤◌, true, List, [], length, Contains, slice_index_or, vec_capacity}
-use Rattle.std.specs.Prelude.{pos, Option}
+use Rattle.std.specs.Prelude.{Option}
 use Rattle.std.specs.Prelude.{Some, None}
 use Rattle.outcomes.specs.declared.tasks.Task.{Task}
 use Rattle.task_table.specs.declared.TheConstants.{ENTRIES}

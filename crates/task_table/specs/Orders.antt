@@ -1,5 +1,5 @@
 -- The order in which tasks are worked: by a rank that the order gives to each task, and then by number.
-use Rattle.std.specs.Prelude.{◌≡◌, ◌⊎◌, ℕ, zero, suc, ◌+◌, ◌/◌, ◌%◌, ◌<◌, max, nat_eq, ◌&&◌, Bool, cond}
+use Rattle.std.specs.Prelude.{◌≡◌, ◌⊎◌, ℕ, zero, suc, ◌+◌, ◌/◌, ◌%◌, ◌<◌, max, nat_eq, ◌&&◌, cond}
 use Rattle.std.specs.Prelude.{unsigned_abs, List}
 use Rattle.laurent_terms.specs.Monomials.{degree, common_multiple}
 use Rattle.module_vec.specs.declared.places.Term.{Term}

@@ -1,6 +1,6 @@
 -- What an order of tasks looks at in a vector.
 use Rattle.std.specs.Int.Count.{count_leading_zeros}
-use Rattle.std.specs.Prelude.{◌≡◌, ℕ, ◌-◌, ◌≤◌, max, nat_le, ℤ, pos, ◌<ℤ◌, unsigned_abs, List, [], ◌∷◌, length, true}
+use Rattle.std.specs.Prelude.{ℕ, ◌-◌, ◌≤◌, max, nat_le, pos, ◌<ℤ◌, unsigned_abs, List, [], ◌∷◌, length, true}
 use Rattle.laurent_terms.specs.Monomials.{IsMonomial}
 use Rattle.module_vec.specs.declared.places.Term.{Term}
 use Rattle.task_table.specs.declared.profiles.Profile.{Profile}

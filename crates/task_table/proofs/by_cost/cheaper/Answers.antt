@@ -1,4 +1,4 @@
-use Rattle.std.proofs.Common.{arith, ◌<◌, ◌≡◌, ◌∙◌, length, subst, Option}
+use Rattle.std.proofs.Common.{arith, ◌<◌, ◌∙◌, length, subst, Option}
 use Rattle.outcomes.specs.declared.tasks.Task.{Task}
 use Rattle.task_table.specs.Queueing.{FindsCheapestBelow}
 use Rattle.task_table.specs.Tasks.{number_of}
@@ -8,7 +8,7 @@ use Rattle.task_table.proofs.by_cost.cheaper.Goals as goal
 
 pub bounds-states-number : goal.bounds-states-number
 bounds-states-number c = let w = number_within c.args.task (length c.args.costs.now.profiles) c.requires.task
-  in omega (arith, w, c.number.ensures, c.requires.states)
+    in omega (arith, w, c.number.ensures, c.requires.states)
 
 pub returns-in_default : goal.returns-in_default
 returns-in_default c =

@@ -1,4 +1,4 @@
-use Rattle.std.proofs.Common.{arith, ◌<◌, ◌≡◌, ◌∙◌, length}
+use Rattle.std.proofs.Common.{arith, ◌∙◌, length}
 use Rattle.task_table.proofs.Pricing.{task_within, none_below_one}
 use Rattle.task_table.proofs.by_cost.cheapest.Goals as goal
 

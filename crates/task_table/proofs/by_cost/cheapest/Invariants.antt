@@ -1,4 +1,4 @@
-use Rattle.std.proofs.Common.{ℕ, ◌≡◌, ◌<◌}
+use Rattle.std.proofs.Common.{◌≡◌, ◌<◌}
 use Rattle.task_table.specs.Tasks.{number_of}
 use Rattle.task_table.specs.Queueing.{FindsCheapestBelow}
 use Rattle.task_table.proofs.by_cost.cheapest.Given as goal

@@ -22,7 +22,7 @@ returns-then-is-clause-task c =
     let t = c.in-Some.task in
     let few = subst (λ (qs : List Profile). length qs ≤ 4096) c.loop-task.invariant.profiles c.next.ensures.few in
     let takes = subst (λ (qs : List Profile). TakesCheapest qs old (Some t) c.next.new.self.queue.numbers) c.loop-task.invariant.profiles
-          c.in-Some.ensures.task in
+    c.in-Some.ensures.task in
     let w = number_within t (length ps) takes.0 in
     let lt : c.number.result < length states = omega (arith, w, c.number.ensures, c.requires.states) in
     let opens = is_read OpenOnes states t c.number.result _ c.is.result c.number.ensures lt c.is.ensures ∙ c.if-is.true in

@@ -1,4 +1,4 @@
-use Rattle.std.proofs.Common.{ℕ, ◌≡◌, length}
+use Rattle.std.proofs.Common.{◌≡◌, length}
 use Rattle.task_table.specs.Keys.{AreQueued}
 use Rattle.task_table.proofs.by_cost.first_open.Given as goal
 

@@ -1,4 +1,4 @@
-use Rattle.std.proofs.Common.{arith, ◌<◌, ◌≡◌}
+use Rattle.std.proofs.Common.{arith}
 use Rattle.task_table.proofs.Pricing.{none_below_one}
 use Rattle.task_table.proofs.by_cost.queue_all.Goals as goal
 

@@ -1,6 +1,5 @@
-use Rattle.std.proofs.Common.{arith, ◌<◌, ◌≤◌, ◌+◌, ◌≡◌, ◌∙◌, inl, inr, refl, length, sym, ap, subst, List, true}
+use Rattle.std.proofs.Common.{arith, ◌≤◌, ◌+◌, ◌≡◌, ◌∙◌, inl, inr, refl, length, sym, ap, subst, List, true}
 use Rattle.task_table.specs.declared.profiles.Profile.{Profile}
-use Rattle.task_table.specs.declared.states.TaskState.{TaskState}
 use Rattle.task_table.specs.Keys.{key_of}
 use Rattle.task_table.specs.Tasks.{IsTask, number_of, tasks_below, is_open}
 use Rattle.task_table.specs.Tables.{state_at}
@@ -58,7 +57,7 @@ loop-at-preserved c =
         | inl l ↦ added.kept (key_of ps u) (inv.queued u k l opens)
         | inr e ↦
             let here : is_open (state_at c.args.states.now (number_of task)) ≡ true =
-                  ap (λ (z : Task). is_open (state_at c.args.states.now (number_of z))) (sym e) ∙ opens in
+            ap (λ (z : Task). is_open (state_at c.args.states.now (number_of z))) (sym e) ∙ opens in
             let q = added.queued here in
             subst (λ (z : Task). Contains c.queue_if_open.new.costs.queue.numbers (key_of ps z)) (sym e)
             (subst (λ (qs : List Profile). Contains c.queue_if_open.new.costs.queue.numbers (key_of qs task)) inv.profiles q)

@@ -1,4 +1,4 @@
-use Rattle.std.proofs.Common.{ℕ, ◌≡◌, ◌<◌, ◌≤◌, ◌+◌, length}
+use Rattle.std.proofs.Common.{◌≡◌, ◌<◌, ◌≤◌, ◌+◌, length}
 use Rattle.task_table.specs.Tasks.{number_of}
 use Rattle.task_table.specs.Queueing.{AreQueuedBelow}
 use Rattle.task_table.proofs.by_cost.queue_from.Given as goal

@@ -1,4 +1,4 @@
-use Rattle.std.proofs.Common.{arith, ◌≤◌, ◌+◌, ◌≡◌, length}
+use Rattle.std.proofs.Common.{arith}
 use Rattle.task_table.proofs.Counting.{tasks_below_next}
 use Rattle.task_table.proofs.by_cost.queue_row.Goals as goal
 

@@ -1,18 +1,12 @@
-use Rattle.std.proofs.Common.{arith, ◌<◌, ◌≡◌, ◌≢◌, ◌∙◌, inl, inr, length, ap, sym, subst, true}
-use Rattle.std.specs.List.{Contains}
-use Rattle.outcomes.specs.declared.tasks.Task.{Task}
+use Rattle.std.proofs.Common.{arith, ◌<◌, ◌∙◌, length, sym}
 use Rattle.task_table.specs.declared.states.Wanted.TheVariants.{OpenOnes}
-use Rattle.task_table.specs.Keys.{key_of}
-use Rattle.task_table.specs.Tables.{state_at}
-use Rattle.task_table.specs.Tasks.{is_open, number_of}
 use Rattle.task_table.proofs.Counting.{number_within}
-use Rattle.task_table.proofs.Ordering.{numbers_apart}
 use Rattle.task_table.proofs.Pricing.{is_read, queued_before, queued_shut}
 use Rattle.task_table.proofs.by_cost.requeue.Goals as goal
 
 pub bounds-states-number : goal.bounds-states-number
 bounds-states-number c = let w = number_within c.args.task (length c.args.costs.now.profiles) c.requires.task
-  in omega (arith, w, c.number.ensures, c.requires.states)
+    in omega (arith, w, c.number.ensures, c.requires.states)
 
 pub returns-then-is-clause-queued : goal.returns-then-is-clause-queued
 returns-then-is-clause-queued c = λ by.

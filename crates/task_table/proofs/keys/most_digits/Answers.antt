@@ -1,4 +1,4 @@
-use Rattle.std.proofs.Common.{◌≡◌, max, ◌∙◌, unsigned_abs, rules, FitsSigned}
+use Rattle.std.proofs.Common.{max, ◌∙◌, unsigned_abs, rules, FitsSigned}
 use Rattle.std.proofs.lemmas.Int.{to_z-of_z}
 use Rattle.std.proofs.lemmas.Nat.Gcd.{IsGcd-swap}
 use mir.Syntax.{w128}

@@ -1,4 +1,4 @@
-use Rattle.std.proofs.Common.{◌≡◌, ◌%◌, ℕ, arith}
+use Rattle.std.proofs.Common.{◌≡◌, ◌%◌, arith}
 use Rattle.task_table.specs.Tasks.{kind_number}
 use Rattle.task_table.proofs.Costing.{task_read}
 use Rattle.task_table.proofs.keys.task_of.Goals as goal

@@ -1,4 +1,4 @@
-use Rattle.std.proofs.Common.{◌≡◌, ◌<◌, ◌≤◌, ◌++◌, ◌∷◌, [], sym, subst, length, length-append, List, arith}
+use Rattle.std.proofs.Common.{◌<◌, ◌≤◌, ◌∷◌, [], sym, subst, length, length-append, List, arith}
 use Rattle.std.specs.List.{AllByRecursion}
 use Rattle.task_table.specs.declared.profiles.Profile.{Profile}
 use Rattle.task_table.specs.Keys.{Costed, IsKey}

@@ -1,4 +1,4 @@
-use Rattle.std.proofs.Common.{subst, Some, None, refl, sym}
+use Rattle.std.proofs.Common.{subst, Some, None}
 use Rattle.task_table.specs.Keys.{Costed, TakesCheapest, costed}
 use Rattle.task_table.proofs.Costing.{taken_cheapest}
 use Rattle.task_table.proofs.costs.Costs.next.Goals as goal

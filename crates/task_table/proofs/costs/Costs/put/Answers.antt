@@ -1,4 +1,4 @@
-use Rattle.std.proofs.Common.{◌≡◌, ◌∙◌, inl, inr, ap, sym, subst, length, List}
+use Rattle.std.proofs.Common.{◌∙◌, inl, inr, ap, sym, subst, length, List}
 use Rattle.task_table.specs.declared.profiles.Profile.{Profile}
 use Rattle.task_table.specs.Keys.{Costed, key_of}
 use Rattle.task_table.specs.Tasks.{IsTask}

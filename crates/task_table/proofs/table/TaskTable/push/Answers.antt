@@ -1,4 +1,4 @@
-use Rattle.std.proofs.Common.{arith, sym, ap, ◌≡◌, ◌<◌, ◌+◌, ◌++◌, ◌∷◌, [], ◌∙◌, ◌≤◌, length, length-append, subst, List}
+use Rattle.std.proofs.Common.{arith, sym, ap, ◌≡◌, ◌<◌, ◌+◌, ◌++◌, ◌∷◌, [], ◌∙◌, length, length-append, subst, List}
 use Rattle.task_table.specs.declared.states.TaskState.{TaskState}
 use Rattle.task_table.specs.declared.states.Wanted.TheVariants.{OpenOnes, Unclosed}
 use Rattle.task_table.specs.declared.profiles.Profile.{Profile}

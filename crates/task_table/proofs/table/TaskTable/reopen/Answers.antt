@@ -1,4 +1,4 @@
-use Rattle.std.proofs.Common.{arith, sym, ap, ◌∙◌, ◌≡◌, ◌≤◌, length, map, drop, take, ◌++◌, subst, List}
+use Rattle.std.proofs.Common.{arith, sym, ap, ◌∙◌, ◌≡◌, length, map, drop, take, ◌++◌, subst, List}
 use Rattle.std.proofs.lemmas.List.{length-map}
 use Rattle.std.proofs.lemmas.List.Sums.{count_by-le-length}
 use Rattle.task_table.specs.declared.states.TaskState.{TaskState}
@@ -43,7 +43,7 @@ invariant_of-self c =
       costs_capacity = let z = c.queue_anew.ensures.same.1 in omega (arith, z, c.self.invariant.costs_capacity);
       queued = record {
         tasks = λ by. subst (λ (qs : List Profile). AreQueued qs (take c.self.inside.states.len (new ++ drop (length new) items))
-          c.queue_anew.new.costs.queue.numbers)
+            c.queue_anew.new.costs.queue.numbers)
             (sym c.queue_anew.ensures.same.0)
             (subst (λ (ss : List TaskState). AreQueued c.self.inside.costs.profiles ss c.queue_anew.new.costs.queue.numbers) c.deref.ensures.value
             (c.queue_anew.ensures.queued by));

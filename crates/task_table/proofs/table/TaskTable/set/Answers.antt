@@ -1,4 +1,4 @@
-use Rattle.std.proofs.Common.{arith, sym, ap, ◌∙◌, ◌≡◌, ◌≤◌, ◌<◌, length, subst, List, slice_set, ℕ}
+use Rattle.std.proofs.Common.{arith, sym, ap, ◌∙◌, ◌<◌, length, subst, List, slice_set, ℕ}
 use Rattle.std.proofs.lemmas.List.{length-set}
 use Rattle.task_table.specs.Tasks.{IsTask, number_of, is_open}
 use Rattle.task_table.specs.declared.profiles.Profile.{Profile}
@@ -38,7 +38,7 @@ invariant_of-self c =
           let items = c.self.inside.states.items in
           let value = c.deref.ensures.value ∙ ap (λ (n : ℕ). slice_set items n c.args.state) c.number-at.ensures in record {
             tasks = λ by. subst (λ (qs : List Profile). AreQueued qs (slice_set items (number_of c.args.task) c.args.state) numbers)
-              (sym c.requeue.ensures.same.0)
+                (sym c.requeue.ensures.same.0)
                 (subst (λ (ss : List TaskState). AreQueued ps ss numbers) value (c.requeue.ensures.queued by));
             room = λ by. let r = c.self.invariant.queued.room by in omega (arith, r, c.requeue.ensures.room);
           };

@@ -1,4 +1,4 @@
-use Rattle.std.proofs.Common.{arith, refl, ◌≡◌, ◌≤◌, ◌<◌, ◌∙◌, ap, sym, subst, length, List, Some, slice_set}
+use Rattle.std.proofs.Common.{arith, refl, ◌≡◌, ◌<◌, ◌∙◌, ap, sym, subst, length, List, Some, slice_set}
 use Rattle.std.proofs.lemmas.List.{length-set}
 use Rattle.task_table.specs.declared.order.Order.TheVariants.{ByCost}
 use Rattle.task_table.specs.declared.profiles.Profile.{Profile}
@@ -48,7 +48,7 @@ returns c = λ entries over.
     let t = c.in_ok-task.task in
     let by = subst (λ (x : Table). x.order ≡ ByCost) (sym c.self.view_is) c.requires in
     let finds = subst (λ (ss : List TaskState). FindsCheapest OpenOnes c.self.inside.costs.profiles ss (Some t)) c.deref.ensures.value
-          c.in_ok-task.ensures.task in (
+    c.in_ok-task.ensures.task in (
       subst (λ (x : Table). IsLeast OpenOnes entries x t) c.self.view_is
           (least_found OpenOnes entries (table_of c.self.inside) (Some t) c.self.invariant.table by (subst (IsOver entries) (sym c.self.view_is) over)
           c.known.ensures.profiles finds),
