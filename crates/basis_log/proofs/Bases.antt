@@ -1,12 +1,11 @@
 -- Generator entries as the base of a row.
-use Rattle.std.proofs.Common.{◌≡◌, ◌≢◌, ℕ, zero, suc, ◌+◌, ◌*◌, ◌<◌, ◌≤◌, ◌^◌, Bool, true, false, MatchBool, negsuc, ℤ, List, [], ◌∷◌, length, Contains}
-use Rattle.std.proofs.Common.{Some, refl, sym, ap, ◌∙◌, arith, subst, inl, inr, ◌⊎◌}
+use Rattle.std.proofs.Common.{◌≡◌, ◌≢◌, ℕ, zero, suc, ◌+◌, ◌*◌, ◌<◌, ◌≤◌, ◌^◌, Bool, true, false, MatchBool, negsuc, ℤ, List, [], ◌∷◌, length}
+use Rattle.std.proofs.Common.{Some, refl, sym, arith, subst, inl, inr}
 use Rattle.std.proofs.lemmas.List.{length-map}
 use Rattle.std.proofs.lemmas.List.Elements.{All-from_recursion, All-contains}
 use Rattle.std.proofs.lemmas.Option.{slice_get_within}
 use Rattle.std.specs.List.{AllByRecursion}
 use Rattle.std.specs.Prelude.{slice_get}
-use Rattle.free_words.specs.declared.letter.Letter.{Letter}
 use Rattle.presentation.specs.Presented.{Presented, IsPresented}
 use Rattle.presentation.specs.Presented as presented
 use Rattle.formal_sums.specs.FormalSum.{FormalSum, scale}
@@ -23,14 +22,12 @@ use Rattle.fox_calculus.specs.Generators.{binomial, unit_monomial, candidates, I
 use Rattle.fox_calculus.specs.Module.{IsGenerator, IsMember}
 use Rattle.fox_calculus.proofs.Listed.{is_candidate, written, candidates_are, origin}
 use Rattle.fox_calculus.proofs.Short.{fox_length, nonzero}
-use Rattle.basis_entry.specs.declared.recipes.Recipe.{Recipe}
-use Rattle.basis_entry.specs.declared.recipes.Recipe.TheVariants.{Gen}
 use Rattle.basis_entry.specs.Base.{has_negative_lead, AreBase, IsOfGenerator}
 use Rattle.basis_entry.specs.Entries.{BasisEntry, IsBasisEntry, AreOf, RecipeIsOver, HasMonomials}
 use Rattle.basis_entry.proofs.Generators.{generator_some, generator_member}
 use Rattle.basis_entry.proofs.Over.{generator_over, either_over}
 use Rattle.basis_entry.proofs.Vectors.{positive_entry, turned_entry, either_member}
-use Rattle.basis_log.specs.Rows.{Rowed, source_of, AreBaseOfSome, IsRow}
+use Rattle.basis_log.specs.Rows.{source_of, AreBaseOfSome, IsRow}
 
 -- ---- there is one at least
 unit_is_not_zero : IsZero (binomial (unit_monomial 0) 0) → ⊥

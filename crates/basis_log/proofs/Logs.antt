@@ -1,10 +1,10 @@
 -- Lists of items: their entries and their seal.
-use Rattle.std.proofs.Common.{◌≡◌, ℕ, zero, suc, ◌+◌, ◌<◌, ◌≤◌, List, [], ◌∷◌, ◌++◌, length, map, Option, Some, None, refl, sym, ap, ◌∙◌, arith, subst}
+use Rattle.std.proofs.Common.{◌≡◌, ℕ, zero, suc, ◌+◌, ◌≤◌, List, [], ◌∷◌, ◌++◌, length, map, Option, Some, None, refl, ap, arith, subst}
 use Rattle.std.specs.List.{AllByRecursion}
 use Rattle.std.specs.Prelude.{slice_get}
 use Rattle.presentation.specs.Presented.{Presented}
 use Rattle.basis_entry.specs.Entries.{BasisEntry, IsBasisEntry, AreOf}
-use Rattle.basis_entry.specs.Seals.{Seal, IsSeal, item_count}
+use Rattle.basis_entry.specs.Seals.{Seal, item_count}
 use Rattle.basis_log.specs.Items.{LogItem, item_source, entries_of, seal_of, IsItem, AreItems}
 
 -- ---- after entries
@@ -65,7 +65,7 @@ read_entry p (LogItem.an_entry x ∷ xs) zero e h at = cc
 read_entry p (LogItem.an_entry x ∷ xs) (suc i) e h at = read_entry p xs i e h.2 at
 read_entry p (LogItem.a_seal s ∷ xs) zero e h at = absurd (let q = at in cc)
 read_entry p (LogItem.a_seal s ∷ xs) (suc i) e h at = absurd (let q : slice_get [] i ≡ Some (LogItem.an_entry e) =
-                                                                    subst (λ l. slice_get l i ≡ Some (LogItem.an_entry e)) h.2 at in cc)
+    subst (λ l. slice_get l i ≡ Some (LogItem.an_entry e)) h.2 at in cc)
 
 -- a seal stands past the entries
 pub read_seal : (p : Presented) (xs : List LogItem) (i : ℕ) (s : Seal) → AreItems p xs → slice_get xs i ≡ Some (LogItem.a_seal s)
@@ -84,7 +84,7 @@ last_entry p (LogItem.an_entry x ∷ y ∷ xs) zero e h n at = absurd (omega (ar
 last_entry p (LogItem.an_entry x ∷ y ∷ xs) (suc i) e h n at = last_entry p (y ∷ xs) i e h.2 (omega (arith, n)) at
 last_entry p (LogItem.a_seal s ∷ xs) zero e h n at = absurd (let q = at in cc)
 last_entry p (LogItem.a_seal s ∷ xs) (suc i) e h n at = absurd (let q : slice_get [] i ≡ Some (LogItem.an_entry e) =
-                                                                      subst (λ l. slice_get l i ≡ Some (LogItem.an_entry e)) h.2 at in cc)
+    subst (λ l. slice_get l i ≡ Some (LogItem.an_entry e)) h.2 at in cc)
 
 pub last_is_seal : (p : Presented) (xs : List LogItem) (i : ℕ) (s : Seal) → AreItems p xs → slice_get xs i ≡ Some (LogItem.a_seal s) → seal_of xs ≡ Some s
 last_is_seal p [] i s h at = absurd (let q = at in cc)
@@ -92,4 +92,4 @@ last_is_seal p (LogItem.an_entry x ∷ xs) zero s h at = absurd (let q = at in c
 last_is_seal p (LogItem.an_entry x ∷ xs) (suc i) s h at = last_is_seal p xs i s h.2 at
 last_is_seal p (LogItem.a_seal x ∷ xs) zero s h at = cc
 last_is_seal p (LogItem.a_seal x ∷ xs) (suc i) s h at = absurd (let q : slice_get [] i ≡ Some (LogItem.a_seal s) =
-                                                                      subst (λ l. slice_get l i ≡ Some (LogItem.a_seal s)) h.2 at in cc)
+    subst (λ l. slice_get l i ≡ Some (LogItem.a_seal s)) h.2 at in cc)

@@ -1,6 +1,6 @@
 -- What holds of seats, as their fields change.
-use Rattle.std.proofs.Common.{◌≡◌, ℕ, ◌+◌, ◌-◌, ◌<◌, ◌≤◌, ◌⊎◌, inl, inr, Bool, true, false, not, MatchBool, Option, None, MatchOption, List, [], ◌∷◌, ◌++◌}
-use Rattle.std.proofs.Common.{length, map, Some, refl, sym, ap, ◌∙◌, arith, subst}
+use Rattle.std.proofs.Common.{◌≡◌, ℕ, ◌+◌, ◌<◌, ◌≤◌, ◌⊎◌, inl, inr, Bool, true, false, not, MatchBool, Option, None, MatchOption, List, [], ◌∷◌, ◌++◌}
+use Rattle.std.proofs.Common.{length, map, Some, sym, ap, ◌∙◌, arith, subst}
 use Rattle.std.proofs.lemmas.List.{length-append, length-map, map-append, append_assoc}
 use Rattle.std.proofs.lemmas.Option.{slice_get-map}
 use Rattle.std.specs.Option.{option_map}

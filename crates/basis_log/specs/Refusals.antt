@@ -1,5 +1,5 @@
 -- Why an item was not published.
-use Rattle.std.specs.Prelude.{◌≡◌, ◌≢◌, ◌≤◌, ◌⊎◌, false, List, [], ◌∷◌, ◌++◌}
+use Rattle.std.specs.Prelude.{◌≡◌, ◌≢◌, ◌≤◌, ◌⊎◌, false, [], ◌∷◌, ◌++◌}
 use Rattle.basis_log.specs.declared.items.Item.{Item}
 use Rattle.basis_log.specs.declared.refusals.Refused.{Refused}
 use Rattle.basis_log.specs.declared.refusals.Refused.TheVariants as refused

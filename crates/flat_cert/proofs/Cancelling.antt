@@ -63,7 +63,7 @@ next_each made s t g z count below is each k lt = by (k == g) refl
     by true e =
         let same : k ≡ g = grind (arith, nat_tests) in
         ap (λ i. slice_index_or (slice_set made g z) i (pos 0)) same ∙ get_or-set_same made g z (pos 0) (omega (arith, count, below)) ∙ is
-          ∙ ap (difference_in s t) (sym same)
+        ∙ ap (difference_in s t) (sym same)
     by false e =
         let other : k ≢ g = grind (arith, nat_tests) in
         get_or-set_other made g k z (pos 0) other ∙ each k (omega (arith, lt, other))

@@ -77,7 +77,7 @@ abbrev IsFound : Entries → Place → Type 0
 IsFound es x = (t : Total) × (found es x ≡ Some t)
 
 still_found : (x : Place) (es : Entries) (ys : List Place) → AllByRecursion (λ y. y ≢ x) ys → AllByRecursion (IsFound es) ys
-  → AllByRecursion (IsFound (dropped x es)) ys
+    → AllByRecursion (IsFound (dropped x es)) ys
 still_found x es [] apart all = tt
 still_found x es (y ∷ ys) apart all = ((all.0.0, found_dropped x y es apart.0 ∙ all.0.1), still_found x es ys apart.1 all.1)
 
@@ -189,7 +189,7 @@ sum_there : (es : Entries) (p : Place) (t : Total) (x : Place) → AllByRecursio
 sum_there es p t x all h = ap sum_in (found_last es p t x (all_at_most es p x all h))
 
 pub last_greatest : (old es : Entries) (p : Place) (t : Total) → old ≡ es ++ (p, t) ∷ [] → AllByRecursion (λ q. place_cmp q p ≡ Less) (keys_of es)
-  → t.sum ≢ pos 0
+    → t.sum ≢ pos 0
     → IsGreatest (λ x. sum_at old x ≢ pos 0) p
 last_greatest old es p t is all some = record {
   here = λ none. some (sym own ∙ sym (read p) ∙ none);

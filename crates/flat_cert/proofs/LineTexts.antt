@@ -165,9 +165,9 @@ module _ (p : Presented) (known : IsPresented p) where
       → IsRead (kind_text p.names) (IsKind p) text None
   no_relator text word rest k w bad (Rel j) is e = bad j is (words text word rest (Rel j) k e).1
   no_relator text word rest k w bad (Bin j c) is e = let same : 114 ≡ 98 = ap first_byte (sym w ∙ (words text word rest (Bin j c) k e).0)
-    in absurd (omega (arith, same))
+      in absurd (omega (arith, same))
   no_relator text word rest k w bad (Mod c) is e = let same : 114 ≡ 109 = ap first_byte (sym w ∙ (words text word rest (Mod c) k e).0)
-    in absurd (omega (arith, same))
+      in absurd (omega (arith, same))
 
   pub relator_read : (text word rest : List ℕ) (j : ℕ) → cut 32 text ≡ Some (word, rest) → word ≡ codes "rel" → IsRead decimal (IsRelator p) rest (Some j)
       → IsRead (kind_text p.names) (IsKind p) text (Some (Rel j))
@@ -176,10 +176,10 @@ module _ (p : Presented) (known : IsPresented p) where
   pub no_parts : (text word rest : List ℕ) → cut 32 text ≡ Some (word, rest) → word ≡ codes "bin"
       → ((j c : ℕ) → IsRelator p j → c < length p.names → rest ≡ decimal j ++ 32 ∷ name_of p.names c → ⊥) → IsRead (kind_text p.names) (IsKind p) text None
   no_parts text word rest k w bad (Rel j) is e = let same : 98 ≡ 114 = ap first_byte (sym w ∙ (words text word rest (Rel j) k e).0)
-    in absurd (omega (arith, same))
+      in absurd (omega (arith, same))
   no_parts text word rest k w bad (Bin j c) is e = bad j c is.0 is.1 (words text word rest (Bin j c) k e).1
   no_parts text word rest k w bad (Mod c) is e = let same : 98 ≡ 109 = ap first_byte (sym w ∙ (words text word rest (Mod c) k e).0)
-    in absurd (omega (arith, same))
+      in absurd (omega (arith, same))
 
   pub no_space : (rest : List ℕ) → cut 32 rest ≡ None → (j c : ℕ) → IsRelator p j → c < length p.names → rest ≡ decimal j ++ 32 ∷ name_of p.names c → ⊥
   no_space rest none j c is below e = none-some _ (sym none ∙ ap (cut 32) e ∙ number_cut j c is)
@@ -206,9 +206,9 @@ module _ (p : Presented) (known : IsPresented p) where
   pub no_component : (text word rest : List ℕ) → cut 32 text ≡ Some (word, rest) → word ≡ codes "mod" → finding p.names rest ≡ None
       → IsRead (kind_text p.names) (IsKind p) text None
   no_component text word rest k w none (Rel j) is e = let same : 109 ≡ 114 = ap first_byte (sym w ∙ (words text word rest (Rel j) k e).0)
-    in absurd (omega (arith, same))
+      in absurd (omega (arith, same))
   no_component text word rest k w none (Bin j c) is e = let same : 109 ≡ 98 = ap first_byte (sym w ∙ (words text word rest (Bin j c) k e).0)
-    in absurd (omega (arith, same))
+      in absurd (omega (arith, same))
   no_component text word rest k w none (Mod c) is e =
       none-some c (sym none ∙ ap (finding p.names) (words text word rest (Mod c) k e).1 ∙ found c is.0)
 
@@ -232,7 +232,7 @@ module _ (p : Presented) (known : IsPresented p) where
   space_cut : (l : Flat) → IsFlat p l → cut 32 (behind l) ≡ Some (monomial_text p.names l.t, kind_text p.names l.what)
   space_cut l is =
       cut_here 32 (monomial_text p.names l.t) (kind_text p.names l.what) (monomial_lacks 32 p.names l.t space (λ e. omega (arith, e))
-        (names_of p known) is.mono)
+      (names_of p known) is.mono)
 
   fronts : (text front rest : List ℕ) (l : Flat) → cut 42 text ≡ Some (front, rest) → IsFlat p l → text ≡ line_text p.names l
       → (front ≡ coefficient l.k) × (rest ≡ behind l)
@@ -268,7 +268,7 @@ module _ (p : Presented) (known : IsPresented p) where
         not_flat bad = λ l flat e.
             let same : t ≡ l.t =
             monomial_same p.names (names_of p known) t l.t mono.0 flat.mono (sym mono.1
-              ∙ (lasts rest middle last l m flat (fronts text front rest l k flat e).1).0)
+            ∙ (lasts rest middle last l m flat (fronts text front rest l k flat e).1).0)
             in bad (subst IsFlatMono (sym same) flat.flat)
 
         pub line_read : (q : ℤ) (what : FlatKind) → IsRead coefficient IsCoefficient front (Some q) → IsFlatMono t

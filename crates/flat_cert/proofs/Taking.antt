@@ -90,11 +90,14 @@ module _ (p : Presented) where
 
   pub takes_on : (old mid new : Entries) (l : Flat) (ls : List Flat) (r : Answer) → IsFlat p l → TakesAway old l.k l.t (generator_of p l.what) mid (Ok tt)
       → TakesLines p mid ls new r → TakesLines p old (l ∷ ls) new r
-  takes_on old mid new l ls r is one more = record { sums = sums r more.sums; weights =
-    λ vs are. weights vs (one.weights (vs.of l.what) (are l.what is.kind)) r (more.weights vs are) }
+  takes_on old mid new l ls r is one more = record {
+    sums = sums r more.sums;
+    weights =
+        λ vs are. weights vs (one.weights (vs.of l.what) (are l.what is.kind)) r (more.weights vs are);
+  }
     where
       sums : (r : Answer) → IfOk r (λ _. Loses mid (flat_image (certificate_sum p ls)) new)
-        → IfOk r (λ _. Loses old (flat_image (certificate_sum p (l ∷ ls))) new)
+          → IfOk r (λ _. Loses old (flat_image (certificate_sum p (l ∷ ls))) new)
       sums (Ok u) h = λ x. omega (arith, ints, h x, one.sums x, sum_first l ls x)
       sums (Err e) h = tt
 

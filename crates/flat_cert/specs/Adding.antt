@@ -30,7 +30,7 @@ use Rattle.flat_cert.specs.Checking.{Vectors, lines_weight}
 -- the exponent of x_g less that of y_g in the product
 abbrev pub difference_in : List ℕ → List ℕ → ℕ → ℤ
 difference_in s t g = pos (slice_index s (2 * g) + slice_index t (2 * g)) -ℤ pos
-  (slice_index s (2 * g + 1) + slice_index t (2 * g + 1))
+    (slice_index s (2 * g + 1) + slice_index t (2 * g + 1))
 
 abbrev pub sum_in : Option Total → ℤ
 sum_in None = pos 0
@@ -89,7 +89,7 @@ Loses old v new = (x : Place) → sum_at new x ≡ sum_at old x -ℤ coefficient
 
 -- what comes of taking k·t·f away
 pub record TakesAway (old : List (Place × Total)) (k : ℤ) (t : List ℕ) (f : FormalSum Place)
-  (new : List (Place × Total))
+    (new : List (Place × Total))
     (r : Result (Unit {0}) AddFault) : Type 0 where
   pub sums : IfOk r (λ _. Loses old (flat_image (multiple moved k t f)) new)
   pub weights : (g : List Term) → IsWritten f g → Weighs old (weight (flat_image (multiple moved k t (sum_of g)))) new r

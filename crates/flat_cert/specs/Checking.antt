@@ -35,7 +35,7 @@ pub record AreVectors (p : Presented) (w : List Letter) (vs : Vectors) : Type 0 
 abbrev pub lines_weight : Vectors → List Flat → Place → ℕ
 lines_weight vs [] x = 0
 lines_weight vs (l ∷ ls) x = weight (flat_image (multiple moved l.k l.t (sum_of (vs.of l.what)))) x
-  + lines_weight vs ls x
+    + lines_weight vs ls x
 
 -- the same with the terms of the word's vector
 abbrev pub whole_weight : Vectors → List Flat → Place → ℕ
@@ -44,7 +44,7 @@ whole_weight vs ls x = weight (flat_image (sum_of vs.word)) x + lines_weight vs 
 -- where the sum is taken from the Fox vector of the word, what is left at x
 abbrev pub left_at : Presented → List Letter → List Flat → Place → ℤ
 left_at p w ls x = coefficient same_place (flat_image (fox w)) x -ℤ coefficient same_place
-  (flat_image (certificate_sum p ls)) x
+    (flat_image (certificate_sum p ls)) x
 
 abbrev pub IsWithin : Presented → List Letter → List Flat → Type 0
 IsWithin p w ls = (vs : Vectors) → AreVectors p w vs → IsBeyond (whole_weight vs ls) → ⊥

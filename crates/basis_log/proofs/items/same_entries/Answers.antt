@@ -1,4 +1,4 @@
-use Rattle.std.proofs.Common.{rules, arith, ◌≡◌, ◌<◌, length, ap, sym, ◌∙◌}
+use Rattle.std.proofs.Common.{rules, arith, ◌≡◌, ◌<◌, length}
 use Rattle.std.specs.Arc.{arc_value}
 use Rattle.basis_log.proofs.Reading.{same_next, same_here}
 use Rattle.basis_log.proofs.items.same_entries.Goals as goal

@@ -1,4 +1,4 @@
-use Rattle.std.proofs.Common.{rules, ◌≡◌, ap, sym, subst, ◌∙◌, ◌++◌, ◌∷◌, []}
+use Rattle.std.proofs.Common.{rules, ◌≡◌, ap, sym, subst, ◌∙◌}
 use Rattle.basis_log.specs.Items.{shown, item_source, IsItem, AreItems}
 use Rattle.basis_log.specs.Rows.{row_source}
 use Rattle.basis_log.specs.Seats.{shown_in}

@@ -1,5 +1,5 @@
-use Rattle.std.proofs.Common.{rules, ◌≡◌, ap, sym, subst, ◌∙◌}
-use Rattle.basis_log.specs.Seats.{Seen, shown_in, items_of}
+use Rattle.std.proofs.Common.{ap, sym, ◌∙◌}
+use Rattle.basis_log.specs.Seats.{shown_in, items_of}
 use Rattle.basis_log.specs.Sights.{Agree, cells_in}
 use Rattle.basis_log.proofs.Sitting.{cells_agree, items_agree}
 use Rattle.basis_log.proofs.seats.agree.Goals as goal

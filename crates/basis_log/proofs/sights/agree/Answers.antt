@@ -1,4 +1,4 @@
-use Rattle.std.proofs.Common.{rules, arith, ◌≡◌, ◌<◌, ◌≤◌, length, min, sym, ap, ◌∙◌, subst}
+use Rattle.std.proofs.Common.{rules, ◌<◌, length}
 use Rattle.basis_log.specs.Sights.{Agree, cells_in}
 use Rattle.basis_log.proofs.Prefixes.{same_cell, taken_agree}
 use Rattle.basis_log.proofs.sights.agree.Goals as goal

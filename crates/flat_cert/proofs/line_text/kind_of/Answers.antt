@@ -21,20 +21,20 @@ pub returns-in_err-number : goal.returns-in_err-number
 returns-in_err-number c =
     rw c.from_residual-in_err-number.ensures (no_parts c.args.p.now c.known.ensures c.args.text.now c.in_ok-word.word.now c.in_ok-word.rest.now
     c.in_ok-word.ensures.parts (c.is_same-2.ensures.0 c.if-is_same-2.true) (no_space c.args.p.now c.known.ensures c.in_ok-word.rest.now
-      c.in_err-number.ensures.parts))
+    c.in_err-number.ensures.parts))
 
 pub returns-in_err-relator-2 : goal.returns-in_err-relator-2
 returns-in_err-relator-2 c =
     rw c.from_residual-in_err-relator-2.ensures (no_parts c.args.p.now c.known.ensures c.args.text.now c.in_ok-word.word.now c.in_ok-word.rest.now
     c.in_ok-word.ensures.parts (c.is_same-2.ensures.0 c.if-is_same-2.true) (no_number c.args.p.now c.known.ensures c.in_ok-word.rest.now
-      c.in_ok-number.number.now c.in_ok-number.name.now c.in_ok-number.ensures.parts
+    c.in_ok-number.number.now c.in_ok-number.name.now c.in_ok-number.ensures.parts
     c.in_err-relator-2.ensures))
 
 pub returns-in_err-c : goal.returns-in_err-c
 returns-in_err-c c =
     rw c.from_residual-in_err-c.ensures (no_parts c.args.p.now c.known.ensures c.args.text.now c.in_ok-word.word.now c.in_ok-word.rest.now
     c.in_ok-word.ensures.parts (c.is_same-2.ensures.0 c.if-is_same-2.true) (no_name c.args.p.now c.known.ensures c.in_ok-word.rest.now
-      c.in_ok-number.number.now c.in_ok-number.name.now c.in_ok-number.ensures.parts
+    c.in_ok-number.number.now c.in_ok-number.name.now c.in_ok-number.ensures.parts
     (sym c.in_err-c.ensures.number)))
 
 pub returns-then-is_same-2 : goal.returns-then-is_same-2
@@ -52,7 +52,7 @@ pub returns-then-modulus-gt0 : goal.returns-then-modulus-gt0
 returns-then-modulus-gt0 c =
     modulus_read c.args.p.now c.known.ensures c.args.text.now c.in_ok-word.word.now c.in_ok-word.rest.now c.in_ok-c-2.c c.in_ok-word.ensures.parts
     (c.is_same-3.ensures.0 c.if-is_same-3.true) (sym c.in_ok-c-2.ensures.number) c.in_ok-c-2.ensures.inside
-      (omega (arith, c.if-modulus-gt0.true, c.modulus.ensures))
+    (omega (arith, c.if-modulus-gt0.true, c.modulus.ensures))
 
 pub returns : goal.returns
 returns c =

@@ -47,20 +47,20 @@ returns-in_default-line_of c =
     no_line c.args.p.now c.args.text.now c.loop-line.list.items c.loop-line.rest.now c.loop-line.invariant.certificate
     c.loop-line.invariant.text c.in-Some-cut.line.now c.in-Some-cut.others.now c.in-Some-cut.ensures.parts
     (c.len.result + 2) (omega (arith, c.len.ensures)) (λ same. let wrong : false ≡ true = sym c.if-is_same.false ∙ c.is_same-in-Some-cut.ensures.1 same
-      in cc) c.in_default-line_of.ensures
+    in cc) c.in_default-line_of.ensures
 
 pub loop-line-preserved : goal.loop-line-preserved
 loop-line-preserved c =
     let room : length c.loop-line.list.items < 1000000 = omega (arith, c.if-len.false, c.len-in-Some-cut.ensures) in
     record {
       certificate = subst (IsCertificate c.args.p.now) (sym c.in_ok-push.ensures.items)
-        (one_more c.args.p.now c.args.text.now c.loop-line.list.items c.loop-line.rest.now c.loop-line.invariant.certificate
+          (one_more c.args.p.now c.args.text.now c.loop-line.list.items c.loop-line.rest.now c.loop-line.invariant.certificate
           c.loop-line.invariant.text
           c.in-Some-cut.line.now c.in-Some-cut.others.now c.in-Some-cut.ensures.parts c.in-Some-line_of.flat c.in-Some-line_of.ensures room);
       text = subst (λ ls. c.args.text.now ≡ title ++ 10 ∷ (lines_text c.args.p.now.names ls ++ c.in-Some-cut.others.now)) (sym c.in_ok-push.ensures.items)
           (longer c.args.p.now c.args.text.now c.loop-line.list.items c.loop-line.rest.now c.loop-line.invariant.certificate
           c.loop-line.invariant.text c.in-Some-cut.line.now c.in-Some-cut.others.now c.in-Some-cut.ensures.parts c.in-Some-line_of.flat
-            c.in-Some-line_of.ensures room);
+          c.in-Some-line_of.ensures room);
     }
 
 pub returns : goal.returns

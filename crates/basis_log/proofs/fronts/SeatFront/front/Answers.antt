@@ -1,4 +1,4 @@
-use Rattle.std.proofs.Common.{◌≡◌, sym, ◌∙◌}
+use Rattle.std.proofs.Common.{sym, ◌∙◌}
 use Rattle.basis_log.specs.Rows.{row_source}
 use Rattle.basis_log.proofs.Logs.{count_items}
 use Rattle.basis_log.proofs.fronts.SeatFront.front.Goals as goal

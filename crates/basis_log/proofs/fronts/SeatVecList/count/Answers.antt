@@ -1,4 +1,4 @@
-use Rattle.std.proofs.Common.{arith, ◌≡◌, length, None, Some}
+use Rattle.std.proofs.Common.{arith, None, Some}
 use Rattle.std.proofs.lemmas.List.{length-map}
 use Rattle.basis_entry.specs.Entries.{BasisEntry}
 use Rattle.basis_entry.proofs.Vectors.{are_entries}

@@ -1,6 +1,6 @@
-use Rattle.std.proofs.Common.{rules, ◌≡◌, List, ℕ, sym, ap, ◌∙◌, subst}
+use Rattle.std.proofs.Common.{sym, ap, ◌∙◌, subst}
 use mathlib.Core.List.{IsPrefix}
-use Rattle.basis_log.specs.Sights.{Agree, cells_in}
+use Rattle.basis_log.specs.Sights.{cells_in}
 use Rattle.basis_log.proofs.Prefixes.{prefixes_agree}
 use Rattle.basis_log.proofs.places.Places.agree.Goals as goal
 

@@ -1,4 +1,4 @@
-use Rattle.std.proofs.Common.{rules, arith, ◌≡◌, ◌≤◌, ℕ, [], length, ap, ◌∙◌, sym, refl}
+use Rattle.std.proofs.Common.{arith, length, ap, refl}
 use Rattle.std.proofs.lemmas.List.{length-map}
 use Rattle.once_cell.specs.Once.{cell_name}
 use Rattle.basis_log.proofs.places.Places.new.Goals as goal

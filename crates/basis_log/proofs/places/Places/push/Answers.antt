@@ -1,8 +1,7 @@
-use Rattle.std.proofs.Common.{rules, arith, ◌≡◌, ◌≤◌, ℕ, length, List, [], ◌∷◌, ◌++◌, ap, ◌∙◌, sym, subst, Some}
+use Rattle.std.proofs.Common.{arith, ◌≡◌, length, ◌++◌, ap, ◌∙◌, sym, Some}
 use Rattle.std.proofs.lemmas.List.{length-append}
 use Rattle.std.specs.Prelude.{slice_get}
-use mathlib.Core.List.{IsPrefix}
-use Rattle.basis_log.specs.Places.{cells_of, ArePlaced}
+use Rattle.basis_log.specs.Places.{cells_of}
 use Rattle.basis_log.proofs.Standing.{placed_more, cells_more}
 use Rattle.basis_log.proofs.places.Places.push.Goals as goal
 
@@ -25,5 +24,5 @@ returns-clause-longer c =
     let more = ap (λ l. length (cells_of l)) c.push_reserved.ensures.items ∙ ap length (cells_more c.self.inside.segments.items c.args.sight) in
     let full = sym (ap length c.value.ensures) ∙ c.known.ensures in
     let old : length (cells_of c.self.inside.segments.items) ≡ length (cells_of c.args.self.now.segments) =
-          ap (λ p. length (cells_of p.segments)) c.self.view_is in
+    ap (λ p. length (cells_of p.segments)) c.self.view_is in
     omega (arith, more, full, old, length-append (cells_of c.self.inside.segments.items) c.args.sight.value)

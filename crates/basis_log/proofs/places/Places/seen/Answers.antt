@@ -1,4 +1,4 @@
-use Rattle.std.proofs.Common.{rules, arith, ◌≡◌, ◌<◌, ◌/◌, ◌%◌, ℕ, length, ap, ◌∙◌, sym, subst, Some}
+use Rattle.std.proofs.Common.{arith, ◌<◌, ◌%◌, length, ap, ◌∙◌, sym, subst}
 use Rattle.std.specs.Prelude.{slice_get}
 use Rattle.basis_log.specs.Places.{cells_of}
 use Rattle.basis_log.proofs.Standing.{in_segments, read_cell}
@@ -7,7 +7,7 @@ use Rattle.basis_log.proofs.places.Places.seen.Goals as goal
 pub index-requires : goal.index-requires
 index-requires c =
     let below : c.args.at < length (cells_of c.self.inside.segments.items) =
-          subst (λ l. c.args.at < length (cells_of l)) (sym (ap (λ p. p.segments) c.self.view_is)) c.requires in
+    subst (λ l. c.args.at < length (cells_of l)) (sym (ap (λ p. p.segments) c.self.view_is)) c.requires in
     omega (arith, in_segments c.self.inside.segments.items c.args.at c.self.invariant.0.full below, c.self.inside.segments.ok)
 
 pub returns : goal.returns

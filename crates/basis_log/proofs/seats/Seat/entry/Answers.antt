@@ -1,4 +1,4 @@
-use Rattle.std.proofs.Common.{rules, arith, ◌≡◌, ◌<◌, ◌≤◌, ◌-◌, ◌+◌, ℕ, List, ◌++◌, length, map, Some, ap, sym, subst, refl, ◌∙◌}
+use Rattle.std.proofs.Common.{rules, arith, ◌≡◌, ◌<◌, ◌≤◌, ◌-◌, ◌+◌, List, ◌++◌, length, Some, ap, sym, subst, refl, ◌∙◌}
 use Rattle.std.proofs.lemmas.List.{length-map, length-append}
 use Rattle.std.proofs.lemmas.Option.{slice_get-map, slice_get_within, slice_get_read}
 use Rattle.std.specs.Arc.{arc_value}
@@ -53,5 +53,5 @@ returns-in-None c =
     let there = read_rest base (entries_of xs) (c.args.at - length c.base-base.result.now) c.args.at (omega (arith, n, past)) in
     let here : slice_get (entries_of xs) (c.args.at - length c.base-base.result.now) ≡ Some (arc_value c.entry_in.result.now) =
     subst (λ ss. slice_get (entries_of (shown_in ss)) (c.args.at - length c.base-base.result.now)
-      ≡ Some (arc_value c.entry_in.result.now)) c.as_slice.ensures.value c.entry_in.ensures in
+    ≡ Some (arc_value c.entry_in.result.now)) c.as_slice.ensures.value c.entry_in.ensures in
     ap (λ (es : List BasisEntry). slice_get es c.args.at) whole ∙ (there ∙ here)

@@ -1,5 +1,5 @@
-use Rattle.std.proofs.Common.{rules, ◌≡◌, ap, sym, subst, ◌∙◌}
-use Rattle.basis_log.specs.Items.{AreItems, entries_of}
+use Rattle.std.proofs.Common.{subst}
+use Rattle.basis_log.specs.Items.{AreItems}
 use Rattle.basis_log.specs.Rows.{row_source}
 use Rattle.basis_log.specs.Seats.{Seen, shown_in}
 use Rattle.basis_log.proofs.Logs.{items_after, entries_are, entries_of_row}

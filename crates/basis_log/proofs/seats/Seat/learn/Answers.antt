@@ -1,9 +1,7 @@
-use Rattle.std.proofs.Common.{rules, ◌≡◌, ◌≤◌, ◌⊎◌, ap, sym, subst, ◌∙◌}
-use Rattle.std.specs.Vec.{vec_capacity}
+use Rattle.std.proofs.Common.{◌≡◌, ◌⊎◌, ap, sym, ◌∙◌}
 use mathlib.Core.List.{IsPrefix}
 use Rattle.basis_log.specs.Places.{cells_of}
-use Rattle.basis_log.specs.Seats.{Seen, shown_in, items_of}
-use Rattle.basis_log.specs.Sights.{Agree, cells_in}
+use Rattle.basis_log.specs.Sights.{cells_in}
 use Rattle.basis_log.proofs.Prefixes.{prefix_trans, prefixes_agree}
 use Rattle.basis_log.proofs.Standing.{more_cells}
 use Rattle.basis_log.proofs.Sitting.{seat_learnt, items_grow}
@@ -26,9 +24,9 @@ invariant_of-self c =
     let theirs = c.other.inside in
     let rows = ap (λ s. s.row) c.other.view_is ∙ (c.requires ∙ sym (ap (λ s. s.row) c.self.view_is)) in
     let one : (c.learn-2.new.sights.items ≡ mine.seen.items) ⊎ (c.learn-2.new.sights.items ≡ theirs.seen.items) =
-          rw (← c.as_mut_slice.ensures.value) c.learn-2.ensures.one in (
+    rw (← c.as_mut_slice.ensures.value) c.learn-2.ensures.one in (
       seat_learnt mine.places theirs.places c.learn.new.self mine.seen.items theirs.seen.items c.learn-2.new.sights.items c.self.invariant.0
-        c.other.invariant.0 rows
+          c.other.invariant.0 rows
           c.learn.ensures.row c.learn.ensures.grows c.learn.ensures.told one,
       rw (c.learn.ensures.row, c.learn-2.ensures.capacity) c.self.invariant.1,
     )

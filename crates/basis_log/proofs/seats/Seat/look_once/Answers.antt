@@ -1,9 +1,9 @@
-use Rattle.std.proofs.Common.{rules, arith, ◌≡◌, ◌<◌, ◌≤◌, ℕ, length, false, Some, None, ap, sym, subst, ◌∙◌}
+use Rattle.std.proofs.Common.{rules, arith, ◌≡◌, ◌<◌, length, false, Some, None, ap, sym, subst, ◌∙◌}
 use Rattle.std.specs.Prelude.{slice_get, is_some}
 use Rattle.basis_log.specs.Items.{seal_of, AreItems}
 use Rattle.basis_log.specs.Places.{cells_of}
 use Rattle.basis_log.specs.Rows.{row_source}
-use Rattle.basis_log.specs.Seats.{shown_in, items_of}
+use Rattle.basis_log.specs.Seats.{shown_in}
 use Rattle.basis_log.proofs.Logs.{seal_after}
 use Rattle.basis_log.proofs.Sitting.{as_none, seat_admitted, items_admitted}
 use Rattle.basis_log.proofs.seats.Seat.look_once.Goals as goal
@@ -27,7 +27,7 @@ invariant_of-self-2 c =
     let items : AreItems (row_source new.row) (shown_in c.admit.new.seen.items) =
     subst (λ r. AreItems (row_source r) (shown_in c.admit.new.seen.items)) c.row-2.ensures c.admit.ensures.items in (
       seat_admitted places new ss c.admit.new.seen.items c.in-Some-read.sight c.admit.result c.self.invariant.0 c.cell.ensures.row
-        c.cell.ensures.grows at lt items
+          c.cell.ensures.grows at lt items
           c.admit.ensures.is,
       rw (c.cell.ensures.row, c.admit.ensures.capacity) c.self.invariant.1,
     )
@@ -36,5 +36,5 @@ pub returns-clause-items : goal.returns-clause-items
 returns-clause-items c =
     let places = c.self.inside.places in
     items_admitted places.row.base c.cell.new.self.row.base c.args.self.now.items c.self.inside.seen.items c.admit.new.seen.items c.in-Some-read.sight
-      c.admit.result
+    c.admit.result
     c.is_none.result (ap (λ r. r.base) c.cell.ensures.row) (ap (λ s. s.items) c.self.view_is) c.is_none.ensures c.admit.ensures.is

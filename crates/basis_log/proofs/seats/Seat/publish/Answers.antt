@@ -1,9 +1,9 @@
-use Rattle.std.proofs.Common.{rules, arith, ◌≡◌, ◌<◌, ◌≤◌, ◌++◌, ◌∷◌, [], ℕ, length, false, Some, None, ap, sym, subst, ◌∙◌}
+use Rattle.std.proofs.Common.{rules, arith, ◌≡◌, ◌<◌, ◌++◌, ◌∷◌, [], length, false, Some, ap, sym, subst, ◌∙◌}
 use Rattle.std.specs.Prelude.{slice_get, is_some}
 use Rattle.basis_log.specs.Items.{shown, seal_of, AreItems}
 use Rattle.basis_log.specs.Places.{cells_of}
 use Rattle.basis_log.specs.Rows.{row_source}
-use Rattle.basis_log.specs.Seats.{shown_in, items_of}
+use Rattle.basis_log.specs.Seats.{shown_in}
 use Rattle.basis_log.proofs.Logs.{seal_after}
 use Rattle.basis_log.proofs.Sitting.{as_none, seat_admitted, items_one_more}
 use Rattle.basis_log.proofs.seats.Seat.publish.Goals as goal
@@ -25,7 +25,7 @@ invariant_of-self-in-Some-back c =
     let items : AreItems (row_source new.row) (shown_in c.admit.new.seen.items) =
     subst (λ r. AreItems (row_source r) (shown_in c.admit.new.seen.items)) c.row-2.ensures c.admit.ensures.items in (
       seat_admitted places new ss c.admit.new.seen.items c.set-sight.result.0 c.admit.result c.self.invariant.0 c.cell_or_set.ensures.row
-        c.cell_or_set.ensures.grows at
+          c.cell_or_set.ensures.grows at
           lt items c.admit.ensures.is,
       rw (c.cell_or_set.ensures.row, c.admit.ensures.capacity) c.self.invariant.1,
     )
@@ -43,7 +43,7 @@ invariant_of-self-2 c =
     let items : AreItems (row_source new.row) (shown_in c.admit.new.seen.items) =
     subst (λ r. AreItems (row_source r) (shown_in c.admit.new.seen.items)) c.row-2.ensures c.admit.ensures.items in (
       seat_admitted places new ss c.admit.new.seen.items c.set-sight.result.0 c.admit.result c.self.invariant.0 c.cell_or_set.ensures.row
-        c.cell_or_set.ensures.grows at
+          c.cell_or_set.ensures.grows at
           lt items c.admit.ensures.is,
       rw (c.cell_or_set.ensures.row, c.admit.ensures.capacity) c.self.invariant.1,
     )

@@ -1,4 +1,4 @@
-use Rattle.std.proofs.Common.{rules, ◌≡◌, ap, sym, subst, ◌∙◌, Some, None, MatchOption, Option}
+use Rattle.std.proofs.Common.{◌≡◌, ap, sym, subst, ◌∙◌, Some, None, MatchOption, Option}
 use Rattle.basis_entry.specs.Seals.{Seal}
 use Rattle.basis_log.specs.Items.{seal_of, AreSomeItems}
 use Rattle.basis_log.specs.Rows.{row_source}

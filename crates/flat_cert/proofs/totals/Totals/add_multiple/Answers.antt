@@ -65,12 +65,12 @@ returns-in_err-add c =
     c.in_err-add.ensures in
     let one : Adds c.loop-term.self ((c.in-Some-checked_product.product, place) ∷ []) c.add.new.self (Err c.in_err-add.field-0.0) =
     subst (λ q. Adds c.loop-term.self ((q, place) ∷ []) c.add.new.self (Err c.in_err-add.field-0.0))
-      (to_z-of_z w128 c.in-Some-checked_product.product z) added in
+    (to_z-of_z w128 c.in-Some-checked_product.product z) added in
     let parts = terms_split c.args.k c.args.t.now c.term-item.result (drop c.loop-term.term-index c.args.g.now) rest
-          c.in-Some-checked_product.product c.in-Some.m
+    c.in-Some-checked_product.product c.in-Some.m
     split is.0 c.in-Some.ensures.made.1 in
     let fails = adds_fails c.loop-term.self c.add.new.self c.add.new.self ((c.in-Some-checked_product.product, place) ∷ [])
-          (terms_of c.args.k c.args.t.now rest)
+    (terms_of c.args.k c.args.t.now rest)
     c.in_err-add.field-0.0 one in
     subst (λ r. Adds c.args.self.now (terms_of c.args.k c.args.t.now c.args.g.now) c.add.new.self r) (ap Err (sym p.2) ∙ sym p.1)
     (invariant c.add.new.self (Err c.in_err-add.field-0.0) (subst (λ v. Adds c.loop-term.self v c.add.new.self (Err c.in_err-add.field-0.0)) (sym parts) fails))
@@ -88,7 +88,7 @@ loop-term-preserved c =
     drop_read c.args.g.now c.loop-term.term-index c.term-item.result c.loop-term-test.true c.term-item.is in
     let place : Place = record { m = c.in-Some.m; c = c.term-item.result.at.c } in
     let parts = terms_split c.args.k c.args.t.now c.term-item.result (drop c.loop-term.term-index c.args.g.now) rest
-          c.in-Some-checked_product.product c.in-Some.m
+    c.in-Some-checked_product.product c.in-Some.m
     split is.0 c.in-Some.ensures.made.1 in
     simp to_z-of_z (λ new r h. invariant new r (subst (λ v. Adds c.loop-term.self v new r) (sym parts)
     (adds_on c.loop-term.self c.add.new.self new ((c.in-Some-checked_product.product, place) ∷ []) (terms_of c.args.k c.args.t.now rest) r one h)))
