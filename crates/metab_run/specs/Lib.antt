@@ -1,15 +1,3 @@
-pub mod Answers
-pub mod Parsing
 pub mod Words
-pub mod Files
-pub mod Ends
-pub mod Steps
-pub mod FoxAnswers
-pub mod CheckAnswers
+pub mod Owed
 pub mod Top
-pub mod Legal
-pub mod Gathering
-pub mod SessionFiles
-pub mod SoloAnswers
-pub mod GenAnswers
-pub mod TrueAnswers

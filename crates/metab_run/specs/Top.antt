@@ -1,51 +1,31 @@
--- What is due to the words of the command line and the texts under names.
-use Rattle.std.specs.Prelude.{◌≡◌, ℕ, List, Option, Some, None}
-use Rattle.report_text.specs.Reports.{reported}
-use Rattle.metab_run.specs.declared.status.Status.TheVariants.{Done, ReadFault}
+-- What is found for the words of the command line, and how a run ends.
+use Rattle.std.specs.Prelude.{◌≡◌, ℕ, List, Option}
+use Rattle.report_text.specs.Histories.{History}
+use Rattle.report_text.specs.Reports.{Reported, IsReportable, IsHistoryOf, reported, text_of}
+use Rattle.command_floor.specs.declared.status.Status.{Status}
+use Rattle.command_floor.specs.declared.status.Status.TheVariants.{Done, ReadFault}
+use Rattle.command_floor.specs.Ends.{Ends}
+use Rattle.solve_commands.specs.Runs.{ShowsSettled}
 use Rattle.metab_run.specs.declared.top.Found.{Found}
 use Rattle.metab_run.specs.declared.top.Found.TheVariants.{Says, Reports}
-use Rattle.metab_run.specs.Answers.{Answer, refused_words}
-use Rattle.metab_run.specs.Words.{SoloAsked, Asked, Steps, Fox, Check, Solo, Gen, command}
-use Rattle.metab_run.specs.Steps.{StepsLead, AskedTrivial}
-use Rattle.metab_run.specs.FoxAnswers.{FoxLeads}
-use Rattle.metab_run.specs.CheckAnswers.{CheckLeads, AskedTrue}
-use Rattle.metab_run.specs.SoloAnswers.{SoloLeads, IsReady}
-use Rattle.metab_run.specs.GenAnswers.{GenLeads}
+use Rattle.metab_run.specs.Owed.{Owed}
 
--- the answer that is due to a command, or to words that ask for none
-abbrev pub CommandLeads : Type 0 → (List ℕ → Option (List ℕ)) → Option Asked → Answer → Type 0
-CommandLeads counted under None a = a ≡ refused_words
-CommandLeads counted under (Some (Steps q)) a = StepsLead counted under q a
-CommandLeads counted under (Some (Fox q)) a = FoxLeads counted under q a
-CommandLeads counted under (Some (Check q)) a = CheckLeads counted under q a
-CommandLeads counted under (Some (Solo q)) a = SoloLeads counted under q a
-CommandLeads counted under (Some (Gen seed)) a = GenLeads seed a
+-- The report is due: it can be written, and has a history whose text is due as an answer, done exactly where the report
+-- is settled
+pub record IsDueReport (o : Owed) (r : Reported) : Type 0 where
+  pub reports : o.reports
+  pub promises : o.promises
+  pub reportable : IsReportable r
+  pub history : History
+  pub told : IsHistoryOf r history
+  pub leads : (status : Status) → ShowsSettled r status → o.leads (record { status = status; text = text_of r history })
 
--- the command answers with a report
-abbrev pub AsksReport : Option Asked → Type 0
-AsksReport None = ⊥
-AsksReport (Some (Steps q)) = ⊥
-AsksReport (Some (Fox q)) = ⊥
-AsksReport (Some (Check q)) = ⊥
-AsksReport (Some (Solo q)) = Unit {0}
-AsksReport (Some (Gen seed)) = ⊥
+-- What is found is what is owed: an answer that is due, or a report. `counted` says that the shelf has counted a
+-- failure
+abbrev pub FindsOwed : Owed → Type 0 → Found → Type 0
+FindsOwed o counted (Says a) = o.leads a × (a.status ≡ Done → o.promises) × (a.status ≡ ReadFault → counted)
+FindsOwed o counted (Reports r) = IsDueReport o (reported r)
 
--- the answer that is due to these words over these texts; `counted` says that the shelf has counted a failure
-abbrev pub IsDue : Type 0 → (List ℕ → Option (List ℕ)) → List (List ℕ) → Answer → Type 0
-IsDue counted under words a = CommandLeads counted under (command words) a
-
--- the words ask for a command; if it is `steps`, the word is trivial over the presentation that the file spells, and if
--- it is `check`, what the report says is true
-abbrev pub ShownTrivial : (List ℕ → Option (List ℕ)) → Option Asked → Type 0
-ShownTrivial under None = ⊥
-ShownTrivial under (Some (Steps q)) = AskedTrivial under q
-ShownTrivial under (Some (Fox q)) = Unit {0}
-ShownTrivial under (Some (Check q)) = AskedTrue under q
-ShownTrivial under (Some (Solo q)) = Unit {0}
-ShownTrivial under (Some (Gen seed)) = Unit {0}
-
--- what is found for these words: the answer that is due, or a report
-abbrev pub Finds : Type 0 → (List ℕ → Option (List ℕ)) → List (List ℕ) → Found → Type 0
-Finds counted under words (Says a) = IsDue counted under words a
-    × (a.status ≡ Done → ShownTrivial under (command words)) × (a.status ≡ ReadFault → counted)
-Finds counted under words (Reports r) = (q : SoloAsked) × (command words ≡ Some (Solo q)) × IsReady under q (reported r)
+-- a run that owes this ends so
+abbrev pub EndsOwed : Owed → Type 0 → Option (List ℕ) → Option (List ℕ) → Status → Type 0
+EndsOwed o failed old new status = Ends o.reports o.leads failed old new status

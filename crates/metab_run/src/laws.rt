@@ -1,29 +1,16 @@
-//! Laws of legal reports, however they came about, as functions that do nothing.
+//! Laws of the program's answers, as functions that do nothing.
 
-ghost use Rattle.std.specs.List.{AllByRecursion};
 ghost use Rattle.std.specs.Prelude.{List, ◌+◌, ◌<◌, ◌^◌};
-ghost use Rattle.presentation.specs.Presented.{Presented, IsPresented};
+ghost use Rattle.presentation.specs.Presented.{Presented};
 ghost use Rattle.session_text.specs.declared.question.Question.{Question};
-ghost use Rattle.session_text.specs.Questions.{HasSource};
 ghost use Rattle.pair_book.specs.declared.limits.Limits.{Limits};
 ghost use Rattle.report_text.specs.Histories.{History};
 ghost use Rattle.report_text.specs.Reports.{Reported, IsHistoryOf, text_of};
 ghost use Rattle.report_acceptance.specs.Accepting.{IsKnown, told_amount};
-ghost use Rattle.metab_run.specs.CheckAnswers.{holds, ReportLeads};
-ghost use Rattle.metab_run.specs.Legal.{IsLegal};
-ghost use Rattle.metab_run.specs.TrueAnswers.{IsAfterSeal, AreTrueAnswers};
+ghost use Rattle.check_commands.specs.Check.{holds, ReportLeads};
+ghost use Rattle.legal_report.specs.Legal.{IsLegal};
 
-use report_acceptance::laws::written_reports_hold;
-
-/// What a legal report answers is true: a word is `trivial` only where moves carry it to the empty word, and a map
-/// `extends` only where it does. Where the items of a reply end with the seal, these two are answered wherever they
-/// hold, a limit that is named aside, what is said otherwise is true too, and nothing is `unknown` (Magnus 1939,
-/// Lichtblau 2012).
-pub fn answers_of_legal_reports_are_true()
-    ensures { (p : Presented) (limits : Limits) (questions : List (List Question)) (r : Reported) (h : History)
-        → IsPresented p → AllByRecursion (AllByRecursion HasSource) questions →
-        IsLegal p limits questions r → IsHistoryOf r h → AreTrueAnswers p (IsAfterSeal r) h }
-{}
+pub use legal_report::laws::answers_of_legal_reports_are_true;
 
 /// `check` answers of the text of a legal report that it holds, with the numbers of its entries and proofs.
 pub fn texts_of_legal_reports_hold()
@@ -31,5 +18,5 @@ pub fn texts_of_legal_reports_hold()
         → IsKnown r → limits.entries + 1 < 2 ^ 32 →
         IsLegal p limits questions r → IsHistoryOf r h → ReportLeads p (text_of r h) (holds (told_amount r h)) }
 {
-    written_reports_hold();
+    legal_report::laws::texts_of_legal_reports_hold();
 }

@@ -1,23 +1,16 @@
 //! The top call: from the words of the command line and the texts under names to a status.
 
-ghost use Rattle.std.specs.Prelude.{◌≡◌, ℕ, ◌≤◌, List, IfOk, map, string_bytes};
+ghost use Rattle.std.specs.Prelude.{◌≡◌, ◌≤◌, IfOk, map, string_bytes};
 ghost use Rattle.mb_io.specs.Shelf.{CountRose};
-ghost use Rattle.metab_run.specs.Words.{command};
-ghost use Rattle.metab_run.specs.Ends.{Ends};
-ghost use Rattle.metab_run.specs.Top.{IsDue, ShownTrivial, AsksReport, Finds};
+ghost use Rattle.metab_run.specs.Owed.{owed_to};
+ghost use Rattle.metab_run.specs.Top.{FindsOwed, EndsOwed};
 
-use crate::answer::{Answer, Halt};
-use crate::checking::check;
-use crate::delivery::deliver_report;
-use crate::fox::fox;
-use crate::generating::generate;
-use crate::solo::solo;
-use crate::status::Status;
-use crate::steps::steps;
-use crate::words::{Command, read_command};
-use crate::writing::deliver;
+use crate::words::{Asks, read_words};
+use check_commands::{check, fox, steps};
+use command_floor::{Answer, Halt, Status, deliver};
 use mb_io::{Shelf, Sink};
 use report_text::Report;
+use solve_commands::{deliver_report, generate, solo};
 use std::alloc::{AllocError, Global};
 
 /// What a command comes to: an answer, or a report.
@@ -27,24 +20,26 @@ enum Found {
     Reports(Report),
 }
 
-// What is found for these words.
+/// What is found for these words.
+#[tactic(auto, using(crate::proofs::ReportEnds::solo_due))]
 fn find<S: Shelf>(alloc: Global, words: &[String], shelf: &mut S) -> Result<Found, AllocError>
-    ensures finds { IfOk result (Finds (CountRose (S.faults shelf.old) (S.faults shelf.new)) (S.under shelf.old)
-        (map string_bytes words.now)) }
+    ensures finds { IfOk result (FindsOwed (owed_to (CountRose (S.faults shelf.old) (S.faults shelf.new))
+        (S.under shelf.old) (map string_bytes words.now)) (CountRose (S.faults shelf.old) (S.faults shelf.new))) }
     ensures later { S.faults shelf.old ≤ S.faults shelf.new }
 {
-    let Some(asked) = read_command(alloc, words)? else {
+    let Some(asks) = read_words(alloc, words)? else {
         return Ok(Found::Says(Answer::refused_words(alloc)?));
     };
-    let answered = match asked {
-        Command::Steps(words) => steps(alloc, shelf, &words),
-        Command::Fox(words) => fox(alloc, shelf, &words),
-        Command::Check(words) => check(alloc, shelf, &words),
-        Command::Solo(words) => match solo(alloc, shelf, &words) {
+    let answered = match asks {
+        Asks::Steps(words) => steps::answer(alloc, shelf, &words),
+        Asks::Fox(words) => fox::answer(alloc, shelf, &words),
+        Asks::Check(words) => check::answer(alloc, shelf, &words),
+        Asks::Solo(words) => match solo::report(alloc, shelf, &words) {
             Ok(report) => return Ok(Found::Reports(report)),
-            Err(halt) => Err(halt),
+            Err(Halt::Says(answer)) => return Ok(Found::Says(answer)),
+            Err(Halt::NoMemory) => return Err(AllocError),
         },
-        Command::Gen(seed) => generate(alloc, seed),
+        Asks::Gen(seed) => generate::answer(alloc, seed),
     };
     match answered {
         Ok(answer) => Ok(Found::Says(answer)),
@@ -63,7 +58,7 @@ fn find<S: Shelf>(alloc: Global, words: &[String], shelf: &mut S) -> Result<Foun
 /// answered by all items of the log. A word is called trivial only where moves carry it to the empty word, and a map is
 /// said to extend only where it does. Where the log is sealed, both are said wherever they hold, a limit that is named
 /// aside, and nothing is unknown (Magnus 1939, Lichtblau 2012).
-#[tactic(auto, using(crate::proofs::ReportEnds::report_ends, crate::proofs::ReportEnds::report_shown, crate::proofs::ReportEnds::never_read, crate::proofs::ReportEnds::write_failed))]
+#[tactic(auto, using(command_floor::proofs::Ending::ends_delivered, crate::proofs::ReportEnds::report_ends, crate::proofs::ReportEnds::report_unread, crate::proofs::ReportEnds::report_failed))]
 pub fn metab_alone<S: Shelf, K: Sink>(
     alloc: Global,
     words: &[String],
@@ -72,13 +67,15 @@ pub fn metab_alone<S: Shelf, K: Sink>(
 ) -> Status
     // The answer that is due was written whole, with its status; or the sink failed and took a front of it; or memory
     // ran out, and nothing was written, or a front of a report. To `solo` the text of a legal report is due, whose
-    // answers are true, and exact where the log is sealed, and which `check` accepts.
-    ensures ends { Ends (AsksReport (command (map string_bytes words.now)))
-        (IsDue (CountRose (S.faults shelf.old) (S.faults shelf.new)) (S.under shelf.old) (map string_bytes words.now))
-        (CountRose (K.faults out.old) (K.faults out.new)) (K.taken out.old) (K.taken out.new) result }
+    // answers are true, and exact where the log is sealed, and of which the checker finds that all lines hold.
+    ensures ends { EndsOwed (owed_to (CountRose (S.faults shelf.old) (S.faults shelf.new)) (S.under shelf.old)
+        (map string_bytes words.now)) (CountRose (K.faults out.old) (K.faults out.new)) (K.taken out.old)
+        (K.taken out.new) result }
 
-    // `steps` says yes only to a word that moves carry to the empty word, and `check` only to a report that is true.
-    ensures trivial { result ≡ Status.Done → ShownTrivial (S.under shelf.old) (command (map string_bytes words.now)) }
+    // A yes keeps what it promises: `steps` says yes only to a word that moves carry to the empty word, and `check`
+    // only to a report that is true.
+    ensures keeps { result ≡ Status.Done → (owed_to (CountRose (S.faults shelf.old) (S.faults shelf.new))
+        (S.under shelf.old) (map string_bytes words.now)).promises }
 
     // A read fault is answered only where the shelf has counted one, and a write fault where the sink has.
     ensures read_fault { result ≡ Status.ReadFault → CountRose (S.faults shelf.old) (S.faults shelf.new) }

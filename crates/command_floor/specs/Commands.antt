@@ -1,0 +1,37 @@
+-- The table of commands.
+use Rattle.std.specs.Prelude.{ℕ, List, [], ◌∷◌, Option, None, option_map, codes, if◌then◌else◌}
+use Rattle.std.specs.Str.{bytes_eq}
+use Rattle.command_floor.specs.declared.settings.Setting.{Setting}
+use Rattle.command_floor.specs.declared.settings.Setting.TheVariants.{Entries, Budget}
+use Rattle.command_floor.specs.declared.commands.Command.{Command}
+use Rattle.command_floor.specs.declared.commands.Command.TheVariants.{Steps, Fox, Check, Solo, Gen}
+use Rattle.command_floor.specs.declared.commands.Asked.{Asked}
+use Rattle.command_floor.specs.Parsing.{GivenWords, given_by, shown_given}
+
+-- a command with what is given behind its name
+pub record AskedWords : Type 0 where
+  pub command : Command
+  pub given : GivenWords
+
+-- a row of the table: the command that has this name and these options, with what is given
+abbrev pub asks : Command → List ℕ → List Setting → List (List ℕ) → Option AskedWords
+asks c name options ws = option_map (λ g. record { command = c; given = g }) (given_by name options ws)
+
+-- the command of this name, where the words after it are of its form
+abbrev pub asked_of : List ℕ → List (List ℕ) → Option AskedWords
+asked_of name ws =
+    if bytes_eq name (codes "steps") then asks Steps (codes "steps") [] ws
+    else if bytes_eq name (codes "fox") then asks Fox (codes "fox") [] ws
+    else if bytes_eq name (codes "check") then asks Check (codes "check") [] ws
+    else if bytes_eq name (codes "solo") then asks Solo (codes "solo") (Entries ∷ Budget ∷ []) ws
+    else if bytes_eq name (codes "gen") then asks Gen (codes "gen") [] ws
+    else None
+
+-- what the words of the command line ask for: the first word is a command's name
+abbrev pub asked : List (List ℕ) → Option AskedWords
+asked [] = None
+asked (name ∷ ws) = asked_of name ws
+
+-- what the code holds of it
+abbrev pub shown_asked : Asked → AskedWords
+shown_asked a = record { command = a.command; given = shown_given a.given }

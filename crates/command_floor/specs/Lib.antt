@@ -1,0 +1,7 @@
+pub mod Answers
+pub mod Ends
+pub mod Files
+pub mod Numbers
+pub mod Settings
+pub mod Parsing
+pub mod Commands

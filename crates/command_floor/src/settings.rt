@@ -1,0 +1,62 @@
+//! The options of the commands. Each has a number as its value: a new option is a row in each table here.
+
+ghost use Rattle.std.specs.Prelude.{◌≡◌, ◌<◌, ◌^◌};
+ghost use Rattle.command_floor.specs.Settings.{option_name, least_of, most_of};
+
+/// The least limit on entries: the generators of every presentation fit.
+pub const LEAST_ENTRIES: u32 = 2_200;
+
+/// The greatest limit on entries.
+pub const MOST_ENTRIES: u32 = 4_096;
+
+/// The greatest budget.
+pub const MOST_BUDGET: u32 = 999_999_999;
+
+/// An option of a command.
+#[derive(Clone, Copy)]
+pub enum Setting {
+    /// The limit on the entries of a log.
+    Entries,
+    /// How many tasks a completion may work.
+    Budget,
+}
+
+impl Setting {
+    /// The option's name, as it stands behind `--`.
+    pub fn name(self) -> &'static str
+        ensures { result.now ≡ option_name self }
+    {
+        match self {
+            Setting::Entries => "entries",
+            Setting::Budget => "budget",
+        }
+    }
+
+    /// The least number that it may have.
+    pub fn least(self) -> u32
+        ensures { result ≡ least_of self }
+    {
+        match self {
+            Setting::Entries => LEAST_ENTRIES,
+            Setting::Budget => 0,
+        }
+    }
+
+    /// The greatest number that it may have.
+    pub fn most(self) -> u32
+        ensures is { result ≡ most_of self }
+        ensures few { result < 2 ^ 31 }
+    {
+        match self {
+            Setting::Entries => MOST_ENTRIES,
+            Setting::Budget => MOST_BUDGET,
+        }
+    }
+}
+
+/// The numbers of the options that are given.
+#[derive(Clone, Copy)]
+pub struct Settings {
+    pub entries: Option<u32>,
+    pub budget: Option<u32>,
+}

@@ -1,0 +1,4 @@
+pub mod Legal
+pub mod Gathering
+pub mod TrueAnswers
+pub mod Solutions

@@ -1,0 +1,220 @@
+//! `gather`: the end of a run.
+
+ghost use Rattle.std.specs.List.{AllByRecursion};
+ghost use Rattle.std.specs.Prelude.{◌≡◌, ◌+◌, ◌≤◌, ◌++◌, ℕ, List, length, map, slice_get, Some, None, option_map, IfOk};
+ghost use Rattle.std.specs.Prelude.{OnOk};
+ghost use Rattle.std.specs.Arc.{arc_value};
+ghost use Rattle.reducer_index.specs.Leads.{AreLeads};
+ghost use Rattle.module_vec.specs.Reducers.{AreEntries};
+ghost use Rattle.basis_entry.specs.Entries.{BasisEntry, AreOf, vectors_of};
+ghost use Rattle.basis_entry.specs.Seals.{item_count};
+ghost use Rattle.session_core.specs.Questions.{CanBeAsked};
+ghost use Rattle.session_core.specs.Sessions.{SessionState, last_front};
+ghost use Rattle.completion_solo.specs.Finishing.{NoneTaken};
+ghost use Rattle.pair_book.specs.Books.{IsBook};
+ghost use Rattle.report_text.specs.Reports.{reported};
+ghost use Rattle.legal_report.specs.Legal.{IsLegal, seal_at};
+ghost use Rattle.legal_report.specs.Gathering.{questions_of, AreAskers, CanGoOn, IsAnsweredOn, AreAnsweredOn};
+ghost use Rattle.legal_report.specs.Gathering.{IsCompleted};
+
+use basis_entry::{Entry, Front, Sealed};
+use completion_solo::finish;
+use module_vec::VecList;
+use outcomes::End;
+use pair_book::{Book, Limits, SealFault};
+use presentation::Presentation;
+use reducer_index::{Index, Indexed};
+use report_text::Report;
+use session_core::Session;
+use std::alloc::{AllocError, Global};
+use std::sync::Arc;
+use strong_pairs::lead;
+
+/// Completes the log of the book, unless it is sealed already.
+fn complete(alloc: Global, p: &Arc<Presentation>, book: &mut Book) -> Result<End, AllocError>
+    requires source { book.old.source ≡ arc_value p.now }
+    requires none_taken { NoneTaken book.old }
+    ensures { IfOk result (λ end. IsCompleted (arc_value p.now) book.old end book.new) }
+{
+    // The proof needs what holds of the book, and the call says so.
+    let _ = book.commits();
+    match book.sealed() {
+        Some(seal) => {
+            // The same of the seal.
+            let _ = seal.entries();
+            Ok(End::Sealed)
+        }
+        None => finish(alloc, p, book),
+    }
+}
+
+/// The index of the leads of a log.
+#[tactic(auto, using(crate::proofs::Indexing::one_more))]
+fn leads(alloc: Global, book: &Book) -> Result<Index, AllocError>
+    ensures { IfOk result (λ index. AreLeads (vectors_of book.now.entries) index) }
+{
+    let mut index = Index::new(alloc);
+    for at in 0..book.count() {
+        index.push(lead(book, at))?;
+    }
+    Ok(index)
+}
+
+/// Asks each question of the session that has no reply yet by all items of the list.
+fn answer_session<F: Front>(
+    alloc: Global,
+    p: &Presentation,
+    list: &F,
+    session: &mut Session,
+) -> Result<(), AllocError>
+    requires entries { AreOf p.now (F.entries list.now) }
+    requires questions { AllByRecursion (CanBeAsked p.now) session.old.questions }
+    requires front { last_front session.old ≤ item_count (F.entries list.now) (F.seal list.now) }
+    ensures { OnOk result (IsAnsweredOn p.now (F.entries list.now) (F.seal list.now) session.old session.new) }
+{
+    while session.next().is_some() {
+        let _ = session.ask(alloc, p, list)?;
+    }
+    // The proof needs what holds of the session, and the call says so.
+    let _ = session.count();
+    Ok(())
+}
+
+/// Asks each question of the sessions that has no reply yet by all items of the list, in order of sessions and
+/// questions.
+#[tactic(auto, using(crate::proofs::Answering::none_answered, crate::proofs::Answering::one_answered, crate::proofs::Answering::all_answered, crate::proofs::Answering::next_goes_on))]
+fn answer<F: Front>(
+    alloc: Global,
+    p: &Presentation,
+    list: &F,
+    sessions: &mut [Session],
+) -> Result<(), AllocError>
+    requires entries { AreOf p.now (F.entries list.now) }
+    requires sessions { (i : ℕ) (s : SessionState) → slice_get sessions.old i ≡ Some s
+        → CanGoOn p.now (F.entries list.now) (F.seal list.now) s }
+    ensures { OnOk result (AreAnsweredOn p.now (F.entries list.now) (F.seal list.now) sessions.old sessions.new) }
+{
+    for at in 0..sessions.len() {
+        answer_session(alloc, p, list, &mut sessions[at])?;
+    }
+    Ok(())
+}
+
+/// The sessions with each question that had no reply yet answered by all items of the list.
+fn answered<F: Front>(
+    alloc: Global,
+    p: &Presentation,
+    list: &F,
+    sessions: Vec<Session>,
+) -> Result<Vec<Session>, AllocError>
+    requires entries { AreOf p.now (F.entries list.now) }
+    requires sessions { (i : ℕ) (s : SessionState) → slice_get sessions.items i ≡ Some s
+        → CanGoOn p.now (F.entries list.now) (F.seal list.now) s }
+    ensures { IfOk result (λ news. AreAnsweredOn p.now (F.entries list.now) (F.seal list.now)
+        sessions.items news.items) }
+{
+    let mut sessions = sessions;
+    answer(alloc, p, list, &mut sessions)?;
+    Ok(sessions)
+}
+
+/// The same entries.
+#[tactic(auto, using(basis_entry::proofs::Growing::map_more))]
+fn shared(alloc: Global, entries: &[Arc<Entry>]) -> Result<Vec<Arc<Entry>>, AllocError>
+    ensures { IfOk result (λ same. map arc_value same.items ≡ map arc_value entries.now) }
+{
+    let mut same = Vec::with_capacity(alloc, entries.len())?;
+    for entry in entries {
+        same.push(Arc::try_clone(entry)?)?;
+    }
+    Ok(same)
+}
+
+/// The seal of a book whose completion has ended so.
+fn seal_of(alloc: Global, book: &mut Book, end: &End) -> Result<Option<Arc<Sealed>>, AllocError>
+    requires { book.old.seal ≡ seal_at (book.old).source (book.old).entries end.now }
+    ensures { IfOk result (λ seal. option_map arc_value seal ≡ seal_at (book.old).source (book.old).entries end.now) }
+{
+    // The proof needs what holds of the book, and the call says so.
+    let _ = book.commits();
+    match end {
+        End::Sealed => match book.seal(alloc) {
+            Ok(seal) => Ok(Some(seal)),
+            Err(SealFault::NoMemory) => Err(AllocError),
+            Err(SealFault::StillOpen { .. }) => unreachable!(),
+        },
+        _ => Ok(None),
+    }
+}
+
+/// The report of a completed book and of sessions that have their replies.
+fn report(
+    alloc: Global,
+    p: &Arc<Presentation>,
+    book: Book,
+    end: End,
+    sessions: Vec<Session>,
+) -> Result<Report, AllocError>
+    requires source { book.source ≡ arc_value p.now }
+    requires seal { book.seal ≡ seal_at book.source book.entries end }
+    ensures { IfOk result (λ r. reported r ≡ record {
+      pres = arc_value p.now;
+      entries = book.entries;
+      seal = seal_at (arc_value p.now) book.entries end;
+      end = end;
+      sessions = sessions.items;
+    }) }
+{
+    let mut book = book;
+    let entries = shared(alloc, book.entries())?;
+    let sealed = seal_of(alloc, &mut book, &end)?;
+    Ok(Report {
+        pres: Arc::try_clone(p)?,
+        entries,
+        end,
+        sealed,
+        sessions,
+    })
+}
+
+/// Gives back the tasks that are taken, and completes the log of the book.
+#[tactic(auto, using(crate::proofs::Completed::none_taken))]
+fn finished(alloc: Global, p: &Arc<Presentation>, book: &mut Book) -> Result<End, AllocError>
+    requires source { book.old.source ≡ arc_value p.now }
+    ensures completed { IfOk result (λ end. IsCompleted (arc_value p.now) book.old end book.new) }
+    ensures books { IfOk result (λ _. IsBook book.old × IsBook book.new) }
+{
+    // The proof needs what holds of the book, and the calls say so.
+    let _ = book.commits();
+    let _ = book.release();
+    let end = complete(alloc, p, book)?;
+    let _ = book.commits();
+    Ok(end)
+}
+
+/// Ends a run over a book of the presentation and of these limits: gives back the tasks that are taken, completes the
+/// log, asks each question that has no reply yet by all items, and reports what was found.
+pub fn gather(
+    alloc: Global,
+    p: &Arc<Presentation>,
+    book: Book,
+    sessions: Vec<Session>,
+    limits: Limits,
+) -> Result<Report, AllocError>
+    requires source { book.source ≡ arc_value p.now }
+    requires limits { book.limits ≡ limits }
+    requires sessions { AreAskers book sessions.items }
+    ensures legal { IfOk result (λ r. IsLegal (arc_value p.now) limits (questions_of sessions.items) (reported r)) }
+    // The log goes on where the book's ends, and replies stand.
+    ensures begins { IfOk result (λ r. (more : List BasisEntry)
+        × (map arc_value r.entries.items ≡ book.entries ++ more)) }
+    ensures stand { IfOk result (λ r. AreAnsweredOn (arc_value p.now) (map arc_value r.entries.items)
+        (option_map arc_value r.sealed) sessions.items r.sessions.items) }
+{
+    let _ = limits;
+    let mut book = book;
+    let end = finished(alloc, p, &mut book)?;
+    let index = leads(alloc, &book)?;
+    let sessions = answered(alloc, p, &Indexed::over(&book, &index), sessions)?;
+    report(alloc, p, book, end, sessions)
+}

@@ -1,0 +1,10 @@
+//! Ending a run over a book, what a legal report is, which of its answers are true, and the laws of legal reports.
+#![tactic(auto)]
+
+mod gathering;
+mod known;
+pub mod laws;
+mod solving;
+
+pub use gathering::gather;
+pub use solving::solve;

@@ -1,5 +1,0 @@
-use Rattle.metab_run.proofs.Counts.{AreCountedIn}
-use Rattle.metab_run.proofs.counting.how_many.Given as goal
-
-abbrev pub invariant-loop-session : goal.invariant-loop-session
-invariant-loop-session l = AreCountedIn l.kind l.sessions l.session-index l.number

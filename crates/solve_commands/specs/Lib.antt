@@ -1,0 +1,4 @@
+pub mod Runs
+pub mod SessionFiles
+pub mod Solo
+pub mod Generate

@@ -1,0 +1,104 @@
+-- What the command `solo` answers.
+use Rattle.std.specs.Prelude.{◌≡◌, ◌≢◌, ◌≤◌, ◌⊎◌, ℕ, List, length, Option, IfSome, Result, Ok, Err, option_map}
+use Rattle.std.specs.Prelude.{unwrap_or}
+use Rattle.presentation.specs.Presented.{Presented}
+use Rattle.presentation.specs.Reading.{presentation_text}
+use Rattle.session_text.specs.declared.question.Question.{Question}
+use Rattle.pair_book.specs.declared.limits.Limits.{Limits}
+use Rattle.report_text.specs.declared.report.Report.{Report}
+use Rattle.report_text.specs.Histories.{History}
+use Rattle.report_text.specs.Reports.{Reported, IsReportable, reported, text_of}
+use Rattle.command_floor.specs.declared.answer.Halt.{Halt}
+use Rattle.command_floor.specs.declared.answer.Halt.TheVariants as halts
+use Rattle.command_floor.specs.declared.settings.TheConstants.{LEAST_ENTRIES, MOST_ENTRIES}
+use Rattle.command_floor.specs.declared.status.Status.TheVariants.{Done, Open}
+use Rattle.command_floor.specs.declared.TheConstants.{PRESENTATION_BYTES}
+use Rattle.command_floor.specs.Answers.{Answer}
+use Rattle.command_floor.specs.Files.{in_lines, FileFails}
+use Rattle.command_floor.specs.Parsing.{GivenWords, shown}
+use Rattle.legal_report.specs.Solutions.{IsSolved}
+use Rattle.solve_commands.specs.declared.limits.TheConstants.{ENTRIES}
+use Rattle.solve_commands.specs.declared.sessions.TheConstants.{SESSIONS}
+use Rattle.solve_commands.specs.declared.solo.SoloWords.{SoloWords}
+use Rattle.solve_commands.specs.Runs.{limits_with, ShowsSettled}
+use Rattle.solve_commands.specs.SessionFiles.{SessionsFail, AreQuestionsUnder, session_names}
+
+-- what `solo` is asked: the limit on entries, a budget or none, and the names of a presentation and of the sessions
+pub record SoloAsked : Type 0 where
+  pub entries : ℕ
+  pub budget : Option ℕ
+  pub presentation : List ℕ
+  pub sessions : List (List ℕ)
+
+-- what it is asked by what is given behind its name: a presentation, and 1 to so many sessions
+abbrev pub solo_in : GivenWords → Option SoloAsked
+solo_in g = option_map (λ n. record {
+  entries = unwrap_or g.settings.entries ENTRIES;
+  budget = g.settings.budget;
+  presentation = n.0;
+  sessions = n.1;
+}) (session_names g.words)
+
+-- what the code holds of it
+abbrev pub solo_asked : SoloWords → SoloAsked
+solo_asked w = record {
+  entries = w.entries;
+  budget = w.budget;
+  presentation = w.presentation.now;
+  sessions = shown w.sessions.items;
+}
+
+-- the limit on entries lies in its range, and there aren't too many sessions
+pub record IsWithinTable (w : SoloWords) : Type 0 where
+  pub least : LEAST_ENTRIES ≤ w.entries
+  pub most : w.entries ≤ MOST_ENTRIES
+  pub few : length w.sessions.items ≤ SESSIONS
+
+-- the limits that the words give
+abbrev pub limits_of : SoloAsked → Limits
+limits_of q = limits_with q.entries q.budget
+
+-- p is the presentation of its text, where the shelf tells that
+abbrev pub IsPresentedIn : (List ℕ → Option (List ℕ)) → SoloAsked → Presented → Type 0
+IsPresentedIn under q p = IfSome (under q.presentation) (λ bytes. (length bytes ≤ PRESENTATION_BYTES)
+    × (in_lines presentation_text bytes ≡ Ok p))
+
+-- the texts have these values, where the shelf tells them, and this is a solved report on them
+pub record IsFound (under : List ℕ → Option (List ℕ)) (q : SoloAsked) (r : Reported) (h : History) : Type 0 where
+  pub p : Presented
+  pub presented : IsPresentedIn under q p
+  pub questions : List (List Question)
+  pub asked : AreQuestionsUnder under p q.sessions questions
+  pub solved : IsSolved p (limits_of q) questions r h
+
+-- the answer is the text of such a report, and is done exactly where the report is settled
+pub record ShowsSolo (under : List ℕ → Option (List ℕ)) (q : SoloAsked) (a : Answer) : Type 0 where
+  pub report : Reported
+  pub history : History
+  pub found : IsFound under q report history
+  pub text : a.text ≡ text_of report history
+  pub status : ShowsSettled report a.status
+
+-- Nothing is reported: the presentation's text has no value, or it has one, and one of the sessions' texts has none
+abbrev pub SoloFails : Type 0 → (List ℕ → Option (List ℕ)) → SoloAsked → Answer → Type 0
+SoloFails counted under q a = (a.status ≢ Done) × (a.status ≢ Open) × (
+    FileFails counted PRESENTATION_BYTES q.presentation (under q.presentation) (in_lines presentation_text) a
+    ⊎ ((p : Presented) × IsPresentedIn under q p × SessionsFail counted under p q.sessions a))
+
+-- the answer that is due to `solo` over these texts; `counted` says that the shelf has counted a failure
+abbrev pub SoloLeads : Type 0 → (List ℕ → Option (List ℕ)) → SoloAsked → Answer → Type 0
+SoloLeads counted under q a = ShowsSolo under q a ⊎ SoloFails counted under q a
+
+-- ---- what the code gives
+
+-- the report can be written, and has a history, with which it is the one that is to be found
+pub record IsReady (under : List ℕ → Option (List ℕ)) (q : SoloAsked) (r : Reported) : Type 0 where
+  pub reportable : IsReportable r
+  pub history : History
+  pub found : IsFound under q r history
+
+-- what `solo` finds: a report, or the answer that is due, unless memory runs out
+abbrev pub SoloGives : Type 0 → (List ℕ → Option (List ℕ)) → SoloAsked → Result Report Halt → Type 0
+SoloGives counted under q (Ok r) = IsReady under q (reported r)
+SoloGives counted under q (Err (halts.Says a)) = SoloLeads counted under q a
+SoloGives counted under q (Err halts.NoMemory) = Unit {0}
