@@ -2,18 +2,18 @@ use Rattle.std.proofs.Common.{List, ℕ, Option, map, string_bytes, subst}
 use Rattle.mb_io.specs.Shelf.{CountRose}
 use Rattle.report_text.specs.Reports.{reported}
 use Rattle.metab_run.specs.declared.top.Found.TheVariants.{Reports}
-use Rattle.metab_run.specs.Top.{Finds}
+use Rattle.metab_run.specs.Owed.{Owed, owed_to}
+use Rattle.metab_run.specs.Top.{FindsOwed}
 use Rattle.metab_run.proofs.ReportEnds.{report_ends}
 use Rattle.metab_run.proofs.top.metab_alone.Goals as goal
 
 pub returns-in-Ok-Reports-clause-ends : goal.returns-in-Ok-Reports-clause-ends
 returns-in-Ok-Reports-clause-ends g c =
     let counted : Type 0 = CountRose (g.S.Shelf.faults c.args.shelf.now) (g.S.Shelf.faults c.find.new.shelf) in
-    let under : List ℕ → Option (List ℕ) = g.S.Shelf.under c.args.shelf.now in
-    let words : List (List ℕ) = map string_bytes c.args.words.now in
-    let finds : Finds counted under words (Reports c.in-Ok-Reports.report) =
-    subst (Finds counted under words) c.in-Ok-Reports.field-0-is c.in-Ok-Reports.ensures.finds in
-    report_ends counted under words finds.0 (reported c.in-Ok-Reports.report) finds.1 finds.2
+    let o : Owed = owed_to counted (g.S.Shelf.under c.args.shelf.now) (map string_bytes c.args.words.now) in
+    let finds : FindsOwed o counted (Reports c.in-Ok-Reports.report) =
+    subst (FindsOwed o counted) c.in-Ok-Reports.field-0-is c.in-Ok-Reports.ensures.finds in
+    report_ends o (reported c.in-Ok-Reports.report) finds
     (CountRose (g.K.Sink.faults c.args.out.now) (g.K.Sink.faults c.deliver_report.new.out)) (g.K.Sink.taken c.args.out.now)
     (g.K.Sink.taken c.deliver_report.new.out)
     c.deliver_report.result c.deliver_report.ensures.written
