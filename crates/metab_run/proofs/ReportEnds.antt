@@ -67,3 +67,5 @@ module _ (o : Owed) (r : Reported) (due : IsDueReport o r) (failed : Type 0) (ol
 
   pub report_failed : (status : Status) → DeliversReport failed old new r status → status ≡ WriteFault → failed
   report_failed status d e = settled.write_failed failed old new r status due.history due.told d e
+
+pub ruleset reports_end = (report_ends, report_unread, report_failed)

@@ -58,7 +58,7 @@ fn find<S: Shelf>(alloc: Global, words: &[String], shelf: &mut S) -> Result<Foun
 /// answered by all items of the log. A word is called trivial only where moves carry it to the empty word, and a map is
 /// said to extend only where it does. Where the log is sealed, both are said wherever they hold, a limit that is named
 /// aside, and nothing is unknown (Magnus 1939, Lichtblau 2012).
-#[tactic(auto, using(command_floor::proofs::Ending::ends_delivered, crate::proofs::ReportEnds::report_ends, crate::proofs::ReportEnds::report_unread, crate::proofs::ReportEnds::report_failed))]
+#[tactic(auto, using(command_floor::proofs::Ending::ends_delivered, crate::proofs::ReportEnds::reports_end))]
 pub fn metab_alone<S: Shelf, K: Sink>(
     alloc: Global,
     words: &[String],
