@@ -1,6 +1,7 @@
 -- What holds of the machine between events is kept by each of them.
 use Rattle.std.proofs.Common.{ℕ, ◌+◌, ◌-◌, ◌<◌, ◌≤◌, ◌≡◌, ◌≢◌, ◌⊎◌, inl, inr, arith, refl, sym, ap, ◌∙◌, List, [], ◌∷◌, ◌++◌, length, length-set, set, Some, subst, slice_get}
-use Rattle.std.proofs.Common.{length-replicate, replicate, append-nil}
+use Rattle.std.proofs.Common.{replicate, append-nil}
+use Rattle.std.proofs.lemmas.List.{length-replicate}
 use Rattle.std.specs.List.{AllByRecursion}
 use Rattle.std.specs.Prelude.{Result, Ok, Err, OnOk, OnErr}
 use Rattle.presentation.specs.Presented.{Presented}
@@ -146,19 +147,20 @@ turn_steps (Err a) s t e n x found new y ok = tt
 
 -- ---- a turn of a session, that may have run out of memory
 
-module _ {A E : Type 0} (s : State) (old new : SessionState) (p : Presented) (list : Held) (pe : p ≡ s.book.source) (le : list ≡ s.book) where
-  by_book : Asks p list.entries list.seal old new → Asks s.book.source s.book.entries s.book.seal old new
-  by_book asks = subst (λ (x : Held). Asks s.book.source x.entries x.seal old new) le
-      (subst (λ (q : Presented). Asks q list.entries list.seal old new) pe asks)
+by_book : (s : State) (old new : SessionState) (p : Presented) (list : Held) → p ≡ s.book.source → list ≡ s.book → Asks p list.entries list.seal old new
+    → Asks s.book.source s.book.entries s.book.seal old new
+by_book s old new p list pe le asks = subst (λ (x : Held). Asks s.book.source x.entries x.seal old new) le
+    (subst (λ (q : Presented). Asks q list.entries list.seal old new) pe asks)
 
+module _ {A E : Type 0} (s : State) (old new : SessionState) (p : Presented) (list : Held) (pe : p ≡ s.book.source) (le : list ≡ s.book) where
   pub ask_keeps : (r : Result A E) (i : ℕ) → IsCore s → slice_get s.sessions i ≡ Some old → OnOk r (Asks p list.entries list.seal old new)
       → OnErr r (new ≡ old) → IsCore (record s { sessions = set s.sessions i new })
-  ask_keeps (Ok a) i c found ok err = session_keeps s i c old new found (by_book ok)
+  ask_keeps (Ok a) i c found ok err = session_keeps s i c old new found (by_book s old new p list pe le ok)
   ask_keeps (Err a) i c found ok err = subst (λ (ss : List SessionState). IsCore (record s { sessions = ss }))
       (sym (set_still s.sessions i old found) ∙ ap (set s.sessions i) (sym err)) c
 
   pub ask_steps : (r : Result A E) (t : State) → s ≡ t → (n : ℕ) → slice_get s.sessions (n - 1) ≡ Some old → OnOk r (Asks p list.entries list.seal old new)
       → OnOk r (SessionStep t n (record s { sessions = set s.sessions (n - 1) new }))
   ask_steps (Ok a) t e n found ok = subst (λ (z : State). SessionStep z n (record s { sessions = set s.sessions (n - 1) new })) e
-      (record { before = old; found = found; after = new; asks = by_book ok; is = refl })
+      (record { before = old; found = found; after = new; asks = by_book s old new p list pe le ok; is = refl })
   ask_steps (Err a) t e n found ok = tt

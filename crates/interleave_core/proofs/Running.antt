@@ -1,7 +1,7 @@
 -- Runs one behind the other, and what they keep.
-use Rattle.std.proofs.Common.{ℕ, ◌+◌, ◌-◌, ◌<◌, ◌≤◌, ◌≡◌, ◌⊎◌, inl, inr, arith, refl, sym, ap, ◌∙◌, List, [], ◌∷◌, ◌++◌, length, length-set, set, take, Option, Some, subst, slice_get, append-nil}
+use Rattle.std.proofs.Common.{ℕ, ◌+◌, ◌-◌, ◌<◌, ◌≤◌, ◌≡◌, ◌⊎◌, inl, inr, arith, refl, sym, ap, ◌∙◌, List, [], ◌∷◌, ◌++◌, length, length-set, set, take, Option, Some, subst, slice_get, append-nil, get_or}
 use Rattle.std.specs.Arc.{arc_value}
-use Rattle.std.proofs.lemmas.List.{append_assoc}
+use Rattle.std.proofs.lemmas.List.{append_assoc, take_more}
 use Rattle.presentation.specs.Presented.{Presented}
 use Rattle.session_text.specs.declared.question.Event.{Event}
 use Rattle.session_text.specs.declared.question.Event.TheVariants.{Worker, Session}
@@ -107,3 +107,11 @@ step_keeps s t (Session n) w = record {
 pub run_keeps : (old new : State) (es : List Event) → Run old es new → Keeps old new
 run_keeps old new [] e = keeps_equal old new e
 run_keeps old new (e ∷ es) h = keeps_on old h.0 new (step_keeps old h.0 e h.1) (run_keeps h.0 new es h.2)
+
+-- one more of the events
+pub run_next : (a b c : State) (es : List Event) (i : ℕ) (d : Event) → i < length es → Run a (take i es) b → Step b (get_or es i d) c
+    → Run a (take (i + 1) es) c
+run_next a b c es i d lt run step = subst (λ (l : List Event). Run a l c) (sym (take_more es i d lt)) (run_more a b c (take i es) (get_or es i d) run step)
+
+pub step_count : (s t : State) (e : Event) → Step s e t → length t.sessions ≡ length s.sessions
+step_count s t e step = (step_keeps s t e step).count

