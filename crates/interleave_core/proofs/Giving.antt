@@ -1,5 +1,6 @@
 -- The tasks in hand are given back.
-use Rattle.std.proofs.Common.{ℕ, zero, suc, ◌+◌, ◌<◌, ◌≤◌, ◌≡◌, ◌≢◌, ◌⊎◌, inl, inr, arith, refl, sym, ap, ◌∙◌, List, [], ◌∷◌, ◌++◌, length, Some, subst, slice_get}
+use Rattle.std.proofs.Common.{ℕ, zero, suc, ◌+◌, ◌<◌, ◌≤◌, ◌≡◌, ◌≢◌, ◌⊎◌, inl, inr, arith, refl, sym, ap, ◌∙◌, List, [], ◌∷◌, ◌++◌, length, Some, subst, slice_get, drop, get_or}
+use Rattle.std.proofs.lemmas.List.{drop_more}
 use Rattle.std.specs.List.{AllByRecursion}
 use Rattle.presentation.specs.Presented.{Presented}
 use Rattle.outcomes.specs.declared.tasks.Task.{Task}
@@ -50,3 +51,8 @@ askers_stay h new ss hands all e i s at =
     let a = all i s at in
     subst (λ (k : Held). IsAsker k (i + 1) s) (sym (e ∙ all_same h hands))
     (record { number = a.number; base = a.base; questions = a.questions; replies = a.replies; fronts = a.fronts })
+
+-- ---- one hand after another
+
+pub hand_at : (hands : List Hand) (i : ℕ) (x : Hand) → i < length hands → x ≡ get_or hands i x → drop i hands ≡ x ∷ drop (i + 1) hands
+hand_at hands i x lt is = drop_more hands i x lt ∙ ap (λ (z : Hand). z ∷ drop (i + 1) hands) (sym is)
