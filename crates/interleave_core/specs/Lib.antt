@@ -1,0 +1,5 @@
+pub mod Machine
+pub mod Invariants
+pub mod Inner
+pub mod Opening
+pub mod Histories
