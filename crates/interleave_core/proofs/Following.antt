@@ -1,5 +1,6 @@
 -- What a worker's turn leaves of the book, for the other workers and the sessions.
-use Rattle.std.proofs.Common.{ℕ, ◌+◌, ◌<◌, ◌≤◌, ◌≡◌, ◌≢◌, ◌⊎◌, inl, inr, arith, refl, sym, ap, ◌∙◌, List, [], ◌∷◌, ◌++◌, length, length-append, append-nil, Bool, true, false}
+use Rattle.std.proofs.Common.{ℕ, ◌+◌, ◌<◌, ◌≤◌, ◌≡◌, ◌≢◌, ◌⊎◌, inl, inr, arith, refl, sym, ap, ◌∙◌, List, [], ◌∷◌, ◌++◌, length, length-append, append-nil}
+use Rattle.std.proofs.Common.{Bool, true, false}
 use Rattle.std.proofs.Common.{Option, Some, None, subst, take, slice_get}
 use Rattle.std.specs.Prelude.{Ok, Err}
 use Rattle.std.specs.Arc.{arc_value}
@@ -131,16 +132,16 @@ module _ (old new : Held) (w : Worked) (b : IsBook old) (hand : IsTaken old w.ta
     taken = λ u k other. (
       subst (λ (h : Held). IsTask (length h.entries) u) (sym also.is) k.0,
       also_taken (closed_by old w.task) new also u k.0 (
-        elim (read_put old.tasks w.task u Closed b.table (task_in old w.task b hand.0) (task_in old u b k.0)) [
-          | inl (e, _) ↦ absurd (apart u other e)
-          | inr (_, r) ↦ ap is_taken r ∙ k.1
-        ]),
+          elim (read_put old.tasks w.task u Closed b.table (task_in old w.task b hand.0) (task_in old u b k.0)) [
+            | inl (e, _) ↦ absurd (apart u other e)
+            | inr (_, r) ↦ ap is_taken r ∙ k.1
+          ]),
     );
   }
 
   module _ (e : BasisEntry) (appends : AppendsEntry old w e new) where
     abbrev row : Table
-    row = grown old.tasks (settled_row old.entries e.vector)
+    row = grown old.tasks (settled_row old.entries e.vector) e.vector
 
     table_row : IsTable row
     table_row = let n = b.count in let r = b.room in let few = appends.fits.0 in
@@ -162,10 +163,10 @@ module _ (old new : Held) (w : Worked) (b : IsBook old) (hand : IsTaken old w.ta
       taken = λ u k other. (
         subst (λ (h : Held). IsTask (length h.entries) u) (sym appends.closes.is) (longer u k.0),
         also_taken (appended_by old w.task e appends.closed) new appends.closes u (longer u k.0) (
-          elim (read_put row w.task u (state_after appends.closed) table_row (in_row w.task hand.0) (in_row u k.0)) [
-            | inl (e, _) ↦ absurd (apart u other e)
-            | inr (_, r) ↦ ap is_taken r ∙ (ap is_taken (state_old old.tasks old.entries e.vector u b.table (task_in old u b k.0)) ∙ k.1)
-          ]),
+            elim (read_put row w.task u (state_after appends.closed) table_row (in_row w.task hand.0) (in_row u k.0)) [
+              | inl (e, _) ↦ absurd (apart u other e)
+              | inr (_, r) ↦ ap is_taken r ∙ (ap is_taken (state_old old.tasks old.entries e.vector u b.table (task_in old u b k.0)) ∙ k.1)
+            ]),
       );
     }
 

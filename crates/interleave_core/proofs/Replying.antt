@@ -1,5 +1,6 @@
 -- Replies while the book goes on.
-use Rattle.std.proofs.Common.{ℕ, zero, suc, ◌+◌, ◌<◌, ◌≤◌, ◌≡◌, ◌⊎◌, inl, inr, arith, refl, sym, ap, ◌∙◌, List, [], ◌∷◌, ◌++◌, length, length-append, Bool, true, false}
+use Rattle.std.proofs.Common.{ℕ, zero, suc, ◌+◌, ◌<◌, ◌≤◌, ◌≡◌, ◌⊎◌, inl, inr, arith, refl, sym, ap, ◌∙◌, List, [], ◌∷◌, ◌++◌, length, length-append, Bool}
+use Rattle.std.proofs.Common.{true, false}
 use Rattle.std.proofs.Common.{Option, Some, None, subst, take, slice_get}
 use Rattle.std.specs.List.{AllByRecursion}
 use Rattle.std.specs.Prelude.{nat_lt, cond}
@@ -141,7 +142,7 @@ module _ (h : Held) (n : ℕ) (old new : SessionState) (a : IsAsker h n old) whe
       | inl e ↦
           let is_q : r.question ≡ q = same_some r.question q (sym r.next ∙ subst (λ (m : ℕ). slice_get old.questions m ≡ Some q) e asked) in
           let is_k : r.reply ≡ k = same_some r.reply k (sym (get_end old.kept r.reply)
-              ∙ subst (λ (m : ℕ). slice_get (old.kept ++ r.reply ∷ []) m ≡ Some k) e kept) in
+          ∙ subst (λ (m : ℕ). slice_get (old.kept ++ r.reply ∷ []) m ≡ Some k) e kept) in
           by_all q k (subst (λ (z : Kept). IsReply h.source h.entries h.seal q z) is_k
           (subst (λ (z : Question). IsReply h.source h.entries h.seal z r.reply) is_q r.is_reply))
       | inr ne ↦

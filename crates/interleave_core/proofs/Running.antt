@@ -1,5 +1,6 @@
 -- Runs one behind the other, and what they keep.
-use Rattle.std.proofs.Common.{ℕ, ◌+◌, ◌-◌, ◌<◌, ◌≤◌, ◌≡◌, ◌⊎◌, inl, inr, arith, refl, sym, ap, ◌∙◌, List, [], ◌∷◌, ◌++◌, length, length-set, set, take, Option, Some, subst, slice_get, append-nil, get_or}
+use Rattle.std.proofs.Common.{ℕ, ◌+◌, ◌-◌, ◌<◌, ◌≤◌, ◌≡◌, ◌⊎◌, inl, inr, arith, refl, sym, ap, ◌∙◌, List, [], ◌∷◌, ◌++◌, length, length-set, set, take}
+use Rattle.std.proofs.Common.{Option, Some, subst, slice_get, append-nil, get_or}
 use Rattle.std.specs.Arc.{arc_value}
 use Rattle.std.proofs.lemmas.List.{append_assoc, take_more}
 use Rattle.presentation.specs.Presented.{Presented}
@@ -59,9 +60,9 @@ keeps_on a b c x y = record {
   entries = y.entries ∙ (ap (λ (es : List BasisEntry). es ++ y.more) x.entries ∙ append_assoc a.book.entries x.more y.more);
   count = y.count ∙ x.count;
   sessions = λ n s at.
-    let m = x.sessions n s at in
-    let l = y.sessions n m.0 m.1 in
-    (l.0, l.1, replies_on s m.0 l.0 m.2 l.2);
+      let m = x.sessions n s at in
+      let l = y.sessions n m.0 m.1 in
+      (l.0, l.1, replies_on s m.0 l.0 m.2 l.2);
 }
 
 -- a worker's turn leaves the log as it is, or appends an entry
@@ -96,10 +97,12 @@ step_keeps s t (Session n) w = record {
   count = ap (λ (z : State). length z.sessions) w.is ∙ length-set s.sessions (n - 1) w.after;
   sessions = λ k a at. elim (same_or_apart (n - 1) k) [
     | inl e ↦
-        let same : w.before ≡ a = same_some w.before a (sym w.found ∙ subst (λ (m : ℕ). slice_get s.sessions m ≡ Some a) (sym e) at) in
-        (w.after, ap (λ (z : State). slice_get z.sessions k) w.is ∙ subst (λ (m : ℕ). slice_get (set s.sessions (n - 1) w.after) m ≡ Some w.after) e
-        (set_found s.sessions (n - 1) w.after w.before w.found),
-        subst (λ (b : SessionState). KeepsReplies b w.after) same (replies_asked w.before w.after s.book.source s.book.entries s.book.seal w.asks))
+        let same : w.before ≡ a = same_some w.before a (sym w.found ∙ subst (λ (m : ℕ). slice_get s.sessions m ≡ Some a) (sym e) at) in (
+          w.after,
+          ap (λ (z : State). slice_get z.sessions k) w.is ∙ subst (λ (m : ℕ). slice_get (set s.sessions (n - 1) w.after) m ≡ Some w.after) e
+              (set_found s.sessions (n - 1) w.after w.before w.found),
+          subst (λ (b : SessionState). KeepsReplies b w.after) same (replies_asked w.before w.after s.book.source s.book.entries s.book.seal w.asks),
+        )
     | inr ne ↦ (a, ap (λ (z : State). slice_get z.sessions k) w.is ∙ (set_apart s.sessions (n - 1) k w.after ne ∙ at), replies_same a)
   ];
 }

@@ -63,4 +63,3 @@ unclosed_not_never Taken e = refl
 unclosed_not_never Hard e = refl
 unclosed_not_never Closed e = cc
 unclosed_not_never Never e = cc
-

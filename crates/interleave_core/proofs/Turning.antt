@@ -1,5 +1,6 @@
 -- What a worker's turn does, from what the calls on the book say.
-use Rattle.std.proofs.Common.{ℕ, ◌+◌, ◌<◌, ◌≤◌, ◌≡◌, ◌≢◌, ◌⊎◌, inl, inr, arith, refl, sym, ap, ◌∙◌, List, [], ◌∷◌, ◌++◌, length, length-append, set, Bool, true, false}
+use Rattle.std.proofs.Common.{ℕ, ◌+◌, ◌<◌, ◌≤◌, ◌≡◌, ◌≢◌, ◌⊎◌, inl, inr, arith, refl, sym, ap, ◌∙◌, List, [], ◌∷◌, ◌++◌, length, length-append, set, Bool}
+use Rattle.std.proofs.Common.{true, false}
 use Rattle.std.proofs.Common.{Option, Some, None, subst, append-nil}
 use Rattle.std.specs.Prelude.{Result, Ok, Err, ◌↔◌, IsTrue, map}
 use Rattle.std.proofs.lemmas.List.{set-set, set-get_or, length-map}
@@ -85,8 +86,11 @@ holds_outcome p list h t w same source works = subst (λ (q : Presented). Works 
 
 pub holds_stop : (p : Presented) (list h : Held) (t : Task) (stop : Stop) → list ≡ h → h.source ≡ p → Works p list.entries t (Err (work.Stop stop))
     → HoldsWork h t (Stopped t stop)
-holds_stop p list h t stop same source works = (refl, subst (λ (q : Presented). Works q h.entries t (Err (work.Stop stop))) (sym source)
-    (subst (λ (x : Held). Works p x.entries t (Err (work.Stop stop))) same works))
+holds_stop p list h t stop same source works = (
+  refl,
+  subst (λ (q : Presented). Works q h.entries t (Err (work.Stop stop))) (sym source)
+      (subst (λ (x : Held). Works p x.entries t (Err (work.Stop stop))) same works),
+)
 
 module _ (old mid : Held) (t : Task) (b : IsBook old) (takes : TakesTask old (Some t) mid) where
   pub taken_now : mid ≡ with_state old t Taken
@@ -133,6 +137,12 @@ found_none old new t none (least, is) = inr (inr (record {
   is = is;
   idle = refl;
 }))
+
+-- once the log is sealed an idle worker changes nothing
+pub still_sealed : (h : Held) (s : Seal) → IsBook h → h.seal ≡ Some s → Turns h Idle h Idle
+still_sealed h s b e =
+    let by : IsSealedBy h (Some s) = subst (IsSealedBy h) e b.seal in
+    inr (inl (record { closed = by.1; is = ap (λ (z : Option Seal). record h { seal = z }) (e ∙ ap Some by.0); idle = refl }))
 
 -- ---- what a worker holds
 

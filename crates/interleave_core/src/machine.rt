@@ -81,7 +81,8 @@ impl Core {
     /// Plays the events in order. A worker that holds nothing takes the least open task and works it by the log of that
     /// moment; where none is open it seals the log, if all tasks are closed. A worker that holds an outcome commits it;
     /// a stale one is worked again instead, and where the budget is spent, or there is no room, its task is given back.
-    /// A task whose work met a limit becomes hard. A session is answered its next question by all items, if one is left.
+    /// A task whose work met a limit becomes hard. A session is answered its next question by all items, if one is
+    /// left.
     ///
     /// Where memory runs out, the machine stands behind the events before the one that met it.
     #[tactic(auto, using(crate::proofs::Running::run_next, crate::proofs::Running::step_count))]
@@ -127,7 +128,12 @@ impl Core {
     {
         catch_up(&self.book, &mut self.index)?;
         let list = Indexed::over(&self.book, &self.index);
-        ask(alloc, &self.source, &list, &mut self.sessions[number as usize - 1])
+        ask(
+            alloc,
+            &self.source,
+            &list,
+            &mut self.sessions[number as usize - 1],
+        )
     }
 
     /// The book and the sessions. Each task in hand is given back, in the order of the workers: it is open again, or

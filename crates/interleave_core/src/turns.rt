@@ -16,6 +16,7 @@ ghost use Rattle.interleave_core.specs.Invariants.{IsHand};
 ghost use Rattle.interleave_core.specs.Inner.{HasLeads};
 
 use crate::Hand;
+use basis_entry::Front;
 use module_vec::VecList;
 use outcomes::Task;
 use pair_book::{Book, CommitFault, Outcome, SealFault, WorkFault, work};
@@ -99,7 +100,7 @@ fn next_hand(
 }
 
 /// A worker that holds nothing takes the least open task and works it by the log. Where none is open it seals the log,
-/// if all tasks are closed.
+/// if all tasks are closed. Once the log is sealed it does nothing.
 fn start(
     alloc: Global,
     p: &Arc<Presentation>,
@@ -113,6 +114,9 @@ fn start(
     ensures book { IsBook book.new }
 {
     book.known();
+    if book.sealed().is_some() {
+        return Ok(Hand::Idle);
+    }
     let Some(task) = book.take() else {
         return seal(alloc, book);
     };
@@ -180,7 +184,7 @@ fn commit(
     ensures book { IsBook book.new }
 {
     book.known();
-    let task = outcome.task();
+    outcome.known();
     let committed = book.commit_known(outcome);
     book.known();
     match committed {
