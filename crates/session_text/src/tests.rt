@@ -292,7 +292,7 @@ fn schedules(rt: HostRuntime) {
 }
 
 /// Schedules of three sessions, and where their first fault stands.
-const SCHEDULE_FAULTS: [(&str, u32, u32, TextKind); 20] = [
+const SCHEDULE_FAULTS: [(&str, u32, u32, TextKind); 21] = [
     ("s4", 1, 1, TextKind::NoSession),
     ("w1 s3\n s16 x", 2, 2, TextKind::NoSession),
     ("s17", 1, 1, TextKind::Expected),
@@ -305,13 +305,14 @@ const SCHEDULE_FAULTS: [(&str, u32, u32, TextKind); 20] = [
     ("w1 s", 1, 4, TextKind::Expected),
     ("w 1", 1, 1, TextKind::Expected),
     ("w1s1", 1, 1, TextKind::Expected),
+    ("s1 w1;", 1, 4, TextKind::Expected),
     ("w1a", 1, 1, TextKind::Expected),
     ("W1", 1, 1, TextKind::Expected),
     ("x1", 1, 1, TextKind::Expected),
     ("1", 1, 1, TextKind::Expected),
     ("w1, w2", 1, 3, TextKind::Expected),
     ("w1\n\n_w1", 3, 1, TextKind::Expected),
-    ("w1 ;", 1, 4, TextKind::BadByte),
+    ("w1 ;", 1, 4, TextKind::Expected),
     ("w111", 1, 1, TextKind::Expected),
 ];
 
