@@ -2,7 +2,7 @@
 use Rattle.std.specs.Prelude.{ℕ, List, [], ◌∷◌, Option, None, option_map, codes, if◌then◌else◌}
 use Rattle.std.specs.Str.{bytes_eq}
 use Rattle.command_floor.specs.declared.settings.Setting.{Setting}
-use Rattle.command_floor.specs.declared.settings.Setting.TheVariants.{Entries, Budget}
+use Rattle.command_floor.specs.declared.settings.Setting.TheVariants.{Entries, Budget, Order}
 use Rattle.command_floor.specs.declared.commands.Command.{Command}
 use Rattle.command_floor.specs.declared.commands.Command.TheVariants.{Steps, Fox, Check, Solo, Gen}
 use Rattle.command_floor.specs.declared.commands.Asked.{Asked}
@@ -12,6 +12,10 @@ use Rattle.command_floor.specs.Parsing.{GivenWords, given_by, shown_given}
 pub record AskedWords : Type 0 where
   pub command : Command
   pub given : GivenWords
+
+-- the options of a run that completes a log
+abbrev pub run_options : List Setting
+run_options = Entries ∷ Budget ∷ Order ∷ []
 
 -- a row of the table: the command that has this name and these options, with what is given
 abbrev pub asks : Command → List ℕ → List Setting → List (List ℕ) → Option AskedWords
@@ -23,7 +27,7 @@ asked_of name ws =
     if bytes_eq name (codes "steps") then asks Steps (codes "steps") [] ws
     else if bytes_eq name (codes "fox") then asks Fox (codes "fox") [] ws
     else if bytes_eq name (codes "check") then asks Check (codes "check") [] ws
-    else if bytes_eq name (codes "solo") then asks Solo (codes "solo") (Entries ∷ Budget ∷ []) ws
+    else if bytes_eq name (codes "solo") then asks Solo (codes "solo") run_options ws
     else if bytes_eq name (codes "gen") then asks Gen (codes "gen") [] ws
     else None
 

@@ -55,7 +55,7 @@ fn command_of<'a>(
     ensures is { IfOk result (λ a. option_map shown_asked a ≡ asked_of name.now (map string_bytes words.now)) }
     ensures within { IfOk result (λ a. IfSome a (λ x. AreInRange x.given.settings)) }
 {
-    let log = [Setting::Entries, Setting::Budget];
+    let run = [Setting::Entries, Setting::Budget, Setting::Order];
     if name == "steps" {
         behind(alloc, Command::Steps, "steps", &[], words)
     } else if name == "fox" {
@@ -63,7 +63,7 @@ fn command_of<'a>(
     } else if name == "check" {
         behind(alloc, Command::Check, "check", &[], words)
     } else if name == "solo" {
-        behind(alloc, Command::Solo, "solo", &log, words)
+        behind(alloc, Command::Solo, "solo", &run, words)
     } else if name == "gen" {
         behind(alloc, Command::Gen, "gen", &[], words)
     } else {

@@ -97,7 +97,12 @@ fn settings(found: &ArgMatches) -> Option<Settings>
 {
     let entries = setting(found, Setting::Entries)?;
     let budget = setting(found, Setting::Budget)?;
-    Some(Settings { entries, budget })
+    let order = setting(found, Setting::Order)?;
+    Some(Settings {
+        entries,
+        budget,
+        order,
+    })
 }
 
 /// What is given behind a command of this name with these options, if the words are of its form, and the numbers of the

@@ -12,6 +12,12 @@ pub const MOST_ENTRIES: u32 = 4_096;
 /// The greatest budget.
 pub const MOST_BUDGET: u32 = 999_999_999;
 
+/// The number of the order of tasks that is taken where none is given.
+pub const FIRST_ORDER: u32 = 1;
+
+/// The number of the last order of tasks.
+pub const LAST_ORDER: u32 = 2;
+
 /// An option of a command.
 #[derive(Clone, Copy)]
 pub enum Setting {
@@ -19,6 +25,8 @@ pub enum Setting {
     Entries,
     /// How many tasks a completion may work.
     Budget,
+    /// The number of the order in which tasks are worked.
+    Order,
 }
 
 impl Setting {
@@ -29,6 +37,7 @@ impl Setting {
         match self {
             Setting::Entries => "entries",
             Setting::Budget => "budget",
+            Setting::Order => "order",
         }
     }
 
@@ -39,6 +48,7 @@ impl Setting {
         match self {
             Setting::Entries => LEAST_ENTRIES,
             Setting::Budget => 0,
+            Setting::Order => FIRST_ORDER,
         }
     }
 
@@ -50,6 +60,7 @@ impl Setting {
         match self {
             Setting::Entries => MOST_ENTRIES,
             Setting::Budget => MOST_BUDGET,
+            Setting::Order => LAST_ORDER,
         }
     }
 }
@@ -59,4 +70,5 @@ impl Setting {
 pub struct Settings {
     pub entries: Option<u32>,
     pub budget: Option<u32>,
+    pub order: Option<u32>,
 }

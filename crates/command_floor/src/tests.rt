@@ -15,7 +15,7 @@ fn words(alloc: Global, texts: &[&str]) -> Result<Vec<String>, AllocError> {
 #[test]
 fn words_outside_the_table_are_refused(rt: HostRuntime) -> Result<(), Fail> {
     let alloc = rt.alloc();
-    let lines: [&[&str]; 10] = [
+    let lines: [&[&str]; 14] = [
         &[],
         &["step"],
         &["Steps", "p", "1", "d"],
@@ -25,6 +25,10 @@ fn words_outside_the_table_are_refused(rt: HostRuntime) -> Result<(), Fail> {
         &["solo", "--entries", "2199", "p", "s"],
         &["solo", "--entries=", "p", "s"],
         &["solo", "--budget", "1000000000", "p", "s"],
+        &["solo", "--order", "0", "p", "s"],
+        &["solo", "--order=3", "p", "s"],
+        &["solo", "--order=1", "--order", "1", "p", "s"],
+        &["gen", "--order", "2", "5"],
         &["run", "--workers", "4", "p", "q"],
     ];
     for line in lines {
@@ -42,9 +46,9 @@ fn words_outside_the_table_are_refused(rt: HostRuntime) -> Result<(), Fail> {
 fn options_stand_anywhere_behind_the_command(rt: HostRuntime) -> Result<(), Fail> {
     let alloc = rt.alloc();
     let lines: [&[&str]; 3] = [
-        &["solo", "--entries", "4096", "--budget=0", "p", "-"],
-        &["solo", "p", "--budget", "000", "-", "--entries=4096"],
-        &["solo", "--entries=4096", "p", "--budget=0", "--", "-"],
+        &["solo", "--entries", "4096", "--budget=0", "--order", "2", "p", "-"],
+        &["solo", "p", "--budget", "000", "--order=000000002", "-", "--entries=4096"],
+        &["solo", "--order", "2", "--entries=4096", "p", "--budget=0", "--", "-"],
     ];
     for line in lines {
         let words = words(alloc, line)?;
@@ -54,6 +58,7 @@ fn options_stand_anywhere_behind_the_command(rt: HostRuntime) -> Result<(), Fail
         assert!(rt; matches!(asked.command, Command::Solo));
         assert_eq!(rt; asked.given.settings.entries, Some(4096));
         assert_eq!(rt; asked.given.settings.budget, Some(0));
+        assert_eq!(rt; asked.given.settings.order, Some(2));
         assert!(rt; asked.given.words.as_slice() == ["p", "-"].as_slice());
     }
     Ok(())

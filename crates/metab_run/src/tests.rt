@@ -151,6 +151,20 @@ close 1 1 trivial a b a^-1 b^-1 : unknown 1
 done
 ";
 
+// By number entry 3 would come of the pair of entries 0 and 2.
+const BY_COST: &str = "metab report 1
+pres <a | a^3>
+entry 0 gen + : +1*a^2@a +1*a@a +1*1@a
+entry 1 gen + : +1*a^3@a -1*1@a
+entry 2 gen + : +1*a.a'@a -1*1@a
+entry 3 sum -1*a'@1 +1*a^2@2 +1*1@0 : +1*a@a +1*a'@a +1*1@a
+entry 4 sum -1*1@2 +1*a'@3 : +1*a'^2@a +1*a'@a +1*1@a
+seal
+live 1 1 6 normal a : normal +1*1@a
+end sealed
+done
+";
+
 #[test]
 fn moves_are_made_one_after_another(rt: HostRuntime) -> Result<(), Fail> {
     let rows: [Row; 11] = [
@@ -238,7 +252,7 @@ fn moves_are_made_one_after_another(rt: HostRuntime) -> Result<(), Fail> {
 
 #[test]
 fn values_are_written(rt: HostRuntime) -> Result<(), Fail> {
-    let rows: [Row; 9] = [
+    let rows: [Row; 10] = [
         (
             &["fox", "p", "1"],
             "<a,b|>",
@@ -301,6 +315,13 @@ fn values_are_written(rt: HostRuntime) -> Result<(), Fail> {
             "trivial [a,b]",
             SPENT,
             Status::Open,
+        ),
+        (
+            &["solo", "--order=2", "p", "d"],
+            "<a | a^3>",
+            "normal a",
+            BY_COST,
+            Status::Done,
         ),
     ];
     assert_eq!(rt; first_other(rt.alloc(), &rows)?, None);

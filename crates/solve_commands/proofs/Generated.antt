@@ -8,6 +8,7 @@ use Rattle.presentation.specs.Reading.{presentation_text}
 use Rattle.session_text.specs.declared.question.Question.{Question}
 use Rattle.session_text.specs.declared.fault.SessionFault.{SessionFault}
 use Rattle.session_text.specs.Reading.{session_text}
+use Rattle.task_table.specs.declared.order.Order.TheVariants.{ByNumber}
 use Rattle.pair_book.specs.declared.limits.Limits.{Limits}
 use Rattle.session_core.specs.Questions.{CanBeAsked}
 use Rattle.session_core.specs.Sessions.{SessionState}
@@ -20,7 +21,8 @@ use Rattle.command_floor.specs.Answers.{Answer}
 use Rattle.command_floor.specs.Files.{in_lines, ReadLeads, TextGives, CommandEnd}
 use Rattle.solve_commands.specs.SessionFiles.{QuestionsGive}
 use Rattle.legal_report.specs.Solutions.{IsNewSession, AreNewSessions, IsSolved, IsSolution}
-use Rattle.solve_commands.specs.Runs.{limits_with, ShowsSettled}
+use Rattle.solve_commands.specs.Limits.{limits_with}
+use Rattle.solve_commands.specs.Runs.{ShowsSettled}
 use Rattle.solve_commands.specs.Generate.{summary, ShowsGen, QuestionsLead, TextsLead}
 
 -- ---- the one session
@@ -71,14 +73,14 @@ module _ (seed : ℕ) (pres session : List ℕ) where
 
   pub summed : (p : Presented) (questions : List (List Question)) (qs : List Question) (r : Reported) (a : Answer) → in_lines presentation_text pres ≡ Ok p
       → session_text p session ≡ Ok qs
-      → questions ≡ qs ∷ [] → IsSolution p (limits_with ENTRIES None) questions r → a.text ≡ summary seed r → ShowsSettled r a.status
+      → questions ≡ qs ∷ [] → IsSolution p (limits_with ENTRIES None ByNumber) questions r → a.text ≡ summary seed r → ShowsSettled r a.status
       → TextsLead seed pres session a
   summed p questions qs r a is read one solution text status =
       let shows : ShowsGen seed p qs a =
       record {
         report = r;
         history = solution.history;
-        solved = subst (λ (all : List (List Question)). IsSolved p (limits_with ENTRIES None) all r solution.history) one solution.solved;
+        solved = subst (λ (all : List (List Question)). IsSolved p (limits_with ENTRIES None ByNumber) all r solution.history) one solution.solved;
         text = text;
         status = status;
       } in

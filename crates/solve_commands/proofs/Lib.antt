@@ -3,5 +3,5 @@ mod Generated
 pub mod SessionFiles
 mod Settling
 mod SoloFound
-mod SoloWords
+mod GivenLimits
 pub mod Settled

@@ -14,11 +14,11 @@ use Rattle.command_floor.specs.Files.{in_lines, FileGives, HasCause}
 use Rattle.legal_report.specs.Gathering.{questions_of}
 use Rattle.legal_report.specs.Solutions.{IsSolution}
 use Rattle.solve_commands.specs.SessionFiles.{AreQuestionsIn, AreQuestionsUnder, SessionFails, SessionsFail, SessionsGive}
-use Rattle.solve_commands.specs.Solo.{SoloAsked, limits_of, IsPresentedIn, IsReady, SoloGives}
+use Rattle.solve_commands.specs.Solo.{SoloAsked, IsPresentedIn, IsReady, SoloGives}
 
 -- the texts have these values, and this is a solution on them
 pub found : (under : List ℕ → Option (List ℕ)) (q : SoloAsked) (p : Presented) (ss : List SessionState) (r : Reported)
-    → IsPresentedIn under q p → AreQuestionsUnder under p q.sessions (questions_of ss) → IsSolution p (limits_of q) (questions_of ss) r → IsReady under q r
+    → IsPresentedIn under q p → AreQuestionsUnder under p q.sessions (questions_of ss) → IsSolution p q.limits (questions_of ss) r → IsReady under q r
 found under q p ss r presented asked solution =
     record {
       reportable = solution.reportable;

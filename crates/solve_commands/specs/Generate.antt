@@ -5,6 +5,7 @@ use Rattle.presentation.specs.Presented.{Presented}
 use Rattle.presentation.specs.Reading.{presentation_text}
 use Rattle.outcomes.specs.declared.ends.End.{End}
 use Rattle.outcomes.specs.declared.ends.End.TheVariants.{Sealed, Stopped, Full, Spent}
+use Rattle.task_table.specs.declared.order.Order.TheVariants.{ByNumber}
 use Rattle.session_text.specs.declared.question.Question.{Question}
 use Rattle.session_text.specs.declared.fault.SessionFault.{SessionFault}
 use Rattle.session_text.specs.Reading.{session_text}
@@ -28,7 +29,8 @@ use Rattle.command_floor.specs.declared.answer.Halt.TheVariants.{Says}
 use Rattle.command_floor.specs.Answers.{Answer}
 use Rattle.command_floor.specs.Files.{in_lines, ReadLeads}
 use Rattle.solve_commands.specs.SessionFiles.{RefusesSession}
-use Rattle.solve_commands.specs.Runs.{limits_with, ShowsSettled}
+use Rattle.solve_commands.specs.Limits.{limits_with}
+use Rattle.solve_commands.specs.Runs.{ShowsSettled}
 
 abbrev pub one_seed : List (List ℕ) → Option ℕ
 one_seed (seed ∷ []) = number_between 0 MOST_SEED seed
@@ -97,7 +99,7 @@ summary seed r = summary_head seed (length r.entries) r.end ++ counts_text r.ses
 pub record ShowsGen (seed : ℕ) (p : Presented) (questions : List Question) (a : Answer) : Type 0 where
   pub report : Reported
   pub history : History
-  pub solved : IsSolved p (limits_with ENTRIES None) (questions ∷ []) report history
+  pub solved : IsSolved p (limits_with ENTRIES None ByNumber) (questions ∷ []) report history
   pub text : a.text ≡ summary seed report
   pub status : ShowsSettled report a.status
 

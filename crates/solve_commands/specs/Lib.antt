@@ -1,3 +1,4 @@
+pub mod Limits
 pub mod Runs
 pub mod SessionFiles
 pub mod Solo

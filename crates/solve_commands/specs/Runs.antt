@@ -1,10 +1,8 @@
--- What the commands that solve share: the limits of a run, when a report is settled, and how it is delivered.
+-- When a report is settled, and how it is delivered.
 use Rattle.std.specs.List.{AllByRecursion}
 use Rattle.std.specs.Prelude.{◌≡◌, ℕ, ◌⊎◌, List, Option}
 use Rattle.mb_io.specs.Shelf.{TakesPrefix}
 use Rattle.outcomes.specs.declared.ends.End.TheVariants.{Sealed}
-use Rattle.task_table.specs.declared.order.Order.TheVariants.{ByNumber}
-use Rattle.pair_book.specs.declared.limits.Limits.{Limits}
 use Rattle.session_core.specs.declared.kept.Tag.{Tag}
 use Rattle.session_core.specs.declared.kept.Tag.TheVariants as tags
 use Rattle.session_core.specs.Sessions.{SessionState}
@@ -13,17 +11,6 @@ use Rattle.report_text.specs.Reports.{Reported, IsHistoryOf, text_of}
 use Rattle.report_text.specs.Writing.{Stops}
 use Rattle.command_floor.specs.declared.status.Status.{Status}
 use Rattle.command_floor.specs.declared.status.Status.TheVariants.{Done, Open, WriteFault, NoMemory}
-use Rattle.solve_commands.specs.declared.limits.TheConstants.{LOG_TERMS, LOG_STEPS}
-
--- the limits of a run with so many entries and this budget
-abbrev pub limits_with : ℕ → Option ℕ → Limits
-limits_with entries budget = record {
-  entries = entries;
-  terms = LOG_TERMS;
-  steps = LOG_STEPS;
-  budget = budget;
-  order = ByNumber;
-}
 
 -- the reply is no stop
 abbrev pub IsNoStop : Tag → Type 0

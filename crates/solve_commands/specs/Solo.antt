@@ -1,6 +1,5 @@
 -- What the command `solo` answers.
 use Rattle.std.specs.Prelude.{◌≡◌, ◌≢◌, ◌≤◌, ◌⊎◌, ℕ, List, length, Option, IfSome, Result, Ok, Err, option_map}
-use Rattle.std.specs.Prelude.{unwrap_or}
 use Rattle.presentation.specs.Presented.{Presented}
 use Rattle.presentation.specs.Reading.{presentation_text}
 use Rattle.session_text.specs.declared.question.Question.{Question}
@@ -10,31 +9,28 @@ use Rattle.report_text.specs.Histories.{History}
 use Rattle.report_text.specs.Reports.{Reported, IsReportable, reported, text_of}
 use Rattle.command_floor.specs.declared.answer.Halt.{Halt}
 use Rattle.command_floor.specs.declared.answer.Halt.TheVariants as halts
-use Rattle.command_floor.specs.declared.settings.TheConstants.{LEAST_ENTRIES, MOST_ENTRIES}
 use Rattle.command_floor.specs.declared.status.Status.TheVariants.{Done, Open}
 use Rattle.command_floor.specs.declared.TheConstants.{PRESENTATION_BYTES}
 use Rattle.command_floor.specs.Answers.{Answer}
 use Rattle.command_floor.specs.Files.{in_lines, FileFails}
 use Rattle.command_floor.specs.Parsing.{GivenWords, shown}
 use Rattle.legal_report.specs.Solutions.{IsSolved}
-use Rattle.solve_commands.specs.declared.limits.TheConstants.{ENTRIES}
 use Rattle.solve_commands.specs.declared.sessions.TheConstants.{SESSIONS}
 use Rattle.solve_commands.specs.declared.solo.SoloWords.{SoloWords}
-use Rattle.solve_commands.specs.Runs.{limits_with, ShowsSettled}
+use Rattle.solve_commands.specs.Limits.{limits_given, AreInTable}
+use Rattle.solve_commands.specs.Runs.{ShowsSettled}
 use Rattle.solve_commands.specs.SessionFiles.{SessionsFail, AreQuestionsUnder, session_names}
 
--- what `solo` is asked: the limit on entries, a budget or none, and the names of a presentation and of the sessions
+-- what `solo` is asked: limits, and the names of a presentation and of the sessions
 pub record SoloAsked : Type 0 where
-  pub entries : ℕ
-  pub budget : Option ℕ
+  pub limits : Limits
   pub presentation : List ℕ
   pub sessions : List (List ℕ)
 
 -- what it is asked by what is given behind its name: a presentation, and 1 to so many sessions
 abbrev pub solo_in : GivenWords → Option SoloAsked
 solo_in g = option_map (λ n. record {
-  entries = unwrap_or g.settings.entries ENTRIES;
-  budget = g.settings.budget;
+  limits = limits_given g.settings;
   presentation = n.0;
   sessions = n.1;
 }) (session_names g.words)
@@ -42,21 +38,15 @@ solo_in g = option_map (λ n. record {
 -- what the code holds of it
 abbrev pub solo_asked : SoloWords → SoloAsked
 solo_asked w = record {
-  entries = w.entries;
-  budget = w.budget;
+  limits = w.limits;
   presentation = w.presentation.now;
   sessions = shown w.sessions.items;
 }
 
--- the limit on entries lies in its range, and there aren't too many sessions
+-- the limits are those that options can give, and there aren't too many sessions
 pub record IsWithinTable (w : SoloWords) : Type 0 where
-  pub least : LEAST_ENTRIES ≤ w.entries
-  pub most : w.entries ≤ MOST_ENTRIES
+  pub limits : AreInTable w.limits
   pub few : length w.sessions.items ≤ SESSIONS
-
--- the limits that the words give
-abbrev pub limits_of : SoloAsked → Limits
-limits_of q = limits_with q.entries q.budget
 
 -- p is the presentation of its text, where the shelf tells that
 abbrev pub IsPresentedIn : (List ℕ → Option (List ℕ)) → SoloAsked → Presented → Type 0
@@ -69,7 +59,7 @@ pub record IsFound (under : List ℕ → Option (List ℕ)) (q : SoloAsked) (r :
   pub presented : IsPresentedIn under q p
   pub questions : List (List Question)
   pub asked : AreQuestionsUnder under p q.sessions questions
-  pub solved : IsSolved p (limits_of q) questions r h
+  pub solved : IsSolved p q.limits questions r h
 
 -- the answer is the text of such a report, and is done exactly where the report is settled
 pub record ShowsSolo (under : List ℕ → Option (List ℕ)) (q : SoloAsked) (a : Answer) : Type 0 where

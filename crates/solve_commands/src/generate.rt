@@ -27,6 +27,7 @@ use session_core::Session;
 use session_text::{Question, read_session};
 use std::alloc::{AllocError, Global};
 use std::sync::Arc;
+use task_table::Order;
 
 /// The greatest seed.
 pub const MOST_SEED: u32 = 999_999_999;
@@ -108,7 +109,7 @@ fn summarize(alloc: Global, seed: u32, presentation: &[u8], session: &[u8]) -> R
 {
     let p = presentation_in(alloc, presentation)?;
     let p = Arc::new(alloc, p)?;
-    let limits = limits_with(ENTRIES, None);
+    let limits = limits_with(ENTRIES, None, Order::ByNumber);
     let book = opened(alloc, &p, limits)?;
     let questions = questions_in(alloc, &p, session)?;
     let sessions = one_session(alloc, questions, book.count())?;

@@ -1,11 +1,12 @@
 //! The limits of a run, and the book that is opened with them.
 
-ghost use Rattle.std.specs.Prelude.{◌≡◌, ◌≤◌, IfOk};
+ghost use Rattle.std.specs.Prelude.{◌≡◌, IfOk};
 ghost use Rattle.std.specs.Arc.{arc_value};
 ghost use Rattle.pair_book.specs.Books.{IsOpened};
-ghost use Rattle.command_floor.specs.declared.settings.TheConstants.{LEAST_ENTRIES, MOST_ENTRIES};
-ghost use Rattle.solve_commands.specs.Runs.{limits_with};
+ghost use Rattle.command_floor.specs.Settings.{AreInRange};
+ghost use Rattle.solve_commands.specs.Limits.{limits_with, order_given, limits_given, AreInTable};
 
+use command_floor::Settings;
 use pair_book::laws::generator_entries_are_within;
 use pair_book::{Book, Limits};
 use presentation::Presentation;
@@ -22,24 +23,43 @@ pub const LOG_TERMS: u32 = 8_000_000;
 /// The recipes of a log have at most so many steps in all.
 pub const LOG_STEPS: u32 = 8_000_000;
 
-/// The limits of a run with so many entries and this budget.
-pub fn limits_with(entries: u32, budget: Option<u32>) -> Limits
-    ensures { result ≡ limits_with entries budget }
+/// The limits of a run with so many entries, this budget and this order of tasks.
+pub fn limits_with(entries: u32, budget: Option<u32>, order: Order) -> Limits
+    ensures { result ≡ limits_with entries budget order }
 {
     Limits {
         entries,
         terms: LOG_TERMS,
         steps: LOG_STEPS,
         budget,
-        order: Order::ByNumber,
+        order,
     }
 }
 
-/// The book of the presentation before its completion. The limit on entries is one that the words can give.
+/// The order of tasks that has this number.
+fn order_given(number: Option<u32>) -> Order
+    ensures { result ≡ order_given number }
+{
+    match number {
+        None | Some(1) => Order::ByNumber,
+        Some(_) => Order::ByCost,
+    }
+}
+
+/// The limits of a run with these options.
+#[tactic(auto, using(crate::proofs::GivenLimits::entries_least, crate::proofs::GivenLimits::entries_most))]
+pub fn limits_given(settings: &Settings) -> Limits
+    requires { AreInRange settings.now }
+    ensures is { result ≡ limits_given settings.now }
+    ensures within { AreInTable result }
+{
+    let entries = settings.entries.unwrap_or(ENTRIES);
+    limits_with(entries, settings.budget, order_given(settings.order))
+}
+
+/// The book of the presentation before its completion.
 pub fn opened(alloc: Global, p: &Arc<Presentation>, limits: Limits) -> Result<Book, AllocError>
-    requires least { LEAST_ENTRIES ≤ limits.entries }
-    requires most { limits.entries ≤ MOST_ENTRIES }
-    requires terms { limits.terms ≡ LOG_TERMS }
+    requires { AreInTable limits }
     ensures { IfOk result (λ book. IsOpened (arc_value p.now) limits book) }
 {
     // The proof needs what holds of every presentation, and of its generators' entries; the calls say so.

@@ -7,28 +7,26 @@ ghost use Rattle.command_floor.specs.Parsing.{shown_given};
 ghost use Rattle.command_floor.specs.Settings.{AreInRange};
 ghost use Rattle.solve_commands.specs.Solo.{SoloGives, solo_in, solo_asked, IsWithinTable};
 
-use crate::limits::{ENTRIES, limits_with, opened};
+use crate::limits::{limits_given, opened};
 use crate::sessions::{load_sessions, session_names};
 use command_floor::{Given, Halt, load_presentation};
 use legal_report::solve;
 use mb_io::Shelf;
 use module_vec::VecList;
+use pair_book::Limits;
 use report_text::Report;
 use std::alloc::{AllocError, Global};
 use std::sync::Arc;
 
-/// What the command `solo` is asked: the limit on entries, the budget if there is one, and the names of a presentation
-/// and of the sessions.
+/// What the command `solo` is asked: limits, and the names of a presentation and of the sessions.
 #[derive(Drop)]
 pub struct SoloWords<'a> {
-    pub entries: u32,
-    pub budget: Option<u32>,
+    pub limits: Limits,
     pub presentation: &'a str,
     pub sessions: Vec<&'a str>,
 }
 
 /// What `solo` is asked by what is given behind its name, if that is of its form.
-#[tactic(auto, using(crate::proofs::SoloWords::entries_least, crate::proofs::SoloWords::entries_most))]
 pub fn words<'a>(alloc: Global, given: &Given<'a>) -> Result<Option<SoloWords<'a>>, AllocError>
     requires { AreInRange given.now.settings }
     ensures is { IfOk result (λ words. option_map solo_asked words ≡ solo_in (shown_given given.now)) }
@@ -39,8 +37,7 @@ pub fn words<'a>(alloc: Global, given: &Given<'a>) -> Result<Option<SoloWords<'a
     };
     let sessions = Vec::from_slice(alloc, sessions)?;
     Ok(Some(SoloWords {
-        entries: given.settings.entries.unwrap_or(ENTRIES),
-        budget: given.settings.budget,
+        limits: limits_given(&given.settings),
         presentation,
         sessions,
     }))
@@ -56,9 +53,8 @@ pub fn report<S: Shelf>(alloc: Global, shelf: &mut S, words: &SoloWords) -> Resu
 {
     let p = load_presentation(alloc, shelf, words.presentation)?;
     let p = Arc::new(alloc, p)?;
-    let limits = limits_with(words.entries, words.budget);
-    let book = opened(alloc, &p, limits)?;
+    let book = opened(alloc, &p, words.limits)?;
     let sessions = load_sessions(alloc, shelf, &p, &words.sessions, book.count())?;
-    let report = solve(alloc, &p, book, sessions, limits)?;
+    let report = solve(alloc, &p, book, sessions, words.limits)?;
     Ok(report)
 }

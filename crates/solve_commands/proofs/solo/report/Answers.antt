@@ -6,13 +6,12 @@ use Rattle.mb_io.proofs.Giving.{rose_later}
 use Rattle.presentation.specs.Presented.{Presented}
 use Rattle.session_core.specs.Sessions.{SessionState}
 use Rattle.basis_entry.specs.Entries.{BasisEntry}
-use Rattle.pair_book.specs.declared.limits.Limits.{Limits}
 use Rattle.pair_book.specs.Books.{Held}
 use Rattle.report_text.specs.Reports.{Reported, reported}
 use Rattle.legal_report.specs.Gathering.{questions_of}
 use Rattle.solve_commands.specs.SessionFiles.{AreQuestionsUnder}
 use Rattle.legal_report.specs.Solutions.{AreNewSessions, IsSolution}
-use Rattle.solve_commands.specs.Solo.{SoloAsked, solo_asked, limits_of, IsPresentedIn}
+use Rattle.solve_commands.specs.Solo.{SoloAsked, solo_asked, IsPresentedIn}
 use Rattle.solve_commands.proofs.SoloFound.{found, not_presented, halted, asked_same}
 use Rattle.solve_commands.proofs.solo.report.Goals as goal
 
@@ -50,12 +49,9 @@ returns-clause-gives g c =
     let ss : List SessionState = c.in_ok-sessions.sessions.items in
     let r : Reported = reported c.in_ok-report.report in
     let arc : arc_value c.in_ok-p-2.p ≡ p = search rules in
-    let bounds : c.limits_with-limits.result ≡ limits_of q = search rules in
     let presented : IsPresentedIn under q p = search rules in
     let asked : AreQuestionsUnder (g.S.Shelf.under c.load_presentation.new.shelf) p q.sessions (questions_of ss) = search rules in
-    let solution : IsSolution p (limits_of q) (questions_of ss) r =
-    subst (λ (l : Limits). IsSolution p l (questions_of ss) r) bounds
-    (subst (λ (x : Presented). IsSolution x c.limits_with-limits.result (questions_of ss) r) arc
-    c.in_ok-report.ensures) in
+    let solution : IsSolution p q.limits (questions_of ss) r =
+    subst (λ (x : Presented). IsSolution x q.limits (questions_of ss) r) arc c.in_ok-report.ensures in
     found under q p ss r presented (asked_same (g.S.Shelf.under c.load_presentation.new.shelf) under c.load_presentation.ensures.same p q.sessions
     (questions_of ss) asked) solution

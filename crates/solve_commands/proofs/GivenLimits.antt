@@ -1,4 +1,4 @@
--- The limit on entries that the words give.
+-- The limit on entries that options give.
 use Rattle.std.proofs.Common.{ℕ, ◌≤◌, Option, Some, None, unwrap_or, arith}
 use Rattle.command_floor.specs.declared.settings.Setting.TheVariants.{Entries}
 use Rattle.command_floor.specs.declared.settings.TheConstants.{LEAST_ENTRIES, MOST_ENTRIES}
