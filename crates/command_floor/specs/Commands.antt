@@ -4,7 +4,7 @@ use Rattle.std.specs.Str.{bytes_eq}
 use Rattle.command_floor.specs.declared.settings.Setting.{Setting}
 use Rattle.command_floor.specs.declared.settings.Setting.TheVariants.{Entries, Budget, Order}
 use Rattle.command_floor.specs.declared.commands.Command.{Command}
-use Rattle.command_floor.specs.declared.commands.Command.TheVariants.{Steps, Fox, Check, Solo, Gen}
+use Rattle.command_floor.specs.declared.commands.Command.TheVariants.{Steps, Fox, Check, Solo, Replay, Gen}
 use Rattle.command_floor.specs.declared.commands.Asked.{Asked}
 use Rattle.command_floor.specs.Parsing.{GivenWords, given_by, shown_given}
 
@@ -28,6 +28,7 @@ asked_of name ws =
     else if bytes_eq name (codes "fox") then asks Fox (codes "fox") [] ws
     else if bytes_eq name (codes "check") then asks Check (codes "check") [] ws
     else if bytes_eq name (codes "solo") then asks Solo (codes "solo") run_options ws
+    else if bytes_eq name (codes "replay") then asks Replay (codes "replay") run_options ws
     else if bytes_eq name (codes "gen") then asks Gen (codes "gen") [] ws
     else None
 

@@ -17,6 +17,7 @@ pub enum Command {
     Fox,
     Check,
     Solo,
+    Replay,
     Gen,
 }
 
@@ -64,6 +65,8 @@ fn command_of<'a>(
         behind(alloc, Command::Check, "check", &[], words)
     } else if name == "solo" {
         behind(alloc, Command::Solo, "solo", &run, words)
+    } else if name == "replay" {
+        behind(alloc, Command::Replay, "replay", &run, words)
     } else if name == "gen" {
         behind(alloc, Command::Gen, "gen", &[], words)
     } else {

@@ -5,6 +5,7 @@ mod Asking
 mod Answering
 mod Ranges
 pub mod Reportable
+mod Lasting
 mod TrueAnswers
 mod Accepted
 mod Solved

@@ -1,4 +1,4 @@
--- Legal reports can be written, and have their history.
+-- Legal reports can be written.
 use Rattle.std.proofs.Common.{◌≡◌, ◌≢◌, ℕ, zero, suc, ◌+◌, ◌<◌, ◌≤◌, ◌^◌, ◌⊎◌, inl, inr, Bool, pos, List, [], ◌∷◌, length, take, Option, Some, slice_get, sym}
 use Rattle.std.proofs.Common.{ap, subst, ◌∙◌, arith, refl}
 use Rattle.std.specs.List.{AllByRecursion}
@@ -27,18 +27,11 @@ use Rattle.pair_book.specs.Works.{Stops}
 use Rattle.pair_book.specs.declared.limits.Limits.{Limits}
 use Rattle.pair_book.proofs.OverStops.{stop_over}
 use Rattle.session_core.specs.declared.kept.Kept.{Kept}
-use Rattle.session_core.specs.Replies.{IsReply}
 use Rattle.session_core.specs.Sessions.{SessionState, AreRising}
-use Rattle.basis_entry.specs.Items.{seal_below, vectors_below}
-use Rattle.report_text.specs.Answers.{to_show}
-use Rattle.report_text.specs.Closing.{HasClosing, HasClosings}
-use Rattle.report_text.specs.Histories.{History, made_by}
-use Rattle.report_text.specs.Reports.{Reported, IsReportable, IsHistoryOf, IsRecord, IsSumOver, EntryIsOver, IsReplied, AreFrom}
-use Rattle.report_text.proofs.Existing.{history_there}
+use Rattle.report_text.specs.Histories.{made_by}
+use Rattle.report_text.specs.Reports.{Reported, IsReportable, IsRecord, IsSumOver, EntryIsOver, IsReplied, AreFrom}
 use Rattle.report_text.proofs.Lists.{all_first}
-use Rattle.report_text.proofs.Building.{proofs_there}
-use Rattle.report_text.proofs.Verdicts.{yes_is_shown}
-use Rattle.legal_report.specs.Legal.{IsLegal, IsLegalSession, AreByAll, seal_at}
+use Rattle.legal_report.specs.Legal.{IsLegal, IsLegalSession, seal_at}
 use Rattle.completion_solo.specs.Ends.{Ends}
 use Rattle.legal_report.proofs.Fronts.{rising_low}
 use Rattle.basis_entry.proofs.Vectors.{are_entries}
@@ -181,19 +174,3 @@ module _ (p : Presented) (limits : Limits) (questions : List (List Question)) (r
     replies = all_from (IsReplied r.pres r.entries r.seal) r.sessions (λ i s at.
         subst (λ (x : Presented). IsReplied x r.entries r.seal s) (sym is.pres) (legal_at i s at).1.replied);
   }
-
--- ---- the history
-
--- a reply by all items is a closing one
-closing : (p : Presented) (es : List BasisEntry) (seal : Option Seal) (q : Question) (k : Kept) → k.front ≡ item_count es seal
-    → IsReply p (take k.front es) (seal_below es seal k.front) q k → HasClosing p es seal q
-closing p es seal q k front reply =
-    let shown = proofs_there (vectors_below es k.front) (to_show q reply.verdict)
-    (yes_is_shown p (vectors_below es k.front) (seal_below es seal k.front) q reply.verdict reply.is) in
-    (record { front = k.front; verdict = reply.verdict; proofs = shown.0 }, record { front = front; reply = record { verdict = reply.is; proofs = shown.1 } })
-
-pub told : (r : Reported) → IsReportable r → AllByRecursion (λ s. AreByAll r.entries r.seal s.kept) r.sessions → (h : History) × IsHistoryOf r h
-told r is by_all = history_there r is (all_from (HasClosings r.pres r.entries r.seal) r.sessions (λ i s at j q k asked kept left.
-    let replied = all_at (IsReplied r.pres r.entries r.seal) r.sessions i s is.replies at in
-    let all = all_at (λ (s : SessionState). AreByAll r.entries r.seal s.kept) r.sessions i s by_all at in
-    closing r.pres r.entries r.seal q k (all_at (λ (k : Kept). k.front ≡ item_count r.entries r.seal) s.kept j k all kept) (replied.each j q k asked kept)))

@@ -17,10 +17,9 @@ use Rattle.report_text.specs.Reports.{Reported, IsReportable, IsHistoryOf, text_
 use Rattle.report_acceptance.specs.Accepting.{told_amount}
 use Rattle.legal_report.specs.Legal.{IsLegal, AreByAll}
 use Rattle.legal_report.specs.Gathering.{questions_of, AreAskers, AreAnsweredOn, AreReplies}
-use Rattle.legal_report.specs.Solutions.{IsNewSession, AreNewSessions, IsSolution}
+use Rattle.legal_report.specs.Solutions.{IsNewSession, AreNewSessions, IsConclusion, IsSolution}
 use Rattle.legal_report.proofs.TrueAnswers.{solved_answers}
-use Rattle.legal_report.proofs.Accepted.{holds_over}
-use Rattle.legal_report.proofs.Reportable.{all_from, stands, reportable, told}
+use Rattle.legal_report.proofs.Reportable.{all_from, stands}
 
 -- new sessions ask the book that was opened
 pub askers : (p : Presented) (limits : Limits) (h : Held) (ss : List SessionState) → IsOpened p limits h → AreNewSessions p (length h.entries) ss
@@ -37,32 +36,30 @@ askers p limits h ss opened new i s at =
       fronts = subst (AllByRecursion (λ k. k.front ≤ item_count h.entries h.seal)) (sym is.kept) tt;
     }
 
-sourced : (ss : List SessionState) → AllByRecursion IsSession ss → AllByRecursion (AllByRecursion HasSource) (questions_of ss)
+pub sourced : (ss : List SessionState) → AllByRecursion IsSession ss → AllByRecursion (AllByRecursion HasSource) (questions_of ss)
 sourced [] all = tt
 sourced (s ∷ ss) all = (all.0.sources, sourced ss all.1)
 
--- a legal report of new sessions that were answered, and which is accepted
+-- a conclusion of new sessions that were answered
 pub solution : (limits : Limits) (p : Presented) (least : ℕ) (ss : List SessionState) (r : Reported)
-    → IsPresented p → AllByRecursion IsSession ss → limits.entries + 1 < 2 ^ 32 → AreNewSessions p least ss
-    → IsLegal p limits (questions_of ss) r → AreAnsweredOn p r.entries r.seal ss r.sessions
-    → ((h : History) → IsHistoryOf r h → TellsWhole r.pres (text_of r h) (Ok (told_amount r h))) → IsSolution p limits (questions_of ss) r
-solution limits p least ss r known sources few new legal on accepted =
+    → IsPresented p → AllByRecursion IsSession ss → AreNewSessions p least ss
+    → IsConclusion p limits (questions_of ss) r → AreAnsweredOn p r.entries r.seal ss r.sessions → IsSolution p limits (questions_of ss) r
+solution limits p least ss r known sources new conclusion on =
     let by_all : AllByRecursion (λ s. AreByAll r.entries r.seal s.kept) r.sessions =
     all_from (λ (s : SessionState). AreByAll r.entries r.seal s.kept) r.sessions (λ i t at.
     let old = stands r.sessions ss i t at on.count in
     let is = on.each i old.0 t old.1 at in
     let kept : t.kept ≡ is.more = ap (λ (x : SessionState). x.kept) is.is ∙ ap (λ (ks : List Kept). ks ++ is.more) (new i old.0 old.1).kept in
     subst (AreByAll r.entries r.seal) (sym kept) is.by_all) in
-    let can : IsReportable r = reportable p limits (questions_of ss) r legal few in
-    let history = told r can by_all in
+    let told : IsHistoryOf r conclusion.history = conclusion.is_true.told in
     record {
-      reportable = can;
-      history = history.0;
+      reportable = conclusion.reportable;
+      history = conclusion.history;
       solved = record {
-        legal = legal;
+        legal = conclusion.is_true.legal;
         by_all = by_all;
-        told = history.1;
-        answers = solved_answers p limits (questions_of ss) r history.0 known (sourced ss sources) legal by_all history.1;
-        checked = holds_over p r history.0 legal.pres (accepted history.0 history.1);
+        told = told;
+        answers = solved_answers p limits (questions_of ss) r conclusion.history known (sourced ss sources) conclusion.is_true.legal by_all told;
+        checked = conclusion.is_true.checked;
       };
     }

@@ -1,7 +1,7 @@
 //! `gather`: the end of a run.
 
 ghost use Rattle.std.specs.List.{AllByRecursion};
-ghost use Rattle.std.specs.Prelude.{◌≡◌, ◌+◌, ◌≤◌, ◌++◌, ℕ, List, length, map, slice_get, Some, None, option_map, IfOk};
+ghost use Rattle.std.specs.Prelude.{◌≡◌, ◌≢◌, ◌+◌, ◌≤◌, ◌++◌, ℕ, List, length, map, slice_get, Some, None, option_map, IfOk};
 ghost use Rattle.std.specs.Prelude.{OnOk};
 ghost use Rattle.std.specs.Arc.{arc_value};
 ghost use Rattle.basis_entry.specs.Entries.{BasisEntry, AreOf, vectors_of};
@@ -184,9 +184,11 @@ pub fn gather(
     requires limits { book.limits ≡ limits }
     requires sessions { AreAskers book sessions.items }
     ensures legal { IfOk result (λ r. IsLegal (arc_value p.now) limits (questions_of sessions.items) (reported r)) }
-    // The log goes on where the book's ends, and replies stand.
+    // The log goes on where the book's ends, and a sealed one stays as it is. Replies stand.
     ensures begins { IfOk result (λ r. (more : List BasisEntry)
         × (map arc_value r.entries.items ≡ book.entries ++ more)) }
+    ensures sealed { IfOk result (λ r. book.seal ≢ None → (map arc_value r.entries.items ≡ book.entries)
+        × (option_map arc_value r.sealed ≡ book.seal)) }
     ensures stand { IfOk result (λ r. AreAnsweredOn (arc_value p.now) (map arc_value r.entries.items)
         (option_map arc_value r.sealed) sessions.items r.sessions.items) }
 {

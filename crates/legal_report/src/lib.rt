@@ -2,8 +2,10 @@
 #![tactic(auto)]
 
 mod gathering;
+mod last;
 pub mod laws;
 mod solving;
 
 pub use gathering::gather;
-pub use solving::solve;
+pub use last::{Kind, last_kinds};
+pub use solving::{Solved, conclude, solve};

@@ -1,13 +1,16 @@
-//! A completion of a presentation, and then the answers to all questions.
+//! What runs come to: a report, with the last verdicts on its questions.
 
-ghost use Rattle.std.specs.Prelude.{◌+◌, ◌<◌, ◌^◌, length, IfOk};
+ghost use Rattle.std.specs.Prelude.{◌≡◌, ◌+◌, ◌<◌, ◌^◌, length, IfOk};
 ghost use Rattle.std.specs.Arc.{arc_value};
 ghost use Rattle.pair_book.specs.Books.{IsOpened};
 ghost use Rattle.report_text.specs.Reports.{reported};
-ghost use Rattle.legal_report.specs.Gathering.{questions_of};
-ghost use Rattle.legal_report.specs.Solutions.{AreNewSessions, IsSolution};
+ghost use Rattle.legal_report.specs.Gathering.{questions_of, AreAskers};
+ghost use Rattle.legal_report.specs.Last.{AreLastKinds};
+ghost use Rattle.legal_report.specs.Solutions.{AreNewSessions, IsConclusion, GoesOnFrom, IsSolution};
 
 use crate::gathering::gather;
+use crate::last::{Kind, last_kinds};
+use crate::laws::answers_of_legal_reports_are_true;
 use pair_book::{Book, Limits};
 use presentation::Presentation;
 use report_acceptance::reports::report_is_accepted;
@@ -16,24 +19,59 @@ use session_core::Session;
 use std::alloc::{AllocError, Global};
 use std::sync::Arc;
 
+/// A report, and the kinds of the last verdicts on its questions, by session and question.
+#[derive(Drop)]
+pub struct Solved {
+    pub report: Report,
+    pub last: Vec<Kind>,
+}
+
+/// Ends a run over a book of the presentation and of these limits, as [`gather`] does, and finds the last verdicts.
+pub fn conclude(
+    alloc: Global,
+    p: &Arc<Presentation>,
+    book: Book,
+    sessions: Vec<Session>,
+    limits: Limits,
+) -> Result<Solved, AllocError>
+    requires source { book.source ≡ arc_value p.now }
+    requires limits { book.limits ≡ limits }
+    requires few { limits.entries + 1 < 2 ^ 32 }
+    requires sessions { AreAskers book sessions.items }
+    ensures conclusion { IfOk result (λ s. IsConclusion (arc_value p.now) limits (questions_of sessions.items)
+        (reported s.report)) }
+    ensures goes_on { IfOk result (λ s. GoesOnFrom (arc_value p.now) book.entries book.seal sessions.items
+        (reported s.report)) }
+    ensures last { IfOk result (λ s. AreLastKinds (reported s.report) s.last.items) }
+{
+    // The proof needs what the types keep, and the laws of legal reports; these calls say so, and do nothing.
+    p.known();
+    Session::all_known(&sessions);
+    answers_of_legal_reports_are_true();
+    let report = gather(alloc, p, book, sessions, limits)?;
+    let last = last_kinds(alloc, &report)?;
+    report_is_accepted(&report);
+    Ok(Solved { report, last })
+}
+
 /// The report of a completion and of the answers to all questions, over a book that was opened with these limits, and
 /// sessions before their first reply.
-#[tactic(auto, using(crate::proofs::Solved::askers, crate::proofs::Solved::solution))]
 pub fn solve(
     alloc: Global,
     p: &Arc<Presentation>,
     book: Book,
     sessions: Vec<Session>,
     limits: Limits,
-) -> Result<Report, AllocError>
+) -> Result<Solved, AllocError>
     requires opened { IsOpened (arc_value p.now) limits book }
     requires few { limits.entries + 1 < 2 ^ 32 }
     requires sessions { AreNewSessions (arc_value p.now) (length book.entries) sessions.items }
-    ensures { IfOk result (λ r. IsSolution (arc_value p.now) limits (questions_of sessions.items) (reported r)) }
+    ensures solution { IfOk result (λ s. IsSolution (arc_value p.now) limits (questions_of sessions.items)
+        (reported s.report)) }
+    ensures last { IfOk result (λ s. AreLastKinds (reported s.report) s.last.items) }
 {
     p.known();
     Session::all_known(&sessions);
-    let report = gather(alloc, p, book, sessions, limits)?;
-    report_is_accepted(&report);
-    Ok(report)
+    let solved = conclude(alloc, p, book, sessions, limits)?;
+    Ok(solved)
 }

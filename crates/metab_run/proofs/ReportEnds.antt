@@ -1,36 +1,46 @@
 -- How a run ends that has a report.
 use Rattle.std.proofs.Common.{◌≡◌, ℕ, inl, inr, List, [], ◌∷◌, ◌++◌, length, take, Option, Some, sym, ap, subst, ◌∙◌, refl}
 use Rattle.mb_io.specs.Shelf.{TakesPrefix}
-use Rattle.report_text.specs.Reports.{Reported, text_of}
+use Rattle.report_text.specs.Reports.{Reported, reported, text_of}
 use Rattle.report_text.specs.Writing.{Stops}
 use Rattle.command_floor.specs.declared.status.Status.{Status}
 use Rattle.command_floor.specs.declared.status.Status.TheVariants.{Done, Open, WriteFault, ReadFault}
 use Rattle.command_floor.specs.Answers.{Answer}
 use Rattle.command_floor.specs.Ends.{Ends}
-use Rattle.solve_commands.specs.Runs.{ShowsSettled, WritesReport, DeliversReport}
-use Rattle.solve_commands.specs.Solo.{SoloAsked, IsReady}
+use Rattle.legal_report.specs.declared.solving.Solved.{Solved}
+use Rattle.solve_commands.specs.Runs.{ShowsSettled, WritesReport, DeliversReport, IsDue}
+use Rattle.solve_commands.specs.Solo.{SoloAsked, SoloLeads}
+use Rattle.solve_commands.specs.Replay.{ReplayAsked, ReplayLeads}
 use Rattle.solve_commands.proofs.Settled as settled
-use Rattle.metab_run.specs.Words.{Request, Solo}
+use Rattle.metab_run.specs.Words.{Request, Solo, Replay}
 use Rattle.metab_run.specs.Owed.{Owed, owed}
 use Rattle.metab_run.specs.Top.{IsDueReport, EndsOwed}
 
 -- what `solo` finds is due to it
-pub solo_due : (counted : Type 0) (under : List ℕ → Option (List ℕ)) (asked : Option Request) (q : SoloAsked) (r : Reported)
-    → asked ≡ Some (Solo q) → IsReady under q r → IsDueReport (owed counted under asked) r
-solo_due counted under asked q r is ready = subst (λ (c : Option Request). IsDueReport (owed counted under c) r) (sym is) (record {
-  reports = tt;
-  promises = tt;
-  reportable = ready.reportable;
-  history = ready.history;
-  told = ready.found.solved.told;
-  leads = λ status shows. inl (record { report = r; history = ready.history; found = ready.found; text = refl; status = shows });
-})
+pub solo_due : (counted : Type 0) (under : List ℕ → Option (List ℕ)) (asked : Option Request) (q : SoloAsked) (s : Solved)
+    → asked ≡ Some (Solo q) → IsDue (SoloLeads counted under q) s → IsDueReport (owed counted under asked) s
+solo_due counted under asked q s is due =
+    subst (λ (c : Option Request). IsDueReport (owed counted under c) s) (sym is) (record { reports = tt; promises = tt; due = due })
+
+-- and what `replay` finds to it
+pub replay_due : (counted : Type 0) (under : List ℕ → Option (List ℕ)) (asked : Option Request) (q : ReplayAsked) (s : Solved)
+    → asked ≡ Some (Replay q) → IsDue (ReplayLeads counted under q) s → IsDueReport (owed counted under asked) s
+replay_due counted under asked q s is due =
+    subst (λ (c : Option Request). IsDueReport (owed counted under c) s) (sym is) (record { reports = tt; promises = tt; due = due })
+
+pub ruleset reports_due = (solo_due, replay_due)
 
 take_front : (xs ys : List ℕ) → take (length xs) (xs ++ ys) ≡ xs
 take_front [] ys = refl
 take_front (x ∷ xs) ys = ap (λ (zs : List ℕ). x ∷ zs) (take_front xs ys)
 
-module _ (o : Owed) (r : Reported) (due : IsDueReport o r) (failed : Type 0) (old new : Option (List ℕ)) where
+module _ (o : Owed) (s : Solved) (is : IsDueReport o s) (failed : Type 0) (old new : Option (List ℕ)) where
+  abbrev r : Reported
+  r = reported s.report
+
+  abbrev due : IsDue o.leads s
+  due = is.due
+
   abbrev text : List ℕ
   text = text_of r due.history
 
@@ -39,25 +49,25 @@ module _ (o : Owed) (r : Reported) (due : IsDueReport o r) (failed : Type 0) (ol
 
   part : Stops old text new → (a : Answer) × (n : ℕ) × o.leads a × TakesPrefix old (take n a.text) new
   part stops =
-      let status = settled.some_status r in
+      let status = settled.some_status due.history in
       let front : take (length stops.front) text ≡ stops.front = ap (take (length stops.front)) stops.is ∙ take_front stops.front stops.rest in (
         told_answer status.0,
         length stops.front,
-        due.leads status.0 status.1,
+        due.shows status.0 status.1,
         subst (λ (bs : List ℕ). TakesPrefix old bs new) (sym front) stops.took,
       )
 
   abbrev goes : Status → Type 0
   goes status = EndsOwed o failed old new status
 
-  whole : (status : Status) → ShowsSettled r status → TakesPrefix old text new → goes status
-  whole status (inl shows) took = subst goes (sym shows.0) (told_answer Done, due.leads Done (inl (refl, shows.1)), refl, took)
-  whole status (inr shows) took = subst goes (sym shows.0) (told_answer Open, due.leads Open (inr (refl, shows.1)), refl, took)
+  whole : (status : Status) → ShowsSettled due.history status → TakesPrefix old text new → goes status
+  whole status (inl shows) took = subst goes (sym shows.0) (told_answer Done, due.shows Done (inl (refl, shows.1)), refl, took)
+  whole status (inr shows) took = subst goes (sym shows.0) (told_answer Open, due.shows Open (inr (refl, shows.1)), refl, took)
 
   ends_by : (status : Status) → WritesReport failed old new r due.history status → goes status
   ends_by status (inl d) = whole status d.0 d.1
   ends_by status (inr (inl d)) = subst goes (sym d.0) (d.1, part d.2)
-  ends_by status (inr (inr d)) = subst goes (sym d.0) (inr (due.reports, part d.1))
+  ends_by status (inr (inr d)) = subst goes (sym d.0) (inr (is.reports, part d.1))
 
   pub report_ends : (status : Status) → DeliversReport failed old new r status → EndsOwed o failed old new status
   report_ends status d = ends_by status (d due.history due.told)

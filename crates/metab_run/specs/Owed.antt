@@ -5,8 +5,9 @@ use Rattle.check_commands.specs.Steps.{StepsLead, AskedTrivial}
 use Rattle.check_commands.specs.Fox.{FoxLeads}
 use Rattle.check_commands.specs.Check.{CheckLeads, AskedTrue}
 use Rattle.solve_commands.specs.Solo.{SoloLeads}
+use Rattle.solve_commands.specs.Replay.{ReplayLeads}
 use Rattle.solve_commands.specs.Generate.{GenLeads}
-use Rattle.metab_run.specs.Words.{Request, Steps, Fox, Check, Solo, Gen, request}
+use Rattle.metab_run.specs.Words.{Request, Steps, Fox, Check, Solo, Replay, Gen, request}
 
 -- which answers are due to a command, whether its answer is a report, and what its yes promises
 pub record Owed : Type 1 where
@@ -26,6 +27,8 @@ owed counted under (Some (Check q)) =
     record { leads = CheckLeads counted under q; reports = ⊥; promises = AskedTrue under q }
 owed counted under (Some (Solo q)) =
     record { leads = SoloLeads counted under q; reports = Unit {0}; promises = Unit {0} }
+owed counted under (Some (Replay q)) =
+    record { leads = ReplayLeads counted under q; reports = Unit {0}; promises = Unit {0} }
 owed counted under (Some (Gen seed)) = record { leads = GenLeads seed; reports = ⊥; promises = Unit {0} }
 
 -- what is owed to these words

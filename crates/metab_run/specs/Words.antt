@@ -8,7 +8,10 @@ use Rattle.check_commands.specs.Steps.{StepsAsked, steps_in, steps_asked}
 use Rattle.check_commands.specs.Fox.{FoxAsked, fox_in, fox_asked}
 use Rattle.check_commands.specs.Check.{CheckAsked, check_in, check_asked}
 use Rattle.solve_commands.specs.declared.generate.TheConstants.{MOST_SEED}
-use Rattle.solve_commands.specs.Solo.{SoloAsked, solo_in, solo_asked, IsWithinTable}
+use Rattle.solve_commands.specs.Solo.{SoloAsked, solo_in, solo_asked}
+use Rattle.solve_commands.specs.Solo as solo
+use Rattle.solve_commands.specs.Replay.{ReplayAsked, replay_in, replay_asked}
+use Rattle.solve_commands.specs.Replay as replay
 use Rattle.solve_commands.specs.Generate.{gen_in}
 use Rattle.metab_run.specs.declared.words.Asks.{Asks}
 use Rattle.metab_run.specs.declared.words.Asks.TheVariants as code
@@ -19,6 +22,7 @@ pub data Request : Type 0 where
   Fox : FoxAsked → Request
   Check : CheckAsked → Request
   Solo : SoloAsked → Request
+  Replay : ReplayAsked → Request
   Gen : ℕ → Request
 
 -- what a command asks by what is given behind its name, where that is of its form
@@ -27,6 +31,7 @@ request_by commands.Steps g = option_map Steps (steps_in g)
 request_by commands.Fox g = option_map Fox (fox_in g)
 request_by commands.Check g = option_map Check (check_in g)
 request_by commands.Solo g = option_map Solo (solo_in g)
+request_by commands.Replay g = option_map Replay (replay_in g)
 request_by commands.Gen g = option_map Gen (gen_in g)
 
 -- what the words of the command line ask for
@@ -39,6 +44,7 @@ request_of (code.Steps w) = Steps (steps_asked w)
 request_of (code.Fox w) = Fox (fox_asked w)
 request_of (code.Check w) = Check (check_asked w)
 request_of (code.Solo w) = Solo (solo_asked w)
+request_of (code.Replay w) = Replay (replay_asked w)
 request_of (code.Gen seed) = Gen seed
 
 -- the numbers in it are within the table
@@ -46,5 +52,6 @@ abbrev pub HasLimits : Asks → Type 0
 HasLimits (code.Steps w) = Unit {0}
 HasLimits (code.Fox w) = Unit {0}
 HasLimits (code.Check w) = Unit {0}
-HasLimits (code.Solo w) = IsWithinTable w
+HasLimits (code.Solo w) = solo.IsWithinTable w
+HasLimits (code.Replay w) = replay.IsWithinTable w
 HasLimits (code.Gen seed) = seed ≤ MOST_SEED

@@ -1,5 +1,7 @@
 //! What no clause says: that the runs below end as a user expects, with ample memory.
 
+mod replays;
+
 use super::{DERIVATION_BYTES, PRESENTATION_BYTES, Status, metab_alone};
 use mb_io::{MemShelf, MemSink, NamedBytes};
 use std::alloc::{AllocError, Global};

@@ -8,43 +8,35 @@ ghost use Rattle.metab_run.specs.Top.{FindsOwed, EndsOwed};
 use crate::words::{Asks, read_words};
 use check_commands::{check, fox, steps};
 use command_floor::{Answer, Halt, Status, deliver};
+use legal_report::Solved;
 use mb_io::{Shelf, Sink};
-use report_text::Report;
-use solve_commands::{deliver_report, generate, solo};
-use std::alloc::{AllocError, Global};
+use solve_commands::{deliver_report, generate, replay, solo};
+use std::alloc::Global;
 
 /// What a command comes to: an answer, or a report.
 #[derive(Drop)]
 enum Found {
     Says(Answer),
-    Reports(Report),
+    Reports(Solved),
 }
 
 /// What is found for these words.
-#[tactic(auto, using(crate::proofs::ReportEnds::solo_due))]
-fn find<S: Shelf>(alloc: Global, words: &[String], shelf: &mut S) -> Result<Found, AllocError>
-    ensures finds { IfOk result (FindsOwed (owed_to (CountRose (S.faults shelf.old) (S.faults shelf.new))
-        (S.under shelf.old) (map string_bytes words.now)) (CountRose (S.faults shelf.old) (S.faults shelf.new))) }
+#[tactic(auto, using(crate::proofs::ReportEnds::reports_due))]
+fn find<S: Shelf>(alloc: Global, words: &[String], shelf: &mut S) -> Result<Found, Halt>
+    ensures finds { FindsOwed (owed_to (CountRose (S.faults shelf.old) (S.faults shelf.new))
+        (S.under shelf.old) (map string_bytes words.now)) (CountRose (S.faults shelf.old) (S.faults shelf.new)) result }
     ensures later { S.faults shelf.old ≤ S.faults shelf.new }
 {
     let Some(asks) = read_words(alloc, words)? else {
         return Ok(Found::Says(Answer::refused_words(alloc)?));
     };
-    let answered = match asks {
-        Asks::Steps(words) => steps::answer(alloc, shelf, &words),
-        Asks::Fox(words) => fox::answer(alloc, shelf, &words),
-        Asks::Check(words) => check::answer(alloc, shelf, &words),
-        Asks::Solo(words) => match solo::report(alloc, shelf, &words) {
-            Ok(report) => return Ok(Found::Reports(report)),
-            Err(Halt::Says(answer)) => return Ok(Found::Says(answer)),
-            Err(Halt::NoMemory) => return Err(AllocError),
-        },
-        Asks::Gen(seed) => generate::answer(alloc, seed),
-    };
-    match answered {
-        Ok(answer) => Ok(Found::Says(answer)),
-        Err(Halt::Says(answer)) => Ok(Found::Says(answer)),
-        Err(Halt::NoMemory) => Err(AllocError),
+    match asks {
+        Asks::Steps(words) => Ok(Found::Says(steps::answer(alloc, shelf, &words)?)),
+        Asks::Fox(words) => Ok(Found::Says(fox::answer(alloc, shelf, &words)?)),
+        Asks::Check(words) => Ok(Found::Says(check::answer(alloc, shelf, &words)?)),
+        Asks::Solo(words) => Ok(Found::Reports(solo::report(alloc, shelf, &words)?)),
+        Asks::Replay(words) => Ok(Found::Reports(replay::report(alloc, shelf, &words)?)),
+        Asks::Gen(seed) => Ok(Found::Says(generate::answer(alloc, seed)?)),
     }
 }
 
@@ -58,6 +50,9 @@ fn find<S: Shelf>(alloc: Global, words: &[String], shelf: &mut S) -> Result<Foun
 /// answered by all items of the log. A word is called trivial only where moves carry it to the empty word, and a map is
 /// said to extend only where it does. Where the log is sealed, both are said wherever they hold, a limit that is named
 /// aside, and nothing is unknown (Magnus 1939, Lichtblau 2012).
+///
+/// `replay` plays a schedule of workers and sessions first, and goes on as `solo` from the state to which that leads:
+/// the questions that were asked by then keep their answers, by the items of that moment.
 #[tactic(auto, using(command_floor::proofs::Ending::ends_delivered, crate::proofs::ReportEnds::reports_end))]
 pub fn metab_alone<S: Shelf, K: Sink>(
     alloc: Global,
@@ -83,7 +78,8 @@ pub fn metab_alone<S: Shelf, K: Sink>(
 {
     match find(alloc, words, shelf) {
         Ok(Found::Says(answer)) => deliver(out, &answer),
-        Ok(Found::Reports(report)) => deliver_report(alloc, &report, out),
-        Err(_) => Status::NoMemory,
+        Ok(Found::Reports(solved)) => deliver_report(alloc, &solved, out),
+        Err(Halt::Says(answer)) => deliver(out, &answer),
+        Err(Halt::NoMemory) => Status::NoMemory,
     }
 }

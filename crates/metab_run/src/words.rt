@@ -10,6 +10,7 @@ use check_commands::fox::{self, FoxWords};
 use check_commands::steps::{self, StepsWords};
 use command_floor::{Asked, Command, read_command};
 use solve_commands::generate;
+use solve_commands::replay::{self, ReplayWords};
 use solve_commands::solo::{self, SoloWords};
 use std::alloc::{AllocError, Global};
 
@@ -20,6 +21,7 @@ pub enum Asks<'a> {
     Fox(FoxWords<'a>),
     Check(CheckWords<'a>),
     Solo(SoloWords<'a>),
+    Replay(ReplayWords<'a>),
     /// The seed.
     Gen(u32),
 }
@@ -39,6 +41,10 @@ fn asked_by<'a>(alloc: Global, asked: &Asked<'a>) -> Result<Option<Asks<'a>>, Al
         Command::Solo => match solo::words(alloc, given)? {
             None => Ok(None),
             Some(words) => Ok(Some(Asks::Solo(words))),
+        },
+        Command::Replay => match replay::words(alloc, given)? {
+            None => Ok(None),
+            Some(words) => Ok(Some(Asks::Replay(words))),
         },
         Command::Gen => match generate::words(given) {
             None => Ok(None),

@@ -12,9 +12,9 @@ use Rattle.task_table.specs.declared.order.Order.TheVariants.{ByNumber}
 use Rattle.pair_book.specs.declared.limits.Limits.{Limits}
 use Rattle.session_core.specs.Questions.{CanBeAsked}
 use Rattle.session_core.specs.Sessions.{SessionState}
-use Rattle.report_text.specs.Reports.{Reported}
+use Rattle.report_text.specs.Histories.{History}
+use Rattle.report_text.specs.Reports.{Reported, IsHistoryOf}
 use Rattle.solve_commands.specs.declared.limits.TheConstants.{ENTRIES}
-use Rattle.solve_commands.specs.declared.sessions.TheConstants.{SESSIONS}
 use Rattle.command_floor.specs.declared.answer.Halt.{Halt}
 use Rattle.command_floor.specs.declared.answer.Halt.TheVariants.{Says, NoMemory}
 use Rattle.command_floor.specs.Answers.{Answer}
@@ -43,13 +43,6 @@ new_one p least qs ss is asked =
       questions = asked;
     }))
 
-pub few_sessions : (p : Presented) (limits : Limits) (questions : List (List Question)) (qs : List Question) (r : Reported) → questions ≡ qs ∷ []
-    → IsSolution p limits questions r → length r.sessions ≤ SESSIONS
-few_sessions p limits questions qs r one solution =
-    let count : length r.sessions ≡ length questions = solution.solved.legal.count in
-    let single : length questions ≡ 1 = ap length one in
-    omega (arith, count, single)
-
 -- ---- what the texts lead to
 
 module _ (seed : ℕ) (pres session : List ℕ) where
@@ -73,15 +66,16 @@ module _ (seed : ℕ) (pres session : List ℕ) where
 
   pub summed : (p : Presented) (questions : List (List Question)) (qs : List Question) (r : Reported) (a : Answer) → in_lines presentation_text pres ≡ Ok p
       → session_text p session ≡ Ok qs
-      → questions ≡ qs ∷ [] → IsSolution p (limits_with ENTRIES None ByNumber) questions r → a.text ≡ summary seed r → ShowsSettled r a.status
-      → TextsLead seed pres session a
-  summed p questions qs r a is read one solution text status =
+      → questions ≡ qs ∷ [] → IsSolution p (limits_with ENTRIES None ByNumber) questions r
+      → ((h : History) → IsHistoryOf r h → (a.text ≡ summary seed h) × ShowsSettled h a.status) → TextsLead seed pres session a
+  summed p questions qs r a is read one solution shown =
+      let told = shown solution.history solution.solved.told in
       let shows : ShowsGen seed p qs a =
       record {
         report = r;
         history = solution.history;
         solved = subst (λ (all : List (List Question)). IsSolved p (limits_with ENTRIES None ByNumber) all r solution.history) one solution.solved;
-        text = text;
-        status = status;
+        text = told.0;
+        status = told.1;
       } in
       goes_on p a is (subst (λ (found : Result (List Question) SessionFault). QuestionsLead (codes "session") found (ShowsGen seed p) a) (sym read) shows)

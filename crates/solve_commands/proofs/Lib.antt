@@ -1,7 +1,7 @@
-mod Counts
 mod Generated
 pub mod SessionFiles
-mod Settling
 mod SoloFound
+mod Replayed
+mod ReplayFound
 mod GivenLimits
 pub mod Settled

@@ -8,7 +8,8 @@ use Rattle.presentation.specs.Presented.{Presented}
 use Rattle.session_text.specs.declared.question.Question.{Question}
 use Rattle.session_core.specs.Sessions.{SessionState}
 use Rattle.legal_report.specs.Gathering.{questions_of}
-use Rattle.solve_commands.specs.SessionFiles.{AreQuestionsIn, AreQuestionsUnder}
+use Rattle.command_floor.specs.Answers.{Answer}
+use Rattle.solve_commands.specs.SessionFiles.{AreQuestionsIn, AreQuestionsUnder, SessionFails, SessionsFail}
 use Rattle.legal_report.specs.Solutions.{IsNewSession, AreNewSessions}
 use Rattle.legal_report.proofs.Fronts.{split_get}
 
@@ -93,3 +94,39 @@ all_read under p least names n ss read le = subst (λ (ns : List (List ℕ)). Ar
     whole [] (suc m) le = refl
     whole (x ∷ xs) zero le = absurd (omega (arith, le))
     whole (x ∷ xs) (suc m) le = ap (λ (ys : List (List ℕ)). x ∷ ys) (whole xs m (omega (arith, le)))
+
+-- ---- a shelf that tells the same
+
+module _ (u v : List ℕ → Option (List ℕ)) (same : (n : List ℕ) → u n ≡ v n) where
+  -- the questions of the sessions
+  questions_same : (p : Presented) (names : List (List ℕ)) (qss : List (List Question)) → AreQuestionsUnder u p names qss → AreQuestionsUnder v p names qss
+  questions_same p [] [] are = tt
+  questions_same p [] (qs ∷ qss) are = absurd are
+  questions_same p (name ∷ names) [] are = absurd are
+  questions_same p (name ∷ names) (qs ∷ qss) are = (
+    subst (λ (told : Option (List ℕ)). AreQuestionsIn p told qs) (same name) are.0,
+    questions_same p names qss are.1,
+  )
+
+  fails_same : (counted later : Type 0) → (counted → later) → (p : Presented) (name : List ℕ) (told : Option (List ℕ)) (a : Answer)
+      → SessionFails counted p name told a → SessionFails later p name told a
+  fails_same counted later on p name told a (inl h) = inl (on h.0, h.1)
+  fails_same counted later on p name told a (inr h) = inr h
+
+  -- what goes wrong with one of them
+  pub fail_same : (counted later : Type 0) → (counted → later) → (p : Presented) (names : List (List ℕ)) (a : Answer) → SessionsFail counted u p names a
+      → SessionsFail later v p names a
+  fail_same counted later on p names a fail = record {
+    place = fail.place;
+    name = fail.name;
+    is = fail.is;
+    before = fail.before;
+    read = questions_same p (take fail.place names) fail.before fail.read;
+    fails = fails_same counted later on p fail.name (v fail.name) a (subst (λ (told : Option (List ℕ)). SessionFails counted p fail.name told a)
+        (same fail.name) fail.fails);
+  }
+
+-- the questions of sessions that were read from a shelf which tells the same
+pub asked_same : (u v : List ℕ → Option (List ℕ)) → ((n : List ℕ) → u n ≡ v n) → (p : Presented) (names : List (List ℕ)) (qss : List (List Question))
+    → AreQuestionsUnder u p names qss → AreQuestionsUnder v p names qss
+asked_same u v same p names qss are = questions_same u v same p names qss are

@@ -1,33 +1,14 @@
 -- Whether a report is settled, and what its delivery isn't.
-use Rattle.std.proofs.Common.{◌≡◌, ◌⊎◌, ℕ, inl, inr, List, [], ◌∷◌, Option, sym, ◌∙◌, refl}
-use Rattle.std.specs.List.{AllByRecursion}
+use Rattle.std.proofs.Common.{◌≡◌, ◌⊎◌, ℕ, zero, suc, inl, inr, List, Option, sym, ◌∙◌, arith, refl}
 use Rattle.outcomes.specs.declared.ends.End.{End}
 use Rattle.outcomes.specs.declared.ends.End.TheVariants as ends
-use Rattle.session_core.specs.declared.kept.Tag.{Tag}
-use Rattle.session_core.specs.declared.kept.Tag.TheVariants as tags
 use Rattle.report_text.specs.Histories.{History}
 use Rattle.report_text.specs.Reports.{Reported, IsHistoryOf}
 use Rattle.command_floor.specs.declared.status.Status.{Status}
 use Rattle.command_floor.specs.declared.status.Status.TheVariants.{Done, Open, WriteFault, NoMemory, ReadFault}
-use Rattle.solve_commands.specs.Runs.{IsNoStop, HasNoStop, ShowsSettled, WritesReport, DeliversReport}
-
-no_stop_or : (t : Tag) → IsNoStop t ⊎ (IsNoStop t → ⊥)
-no_stop_or tags.Trivial = inl tt
-no_stop_or tags.NotTrivial = inl tt
-no_stop_or tags.Normal = inl tt
-no_stop_or tags.Extends = inl tt
-no_stop_or (tags.Fails j) = inl tt
-no_stop_or (tags.Unknown j) = inl tt
-no_stop_or (tags.Stop j stop) = inr (λ h. h)
-
-all_or : {A : Type 0} (P : A → Type 0) → ((x : A) → P x ⊎ (P x → ⊥)) → (xs : List A) → AllByRecursion P xs ⊎ (AllByRecursion P xs → ⊥)
-all_or P test [] = inl tt
-all_or P test (x ∷ xs) = both (test x) (all_or P test xs)
-  where
-    both : P x ⊎ (P x → ⊥) → AllByRecursion P xs ⊎ (AllByRecursion P xs → ⊥) → (P x × AllByRecursion P xs) ⊎ (P x × AllByRecursion P xs → ⊥)
-    both (inl h) (inl all) = inl (h, all)
-    both (inl h) (inr not) = inr (λ k. not k.1)
-    both (inr not) other = inr (λ k. not k.0)
+use Rattle.legal_report.specs.declared.last.Kind.TheVariants.{Stop}
+use Rattle.legal_report.specs.Last.{how_many, last_kinds}
+use Rattle.solve_commands.specs.Runs.{ShowsSettled, WritesReport, DeliversReport}
 
 sealed_or : (e : End) → (e ≡ ends.Sealed) ⊎ (e ≡ ends.Sealed → ⊥)
 sealed_or ends.Sealed = inl refl
@@ -35,15 +16,19 @@ sealed_or (ends.Stopped t stop) = inr (λ e. absurd cc)
 sealed_or (ends.Full m c) = inr (λ e. absurd cc)
 sealed_or (ends.Spent c t) = inr (λ e. absurd cc)
 
-settled_by : (r : Reported) → (r.end ≡ ends.Sealed) ⊎ (r.end ≡ ends.Sealed → ⊥) → AllByRecursion HasNoStop r.sessions
-    ⊎ (AllByRecursion HasNoStop r.sessions → ⊥) → (status : Status) × ShowsSettled r status
-settled_by r (inl e) (inl all) = (Done, inl (refl, (e, all)))
-settled_by r (inl e) (inr not) = (Open, inr (refl, λ h. not h.1))
-settled_by r (inr not) other = (Open, inr (refl, λ h. not h.0))
+none_or : (n : ℕ) → (n ≡ 0) ⊎ (n ≡ 0 → ⊥)
+none_or zero = inl refl
+none_or (suc n) = inr (λ e. absurd (omega (arith, e)))
+
+settled_by : (h : History) → (h.end ≡ ends.Sealed) ⊎ (h.end ≡ ends.Sealed → ⊥)
+    → (how_many Stop (last_kinds h) ≡ 0) ⊎ (how_many Stop (last_kinds h) ≡ 0 → ⊥) → (status : Status) × ShowsSettled h status
+settled_by h (inl e) (inl none) = (Done, inl (refl, (e, none)))
+settled_by h (inl e) (inr some) = (Open, inr (refl, λ is. some is.1))
+settled_by h (inr not) other = (Open, inr (refl, λ is. not is.0))
 
 -- a status that shows whether the report is settled
-pub some_status : (r : Reported) → (status : Status) × ShowsSettled r status
-some_status r = settled_by r (sealed_or r.end) (all_or HasNoStop (λ s. all_or (λ k. IsNoStop k.tag) (λ k. no_stop_or k.tag) s.kept) r.sessions)
+pub some_status : (h : History) → (status : Status) × ShowsSettled h status
+some_status h = settled_by h (sealed_or h.end) (none_or (how_many Stop (last_kinds h)))
 
 -- a report that was delivered is no read fault, and a write fault only where the sink has counted one
 module _ (failed : Type 0) (old new : Option (List ℕ)) (r : Reported) (status : Status) where

@@ -1,14 +1,11 @@
 -- What the command `solo` answers.
-use Rattle.std.specs.Prelude.{◌≡◌, ◌≢◌, ◌≤◌, ◌⊎◌, ℕ, List, length, Option, IfSome, Result, Ok, Err, option_map}
+use Rattle.std.specs.Prelude.{◌≡◌, ◌≢◌, ◌≤◌, ◌⊎◌, ℕ, List, length, Option, option_map}
 use Rattle.presentation.specs.Presented.{Presented}
 use Rattle.presentation.specs.Reading.{presentation_text}
 use Rattle.session_text.specs.declared.question.Question.{Question}
 use Rattle.pair_book.specs.declared.limits.Limits.{Limits}
-use Rattle.report_text.specs.declared.report.Report.{Report}
 use Rattle.report_text.specs.Histories.{History}
-use Rattle.report_text.specs.Reports.{Reported, IsReportable, reported, text_of}
-use Rattle.command_floor.specs.declared.answer.Halt.{Halt}
-use Rattle.command_floor.specs.declared.answer.Halt.TheVariants as halts
+use Rattle.report_text.specs.Reports.{Reported, text_of}
 use Rattle.command_floor.specs.declared.status.Status.TheVariants.{Done, Open}
 use Rattle.command_floor.specs.declared.TheConstants.{PRESENTATION_BYTES}
 use Rattle.command_floor.specs.Answers.{Answer}
@@ -18,6 +15,7 @@ use Rattle.legal_report.specs.Solutions.{IsSolved}
 use Rattle.solve_commands.specs.declared.sessions.TheConstants.{SESSIONS}
 use Rattle.solve_commands.specs.declared.solo.SoloWords.{SoloWords}
 use Rattle.solve_commands.specs.Limits.{limits_given, AreInTable}
+use Rattle.solve_commands.specs.Presentations.{IsPresentedIn}
 use Rattle.solve_commands.specs.Runs.{ShowsSettled}
 use Rattle.solve_commands.specs.SessionFiles.{SessionsFail, AreQuestionsUnder, session_names}
 
@@ -48,15 +46,10 @@ pub record IsWithinTable (w : SoloWords) : Type 0 where
   pub limits : AreInTable w.limits
   pub few : length w.sessions.items ≤ SESSIONS
 
--- p is the presentation of its text, where the shelf tells that
-abbrev pub IsPresentedIn : (List ℕ → Option (List ℕ)) → SoloAsked → Presented → Type 0
-IsPresentedIn under q p = IfSome (under q.presentation) (λ bytes. (length bytes ≤ PRESENTATION_BYTES)
-    × (in_lines presentation_text bytes ≡ Ok p))
-
 -- the texts have these values, where the shelf tells them, and this is a solved report on them
 pub record IsFound (under : List ℕ → Option (List ℕ)) (q : SoloAsked) (r : Reported) (h : History) : Type 0 where
   pub p : Presented
-  pub presented : IsPresentedIn under q p
+  pub presented : IsPresentedIn under q.presentation p
   pub questions : List (List Question)
   pub asked : AreQuestionsUnder under p q.sessions questions
   pub solved : IsSolved p q.limits questions r h
@@ -67,28 +60,14 @@ pub record ShowsSolo (under : List ℕ → Option (List ℕ)) (q : SoloAsked) (a
   pub history : History
   pub found : IsFound under q report history
   pub text : a.text ≡ text_of report history
-  pub status : ShowsSettled report a.status
+  pub status : ShowsSettled history a.status
 
 -- Nothing is reported: the presentation's text has no value, or it has one, and one of the sessions' texts has none
 abbrev pub SoloFails : Type 0 → (List ℕ → Option (List ℕ)) → SoloAsked → Answer → Type 0
 SoloFails counted under q a = (a.status ≢ Done) × (a.status ≢ Open) × (
     FileFails counted PRESENTATION_BYTES q.presentation (under q.presentation) (in_lines presentation_text) a
-    ⊎ ((p : Presented) × IsPresentedIn under q p × SessionsFail counted under p q.sessions a))
+    ⊎ ((p : Presented) × IsPresentedIn under q.presentation p × SessionsFail counted under p q.sessions a))
 
 -- the answer that is due to `solo` over these texts; `counted` says that the shelf has counted a failure
 abbrev pub SoloLeads : Type 0 → (List ℕ → Option (List ℕ)) → SoloAsked → Answer → Type 0
 SoloLeads counted under q a = ShowsSolo under q a ⊎ SoloFails counted under q a
-
--- ---- what the code gives
-
--- the report can be written, and has a history, with which it is the one that is to be found
-pub record IsReady (under : List ℕ → Option (List ℕ)) (q : SoloAsked) (r : Reported) : Type 0 where
-  pub reportable : IsReportable r
-  pub history : History
-  pub found : IsFound under q r history
-
--- what `solo` finds: a report, or the answer that is due, unless memory runs out
-abbrev pub SoloGives : Type 0 → (List ℕ → Option (List ℕ)) → SoloAsked → Result Report Halt → Type 0
-SoloGives counted under q (Ok r) = IsReady under q (reported r)
-SoloGives counted under q (Err (halts.Says a)) = SoloLeads counted under q a
-SoloGives counted under q (Err halts.NoMemory) = Unit {0}

@@ -1,71 +1,43 @@
 //! Writing a report.
 
-ghost use Rattle.std.specs.List.{AllByRecursion};
-ghost use Rattle.std.specs.Prelude.{◌≡◌, ◌≤◌, ◌↔◌, length, IsTrue};
+ghost use Rattle.std.specs.Prelude.{◌≤◌};
 ghost use Rattle.mb_io.specs.Shelf.{CountRose};
-ghost use Rattle.report_text.specs.Reports.{reported, IsReportable};
-ghost use Rattle.solve_commands.specs.Runs.{HasNoStop, IsSettled, DeliversReport};
+ghost use Rattle.report_text.specs.Histories.{History};
+ghost use Rattle.report_text.specs.Reports.{reported, IsReportable, IsHistoryOf};
+ghost use Rattle.command_floor.specs.Answers.{IsSaid};
+ghost use Rattle.legal_report.specs.Last.{AreLastKinds};
+ghost use Rattle.solve_commands.specs.Runs.{ShowsSettled, DeliversReport};
 
 use command_floor::Status;
+use legal_report::{Kind, Solved};
 use mb_io::Sink;
 use outcomes::End;
-use report_text::{Report, WriteFault, write_report};
-use session_core::{Session, Tag};
+use report_text::{WriteFault, write_report};
 use std::alloc::Global;
 
-/// Whether no reply of the session is a stop.
-#[tactic(auto, using(crate::proofs::Settling::settling))]
-fn has_no_stop(session: &Session) -> bool
-    requires { length session.now.kept ≡ length session.now.questions }
-    ensures { IsTrue result ↔ HasNoStop session.now }
+/// The status that shows whether the report is settled: its log is sealed, and no last verdict is a stop.
+pub fn status_of(solved: &Solved) -> Status
+    requires { AreLastKinds (reported solved.now.report) solved.now.last.items }
+    ensures shows { (h : History) → IsHistoryOf (reported solved.now.report) h → ShowsSettled h result }
+    ensures said { IsSaid result }
 {
-    for place in 0..session.count() {
-        if let Some(kept) = session.kept(place + 1) {
-            if let Tag::Stop { .. } = kept.tag {
-                return false;
-            }
-        }
+    if solved.report.end == End::Sealed && Kind::Stop.count(&solved.last) == 0 {
+        Status::Done
+    } else {
+        Status::Open
     }
-    true
-}
-
-/// Whether no reply of the sessions is a stop.
-#[tactic(auto, using(report_text::proofs::Lists::all_more, report_text::proofs::Lists::all_taken))]
-fn have_no_stop(sessions: &[Session]) -> bool
-    requires { AllByRecursion (λ s. length s.kept ≡ length s.questions) sessions.now }
-    ensures { IsTrue result ↔ AllByRecursion HasNoStop sessions.now }
-{
-    for session in sessions {
-        if !has_no_stop(session) {
-            return false;
-        }
-    }
-    true
-}
-
-/// Whether the log of the report is sealed, and no reply is a stop.
-pub fn is_settled(report: &Report) -> bool
-    requires { IsReportable (reported report.now) }
-    ensures { IsTrue result ↔ IsSettled (reported report.now) }
-{
-    report.end == End::Sealed && have_no_stop(&report.sessions)
 }
 
 /// Writes the report, and says how the run ends.
-pub fn deliver_report<K: Sink>(alloc: Global, report: &Report, out: &mut K) -> Status
-    requires reportable { IsReportable (reported report.now) }
+pub fn deliver_report<K: Sink>(alloc: Global, solved: &Solved, out: &mut K) -> Status
+    requires reportable { IsReportable (reported solved.now.report) }
+    requires last { AreLastKinds (reported solved.now.report) solved.now.last.items }
     ensures written { DeliversReport (CountRose (K.faults out.old) (K.faults out.new)) (K.taken out.old)
-        (K.taken out.new) (reported report.now) result }
+        (K.taken out.new) (reported solved.now.report) result }
     ensures later { K.faults out.old ≤ K.faults out.new }
 {
-    match write_report(alloc, report, out) {
-        Ok(()) => {
-            if is_settled(report) {
-                Status::Done
-            } else {
-                Status::Open
-            }
-        }
+    match write_report(alloc, &solved.report, out) {
+        Ok(()) => status_of(solved),
         Err(WriteFault::Failed) => Status::WriteFault,
         Err(WriteFault::NoMemory) => Status::NoMemory,
     }

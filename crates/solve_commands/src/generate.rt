@@ -5,24 +5,24 @@ ghost use Rattle.command_floor.specs.Parsing.{shown_given};
 ghost use Rattle.presentation.specs.Reading.{presentation_text};
 ghost use Rattle.session_text.specs.declared.TheConstants.{QUESTIONS};
 ghost use Rattle.session_text.specs.Reading.{session_text};
-ghost use Rattle.report_text.specs.Reports.{reported, IsReportable};
+ghost use Rattle.report_text.specs.Histories.{History};
+ghost use Rattle.report_text.specs.Reports.{reported, IsHistoryOf};
+ghost use Rattle.legal_report.specs.Last.{AreLastKinds};
 ghost use Rattle.command_floor.specs.Files.{CommandEnd, HasCause, TextGives, in_lines};
 ghost use Rattle.solve_commands.specs.SessionFiles.{QuestionsGive, AreAskable};
 ghost use Rattle.solve_commands.specs.Runs.{ShowsSettled};
 ghost use Rattle.solve_commands.specs.Generate.{summary, TextsLead, GenLeads, gen_in};
 ghost use Rattle.solve_commands.specs.declared.generate.TheConstants.{MOST_SEED};
-ghost use Rattle.solve_commands.specs.declared.sessions.TheConstants.{SESSIONS};
 
-use crate::counting::summary;
-use crate::delivery::is_settled;
+use crate::delivery::status_of;
 use crate::limits::{ENTRIES, limits_with, opened};
 use crate::sessions;
-use command_floor::{Answer, Given, Halt, Status, number_between, refusal};
+use crate::summary::summary;
+use command_floor::{Answer, Given, Halt, number_between, refusal};
 use gen_input::large;
-use legal_report::solve;
+use legal_report::{Solved, solve};
 use module_vec::VecList;
 use presentation::{Presentation, read_presentation};
-use report_text::Report;
 use session_core::Session;
 use session_text::{Question, read_session};
 use std::alloc::{AllocError, Global};
@@ -86,19 +86,13 @@ fn one_session(
 }
 
 // The summary of a report, with the status that shows whether it is settled.
-fn shown(alloc: Global, seed: u32, report: &Report) -> Result<Answer, AllocError>
-    requires reportable { IsReportable (reported report.now) }
-    requires few { length report.now.sessions.items ≤ SESSIONS }
-    ensures text { IfOk result (λ a. a.text ≡ summary seed (reported report.now)) }
-    ensures status { IfOk result (λ a. ShowsSettled (reported report.now) a.status) }
+fn shown(alloc: Global, seed: u32, solved: &Solved) -> Result<Answer, AllocError>
+    requires { AreLastKinds (reported solved.now.report) solved.now.last.items }
+    ensures { IfOk result (λ a. (h : History) → IsHistoryOf (reported solved.now.report) h
+        → (a.text ≡ summary seed h) × ShowsSettled h a.status) }
 {
-    let text = summary(alloc, seed, report)?;
-    let status = if is_settled(report) {
-        Status::Done
-    } else {
-        Status::Open
-    };
-    Ok(Answer::new(status, text))
+    let text = summary(alloc, seed, solved)?;
+    Ok(Answer::new(status_of(solved), text))
 }
 
 // The answer to these texts.
@@ -113,8 +107,8 @@ fn summarize(alloc: Global, seed: u32, presentation: &[u8], session: &[u8]) -> R
     let book = opened(alloc, &p, limits)?;
     let questions = questions_in(alloc, &p, session)?;
     let sessions = one_session(alloc, questions, book.count())?;
-    let report = solve(alloc, &p, book, sessions, limits)?;
-    let answer = shown(alloc, seed, &report)?;
+    let solved = solve(alloc, &p, book, sessions, limits)?;
+    let answer = shown(alloc, seed, &solved)?;
     Ok(answer)
 }
 

@@ -1,13 +1,16 @@
 //! The commands that solve, and what they share: sessions, limits, and the delivery of reports.
 #![tactic(auto)]
 
-mod counting;
 mod delivery;
 pub mod generate;
 mod limits;
+pub mod replay;
+mod schedules;
 mod sessions;
 pub mod solo;
+mod summary;
 
-pub use delivery::{deliver_report, is_settled};
+pub use delivery::{deliver_report, status_of};
 pub use limits::{ENTRIES, LOG_STEPS, LOG_TERMS, limits_given, limits_with, opened};
+pub use schedules::{SCHEDULE_BYTES, load_schedule};
 pub use sessions::{SESSION_BYTES, SESSIONS, load_sessions, session_names};

@@ -2,7 +2,7 @@
 
 ghost use Rattle.std.specs.Prelude.{◌≡◌, IfOk};
 ghost use Rattle.std.specs.Arc.{arc_value};
-ghost use Rattle.pair_book.specs.Books.{IsOpened};
+ghost use Rattle.pair_book.specs.Books.{IsOpened, AreWithin};
 ghost use Rattle.command_floor.specs.Settings.{AreInRange};
 ghost use Rattle.solve_commands.specs.Limits.{limits_with, order_given, limits_given, AreInTable};
 
@@ -57,13 +57,21 @@ pub fn limits_given(settings: &Settings) -> Limits
     limits_with(entries, settings.budget, order_given(settings.order))
 }
 
+/// The generator entries of the presentation are within limits that options can give. The call does nothing.
+pub fn generators_fit(p: &Presentation, limits: Limits)
+    requires { AreInTable limits }
+    ensures { AreWithin p.now limits }
+{
+    let _ = limits;
+    p.known();
+    generator_entries_are_within();
+}
+
 /// The book of the presentation before its completion.
 pub fn opened(alloc: Global, p: &Arc<Presentation>, limits: Limits) -> Result<Book, AllocError>
     requires { AreInTable limits }
     ensures { IfOk result (λ book. IsOpened (arc_value p.now) limits book) }
 {
-    // The proof needs what holds of every presentation, and of its generators' entries; the calls say so.
-    p.known();
-    generator_entries_are_within();
+    generators_fit(p, limits);
     Book::open(alloc, p, limits)
 }

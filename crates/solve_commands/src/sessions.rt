@@ -1,7 +1,10 @@
 //! Sessions under names, read whole.
 
 ghost use Rattle.std.specs.Prelude.{◌≡◌, ◌≤◌, ℕ, List, length, option_map, IfOk, IfErr, IfSome};
+ghost use Rattle.std.specs.Arc.{arc_value};
 ghost use Rattle.mb_io.specs.Shelf.{CountRose};
+ghost use Rattle.basis_entry.specs.Base.{AreBase};
+ghost use Rattle.basis_entry.specs.Entries.{BasisEntry};
 ghost use Rattle.command_floor.specs.Files.{HasCause};
 ghost use Rattle.solve_commands.specs.SessionFiles.{SessionGives, SessionsGive, RefusesSession, AreAskable};
 ghost use Rattle.solve_commands.specs.SessionFiles.{session_names};
@@ -9,12 +12,15 @@ ghost use Rattle.legal_report.specs.Solutions.{AreNewSessions};
 ghost use Rattle.command_floor.specs.Parsing.{shown};
 ghost use Rattle.solve_commands.specs.declared.sessions.TheConstants.{SESSIONS};
 
+use basis_entry::Entry;
+use basis_entry::laws::generator_entries_are_short;
 use command_floor::{Answer, Halt, load};
 use mb_io::Shelf;
 use presentation::Presentation;
 use session_core::Session;
 use session_text::{Question, SessionFault, read_session};
-use std::alloc::Global;
+use std::alloc::{AllocError, Global};
+use std::sync::Arc;
 
 /// A session's text has at most so many bytes.
 pub const SESSION_BYTES: u32 = 1_048_576;
@@ -32,6 +38,15 @@ pub fn session_names<'m, 'a>(words: &'m [&'a str]) -> Option<(&'a str, &'m [&'a 
         return None;
     }
     Some((*presentation, sessions))
+}
+
+/// The least front of a reply: how many entries the generators of the presentation make.
+pub fn base_count(alloc: Global, p: &Arc<Presentation>) -> Result<u32, AllocError>
+    ensures { IfOk result (λ n. (es : List BasisEntry) → AreBase (arc_value p.now) es → n ≡ length es) }
+{
+    generator_entries_are_short();
+    let base = Entry::base(alloc, p)?;
+    Ok(base.len() as u32)
 }
 
 /// The answer to what is wrong with a session.

@@ -5,16 +5,16 @@ ghost use Rattle.mb_io.specs.Shelf.{CountRose};
 ghost use Rattle.command_floor.specs.Files.{HasCause};
 ghost use Rattle.command_floor.specs.Parsing.{shown_given};
 ghost use Rattle.command_floor.specs.Settings.{AreInRange};
-ghost use Rattle.solve_commands.specs.Solo.{SoloGives, solo_in, solo_asked, IsWithinTable};
+ghost use Rattle.solve_commands.specs.Runs.{GivesReport};
+ghost use Rattle.solve_commands.specs.Solo.{SoloLeads, solo_in, solo_asked, IsWithinTable};
 
 use crate::limits::{limits_given, opened};
 use crate::sessions::{load_sessions, session_names};
 use command_floor::{Given, Halt, load_presentation};
-use legal_report::solve;
+use legal_report::{Solved, solve};
 use mb_io::Shelf;
 use module_vec::VecList;
 use pair_book::Limits;
-use report_text::Report;
 use std::alloc::{AllocError, Global};
 use std::sync::Arc;
 
@@ -44,10 +44,10 @@ pub fn words<'a>(alloc: Global, given: &Given<'a>) -> Result<Option<SoloWords<'a
 }
 
 /// What `solo` finds over these texts: the report of a completion and of the answers to all questions.
-pub fn report<S: Shelf>(alloc: Global, shelf: &mut S, words: &SoloWords) -> Result<Report, Halt>
+pub fn report<S: Shelf>(alloc: Global, shelf: &mut S, words: &SoloWords) -> Result<Solved, Halt>
     requires within { IsWithinTable words.now }
-    ensures gives { SoloGives (CountRose (S.faults shelf.old) (S.faults shelf.new)) (S.under shelf.old)
-        (solo_asked words.now) result }
+    ensures gives { GivesReport (SoloLeads (CountRose (S.faults shelf.old) (S.faults shelf.new)) (S.under shelf.old)
+        (solo_asked words.now)) result }
     ensures cause { IfErr result (HasCause (CountRose (S.faults shelf.old) (S.faults shelf.new))) }
     ensures later { S.faults shelf.old ≤ S.faults shelf.new }
 {
@@ -55,6 +55,6 @@ pub fn report<S: Shelf>(alloc: Global, shelf: &mut S, words: &SoloWords) -> Resu
     let p = Arc::new(alloc, p)?;
     let book = opened(alloc, &p, words.limits)?;
     let sessions = load_sessions(alloc, shelf, &p, &words.sessions, book.count())?;
-    let report = solve(alloc, &p, book, sessions, words.limits)?;
-    Ok(report)
+    let solved = solve(alloc, &p, book, sessions, words.limits)?;
+    Ok(solved)
 }

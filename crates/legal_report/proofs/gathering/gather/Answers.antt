@@ -37,3 +37,12 @@ returns-clause-legal c =
     IfOk-weaker c.report.result _ _ (λ r h.
     let same : reported r ≡ told new.seal = h ∙ seals in
     subst (IsLegal p c.args.limits (questions_of c.args.sessions.items)) (sym same) is) c.report.ensures
+
+pub returns-clause-sealed : goal.returns-clause-sealed
+returns-clause-sealed c =
+    let p : Presented = arc_value c.args.p.now in
+    let done = c.in_ok-end.ensures.completed in
+    IfOk-weaker c.report.result _ _ (λ r h some. let kept = done.sealed some in (
+      ap (λ (x : Reported). x.entries) h ∙ kept.0,
+      ap (λ (x : Reported). x.seal) h ∙ sym done.seal ∙ kept.1,
+    )) c.report.ensures

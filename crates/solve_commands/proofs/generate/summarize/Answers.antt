@@ -19,13 +19,13 @@ returns-clause-exact c =
     let p : Presented = c.in_ok-p.p in
     let qs : List Question = c.in_ok-questions.questions.items in
     let qss : List (List Question) = questions_of c.in_ok-sessions.sessions.items in
-    let r : Reported = reported c.in_ok-report.report in
+    let r : Reported = reported c.in_ok-solved.solved.report in
     let arc : arc_value c.in_ok-p-2.p ≡ p = search rules in
     let bounds : c.limits_with-limits.result ≡ limits_with ENTRIES None ByNumber = search rules in
     let read : session_text p c.args.session.now ≡ Ok qs = search rules in
     let solution : IsSolution p (limits_with ENTRIES None ByNumber) qss r =
     subst (λ (l : Limits). IsSolution p l qss r) bounds (subst (λ (x : Presented). IsSolution x c.limits_with-limits.result qss r) arc
-    c.in_ok-report.ensures) in
+    c.in_ok-solved.ensures.solution) in
     summed c.args.seed c.args.presentation.now c.args.session.now p qss qs r c.in_ok-answer.answer c.in_ok-p.ensures.gives read
     (ap questions_of c.in_ok-sessions.ensures) solution
-    c.in_ok-answer.ensures.text c.in_ok-answer.ensures.status
+    c.in_ok-answer.ensures

@@ -7,12 +7,14 @@ use Rattle.presentation.specs.Presented.{Presented}
 use Rattle.session_core.specs.Sessions.{SessionState}
 use Rattle.basis_entry.specs.Entries.{BasisEntry}
 use Rattle.pair_book.specs.Books.{Held}
-use Rattle.report_text.specs.Reports.{Reported, reported}
+use Rattle.report_text.specs.Reports.{reported}
 use Rattle.legal_report.specs.Gathering.{questions_of}
 use Rattle.solve_commands.specs.SessionFiles.{AreQuestionsUnder}
 use Rattle.legal_report.specs.Solutions.{AreNewSessions, IsSolution}
-use Rattle.solve_commands.specs.Solo.{SoloAsked, solo_asked, IsPresentedIn}
-use Rattle.solve_commands.proofs.SoloFound.{found, not_presented, halted, asked_same}
+use Rattle.solve_commands.specs.Presentations.{IsPresentedIn}
+use Rattle.solve_commands.specs.Solo.{SoloAsked, solo_asked}
+use Rattle.solve_commands.proofs.SessionFiles.{asked_same}
+use Rattle.solve_commands.proofs.SoloFound.{due, not_presented, halted}
 use Rattle.solve_commands.proofs.solo.report.Goals as goal
 
 pub returns-in_err-p-clause-gives : goal.returns-in_err-p-clause-gives
@@ -25,7 +27,7 @@ returns-in_err-sessions-clause-gives g c =
     let now : ℕ = g.S.Shelf.faults c.load_sessions.new.shelf in
     let under : List ℕ → Option (List ℕ) = g.S.Shelf.under c.args.shelf.now in
     let q : SoloAsked = solo_asked c.args.words.now in
-    let presented : IsPresentedIn under q c.in_ok-p.p = search rules in
+    let presented : IsPresentedIn under q.presentation c.in_ok-p.p = search rules in
     search (
       rules,
       halted (CountRose mid now) (CountRose before now) (rose_later before mid now c.load_presentation.ensures.later)
@@ -47,11 +49,11 @@ returns-clause-gives g c =
     let q : SoloAsked = solo_asked c.args.words.now in
     let under : List ℕ → Option (List ℕ) = g.S.Shelf.under c.args.shelf.now in
     let ss : List SessionState = c.in_ok-sessions.sessions.items in
-    let r : Reported = reported c.in_ok-report.report in
     let arc : arc_value c.in_ok-p-2.p ≡ p = search rules in
-    let presented : IsPresentedIn under q p = search rules in
+    let presented : IsPresentedIn under q.presentation p = search rules in
     let asked : AreQuestionsUnder (g.S.Shelf.under c.load_presentation.new.shelf) p q.sessions (questions_of ss) = search rules in
-    let solution : IsSolution p q.limits (questions_of ss) r =
-    subst (λ (x : Presented). IsSolution x q.limits (questions_of ss) r) arc c.in_ok-report.ensures in
-    found under q p ss r presented (asked_same (g.S.Shelf.under c.load_presentation.new.shelf) under c.load_presentation.ensures.same p q.sessions
-    (questions_of ss) asked) solution
+    let solution : IsSolution p q.limits (questions_of ss) (reported c.in_ok-solved.solved.report) =
+    subst (λ (x : Presented). IsSolution x q.limits (questions_of ss) (reported c.in_ok-solved.solved.report)) arc c.in_ok-solved.ensures.solution in
+    due (CountRose (g.S.Shelf.faults c.args.shelf.now) (g.S.Shelf.faults c.load_sessions.new.shelf)) under q p ss c.in_ok-solved.solved presented
+    (asked_same (g.S.Shelf.under c.load_presentation.new.shelf) under c.load_presentation.ensures.same p q.sessions (questions_of ss) asked)
+    solution c.in_ok-solved.ensures.last

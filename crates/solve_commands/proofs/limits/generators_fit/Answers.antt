@@ -1,13 +1,12 @@
 use Rattle.std.proofs.Common.{rules, ◌≤◌}
-use Rattle.std.specs.Arc.{arc_value}
 use Rattle.presentation.specs.Presented.{Presented, IsPresented}
 use Rattle.basis_entry.specs.declared.TheConstants.{BASE, BASE_TERMS}
 use Rattle.pair_book.specs.declared.limits.Limits.{Limits}
-use Rattle.solve_commands.proofs.limits.opened.Goals as goal
+use Rattle.solve_commands.proofs.limits.generators_fit.Goals as goal
 
-pub open-requires-clause-within : goal.open-requires-clause-within
-open-requires-clause-within c =
-    let p : Presented = arc_value c.args.p.now in
+pub returns : goal.returns
+returns c =
+    let p : Presented = c.args.p.now in
     let limits : Limits = c.args.limits in
     let known : IsPresented p = search rules in
     let entries : BASE ≤ limits.entries = search rules in
