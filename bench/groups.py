@@ -11,8 +11,8 @@ from runs import best
 HERE = os.path.dirname(os.path.abspath(__file__))
 FOLDER = os.path.join(HERE, "groups")
 PATIENCE = 120
-HEAD = (f"{'group':<16} {'entries':>7} {'end':<8} {'complete':>9} {'questions':>9} {'MB':>6} {'check':>6} "
-        f"{'Singular: basis, reductions, whole run':>40} {'ratio':>6} {'growth':>6}")
+HEAD = (f"{'group':<17} {'entries':>7} {'end':<8} {'complete':>9} {'by cost: entries, end, complete':>31} {'questions':>9} {'MB':>6} "
+        f"{'check':>6} {'Singular: basis, reductions, whole run':>40} {'ratio':>6} {'growth':>6}")
 
 
 def rows():
@@ -49,23 +49,30 @@ def zeros(report):
     return sum(line.startswith("proof ") for line in report.splitlines())
 
 
+def completed(report):
+    """How many entries a report has, and the word for how its log ends."""
+    lines = report.splitlines()
+    return sum(line.startswith("entry ") for line in lines), next((line.split()[1] for line in lines if line.startswith("end ")), lines[0])
+
+
 def measured(name, options):
-    """Entries, end, seconds of the completion and of the questions, peak memory, seconds of the check, and the report."""
+    """Entries, end and seconds of the completion, the same by the order of cost, seconds of the questions, peak memory, seconds of
+    the check, and the report."""
     with tempfile.TemporaryDirectory() as folder:
         for ending in ("pres", "session"):
             shutil.copy(os.path.join(FOLDER, f"{name}.{ending}"), os.path.join(folder, ending))
         open(os.path.join(folder, "none"), "w").close()
         alone = best(folder, ["solo", *options, "pres", "none"])
+        by_cost = best(folder, ["solo", "--order", "2", *options, "pres", "none"])
         whole = best(folder, ["solo", *options, "pres", "session"])
         with open(os.path.join(folder, "report"), "w", encoding="ascii") as file:
             file.write(whole.answer)
         check = best(folder, ["check", "pres", "report"])
-    lines = whole.answer.splitlines()
-    entries = sum(line.startswith("entry ") for line in lines)
-    end = next((line.split()[1] for line in lines if line.startswith("end ")), lines[0])
+    entries, end = completed(whole.answer)
     if check.status != 0:
         end += " UNCHECKED"
-    return entries, end, alone.seconds, whole.seconds - alone.seconds, whole.memory, check.seconds, whole.answer
+    other = (*completed(by_cost.answer), by_cost.seconds)
+    return entries, end, alone.seconds, other, whole.seconds - alone.seconds, whole.memory, check.seconds, whole.answer
 
 
 def table(wanted):
@@ -75,7 +82,7 @@ def table(wanted):
     for name, family, size, options in rows():
         if wanted and not any(word in name or word in family for word in wanted):
             continue
-        entries, end, complete, questions, memory, check, report = measured(name, options)
+        entries, end, complete, by_cost, questions, memory, check, report = measured(name, options)
         seen[family, size] = complete
         growth = f"{complete / seen[family, size // 2]:>6.1f}" if (family, size // 2) in seen and size % 2 == 0 else f"{'':>6}"
         beside = singular(name)
@@ -83,4 +90,5 @@ def table(wanted):
         ratio = f"{(complete + questions) / beside[2]:>6.2f}" if beside else f"{'':>6}"
         if beside and end == "sealed" and "hom" not in report and zeros(report) != beside[3]:
             end = "DIFFERS"
-        print(f"{name:<16} {entries:>7} {end:<8} {complete:>9.4f} {questions:>9.4f} {memory:>6.1f} {check:>6.3f} {other} {ratio} {growth}", flush=True)
+        cost = f"{by_cost[0]:>11} {by_cost[1]:<8} {by_cost[2]:>10.4f}"
+        print(f"{name:<17} {entries:>7} {end:<8} {complete:>9.4f} {cost} {questions:>9.4f} {memory:>6.1f} {check:>6.3f} {other} {ratio} {growth}", flush=True)
