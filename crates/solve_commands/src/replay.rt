@@ -99,8 +99,7 @@ pub fn report<S: Shelf>(
 {
     let p = load_presentation(alloc, shelf, words.presentation)?;
     let p = Arc::new(alloc, p)?;
-    let count = words.sessions.len() as u32;
-    let events = load_schedule(alloc, shelf, words.schedule, count)?;
+    let events = load_schedule(alloc, shelf, words.schedule, words.sessions.len())?;
     let base = base_count(alloc, &p)?;
     let sessions = load_sessions(alloc, shelf, &p, &words.sessions, base)?;
     let solved = replayed(alloc, &p, sessions, &events, words.limits)?;

@@ -4,6 +4,7 @@ ghost use Rattle.std.specs.Prelude.{◌≡◌, ◌≤◌, ℕ, List, All, IfOk, 
 ghost use Rattle.mb_io.specs.Shelf.{CountRose};
 ghost use Rattle.session_text.specs.Schedule.{IsEvent, schedule_text};
 ghost use Rattle.command_floor.specs.Files.{FileGives, HasCause, in_lines};
+ghost use Rattle.solve_commands.specs.declared.sessions.TheConstants.{SESSIONS};
 
 use command_floor::{Halt, load, refusal};
 use mb_io::Shelf;
@@ -18,8 +19,9 @@ pub fn load_schedule<S: Shelf>(
     alloc: Global,
     shelf: &mut S,
     name: &str,
-    sessions: u32,
+    sessions: usize,
 ) -> Result<Vec<Event>, Halt>
+    requires { sessions ≤ SESSIONS }
     ensures gives { FileGives (λ events. events.items) (CountRose (S.faults shelf.old) (S.faults shelf.new))
         SCHEDULE_BYTES name.now (S.under shelf.old name.now) (in_lines (schedule_text sessions)) result }
     ensures events { IfOk result (λ events. All (IsEvent sessions) events.items) }
@@ -28,7 +30,7 @@ pub fn load_schedule<S: Shelf>(
     ensures later { S.faults shelf.old ≤ S.faults shelf.new }
 {
     let text = load(alloc, shelf, name, SCHEDULE_BYTES)?;
-    match read_schedule(alloc, &text, sessions) {
+    match read_schedule(alloc, &text, sessions as u32) {
         Ok(events) => Ok(events),
         Err(fault) => Err(refusal(alloc, name, &fault)),
     }
