@@ -2,6 +2,7 @@
 use Rattle.std.proofs.Common.{◌≡◌, ◌⊎◌, inl, inr, ℕ, zero, suc, ◌+◌, ◌<◌, ◌≤◌, Bool, true, false, List, [], ◌∷◌, ◌++◌, append-nil, append_assoc, length, map, take, get_or}
 use Rattle.std.proofs.Common.{Option, Some, None, slice_get, unwrap_or, sym, ap, subst, ◌∙◌, arith, refl}
 use Rattle.std.specs.List.{AllByRecursion}
+use Rattle.std.specs.Prelude.{◌==◌, ◌||◌, not, if◌then◌else◌}
 use Rattle.std.proofs.lemmas.List.{map-append, take_all}
 use Rattle.presentation.specs.Presented.{Presented}
 use Rattle.module_vec.specs.declared.places.Term.{Term}
@@ -23,7 +24,7 @@ use Rattle.report_text.proofs.Lists.{StandsAt, stands_at, got, same_item, all_mo
 use Rattle.report_text.proofs.Telling.{Told, open_verdict, closed_verdict, live_is, all_below, seal_of_all, closing_there}
 use Rattle.report_text.proofs.Verdicts.{one_verdict, yes_is_shown}
 use Rattle.legal_report.specs.declared.last.Kind.{Kind}
-use Rattle.legal_report.specs.Last.{kind_of, last_kind, last_kinds_in, IsLastKind, ArePut, AreFound}
+use Rattle.legal_report.specs.Last.{kind_of, last_kind, last_kinds_in, kind_kept, IsLastKind, ArePut, AreFound}
 
 -- ---- one question
 
@@ -125,6 +126,52 @@ module _ (p : Presented) (es : List BasisEntry) (seal : Option Seal) (s : Sessio
         (subst (λ (y : Question). IsVerdict p (vectors_of es) seal y v) (same_item s.questions i q x asked here)
         (subst (λ (b : List (List Term)). IsVerdict p b seal q v) entries made)) is;
   }
+
+-- ---- the reply that was kept
+
+chosen : (b : Bool) (x kind : Kind) → (if b then Some x else None) ≡ Some kind → (b ≡ true) × (kind ≡ x)
+chosen true x kind e = (refl, cc)
+chosen false x kind e = absurd (cc)
+
+not_chosen : (b : Bool) (x : Kind) → (if b then Some x else None) ≡ None → b ≡ false
+not_chosen true x e = absurd (cc)
+not_chosen false x e = refl
+
+either : (a b : Bool) → (not a || b) ≡ true → (a ≡ false) ⊎ (b ≡ true)
+either true true e = inr refl
+either true false e = absurd (cc)
+either false b e = inl refl
+
+neither : (a b : Bool) → (not a || b) ≡ false → a ≡ true
+neither true b e = refl
+neither false b e = absurd (cc)
+
+same_by : (m n : ℕ) → (m == n) ≡ true → m ≡ n
+same_by m n e = grind arith
+
+-- a reply that is known to be the last one
+pub record IsKept (all : ℕ) (o : Option Kept) (kind : Kind) : Type 0 where
+  pub k : Kept
+  pub kept : o ≡ Some k
+  pub last : (is_left_open k.tag ≡ false) ⊎ (k.front ≡ all)
+  pub is : kind ≡ kind_of k.tag
+
+pub some_kept : (all : ℕ) (o : Option Kept) (kind : Kind) → kind_kept all o ≡ Some kind → IsKept all o kind
+some_kept all None kind e = absurd (cc)
+some_kept all (Some k) kind e =
+    let found = chosen (not (is_left_open k.tag) || (k.front == all)) (kind_of k.tag) kind e in
+    record { k = k; kept = refl; last = by (either (is_left_open k.tag) (k.front == all) found.0); is = found.1 }
+  where
+    by : (is_left_open k.tag ≡ false) ⊎ ((k.front == all) ≡ true) → (is_left_open k.tag ≡ false) ⊎ (k.front ≡ all)
+    by (inl h) = inl h
+    by (inr h) = inr (same_by k.front all h)
+
+pub none_kept : (all : ℕ) (o : Option Kept) → kind_kept all o ≡ None → (k : Kept) → o ≡ Some k → is_left_open k.tag ≡ true
+none_kept all None e k is = absurd (cc)
+none_kept all (Some x) e k is =
+    let same : x ≡ k = cc in
+    subst (λ (y : Kept). is_left_open y.tag ≡ true) same
+    (neither (is_left_open x.tag) (x.front == all) (not_chosen (not (is_left_open x.tag) || (x.front == all)) (kind_of x.tag) e))
 
 -- ---- the questions of a session
 

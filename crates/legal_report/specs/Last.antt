@@ -1,7 +1,7 @@
 -- The last verdicts of a report.
 use Rattle.std.specs.List.{AllByRecursion}
 use Rattle.std.specs.Prelude.{◌≡◌, ℕ, Bool, true, false, List, [], ◌∷◌, ◌++◌, map, count_by, slice_get}
-use Rattle.std.specs.Prelude.{Option, Some, unwrap_or}
+use Rattle.std.specs.Prelude.{◌==◌, ◌||◌, not, if◌then◌else◌, Option, Some, None, unwrap_or}
 use Rattle.presentation.specs.Presented.{Presented}
 use Rattle.session_text.specs.declared.question.Question.{Question}
 use Rattle.basis_entry.specs.Entries.{BasisEntry}
@@ -63,6 +63,11 @@ abbrev pub AreLastKinds : Reported → List Kind → Type 0
 AreLastKinds r kinds = (h : History) → IsHistoryOf r h → kinds ≡ last_kinds h
 
 -- ---- what is found of the questions of a session
+
+-- the kind of a reply that decides its question, or is by all items, of which there are so many
+abbrev pub kind_kept : ℕ → Option Kept → Option Kind
+kind_kept all None = None
+kind_kept all (Some k) = if not (is_left_open k.tag) || (k.front == all) then Some (kind_of k.tag) else None
 
 -- The question at a place of the session has a last verdict of this kind: where it was left open it has a reply by all
 -- items, and however it is answered, the last verdict is of this kind

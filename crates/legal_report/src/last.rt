@@ -1,13 +1,14 @@
 //! The last verdicts of a report.
 
-ghost use Rattle.std.specs.Prelude.{◌≡◌, ◌-◌, ◌≤◌, ◌==◌, ◌||◌, not, length, option_map, IfOk, OnOk};
+ghost use Rattle.std.specs.Prelude.{◌≡◌, ◌-◌, ◌≤◌, length, option_map, IfOk, OnOk};
 ghost use Rattle.std.specs.Arc.{arc_value};
 ghost use Rattle.std.specs.List.{AllByRecursion};
 ghost use Rattle.basis_entry.specs.Entries.{AreOf};
 ghost use Rattle.report_text.specs.Closing.{is_left_open};
 ghost use Rattle.report_text.specs.Histories.{History};
 ghost use Rattle.report_text.specs.Reports.{reported, IsReportable, IsReplied, IsHistoryOf};
-ghost use Rattle.legal_report.specs.Last.{kind_of, is_same, how_many, AreLastKinds, IsLastKind, ArePut, AreFound};
+ghost use Rattle.legal_report.specs.Last.{kind_of, is_same, how_many, AreLastKinds, kind_kept, IsLastKind, ArePut};
+ghost use Rattle.legal_report.specs.Last.{AreFound};
 
 use basis_entry::{Front, Items, Sealed};
 use presentation::Presentation;
@@ -75,12 +76,15 @@ fn is_left_open(tag: Tag) -> bool
     matches!(tag, Tag::Unknown { .. } | Tag::Stop { .. })
 }
 
-/// Whether the reply decides the question, or is by all items, of which there are so many. Then nothing else comes of
-/// another reply by all items.
-fn is_last(kept: Kept, all: u32) -> bool
-    ensures { result ≡ (not (is_left_open kept.tag) || (kept.front == all)) }
+/// The kind of a reply that is the last one to its question: it decides that, or is by all items, of which there are so
+/// many.
+fn kind_kept(kept: Option<Kept>, all: u32) -> Option<Kind>
+    ensures { result ≡ kind_kept all kept }
 {
-    !is_left_open(kept.tag) || kept.front == all
+    match kept {
+        Some(kept) if !is_left_open(kept.tag) || kept.front == all => Some(Kind::of(kept.tag)),
+        _ => None,
+    }
 }
 
 /// The kind of the last verdict on the question with this number, which has its reply.
@@ -97,9 +101,9 @@ fn last_kind<F: Front>(
     requires replied { IsReplied p.now (F.entries list.now) (F.seal list.now) session.now }
     ensures { IfOk result (IsLastKind p.now (F.entries list.now) (F.seal list.now) session.now (number - 1)) }
 {
-    match session.kept(number) {
-        Some(kept) if is_last(kept, list.front()) => Ok(Kind::of(kept.tag)),
-        _ => {
+    match kind_kept(session.kept(number), list.front()) {
+        Some(kind) => Ok(kind),
+        None => {
             let verdict = verdict(alloc, p, list, session.question(number))?;
             Ok(Kind::of(Tag::of(&verdict)))
         }
