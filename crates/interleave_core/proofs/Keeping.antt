@@ -124,29 +124,11 @@ core_opened p limits ss s new is b = record {
     idle : (n : ℕ) (x : Hand) → slice_get s.hands n ≡ Some x → Idle ≡ x
     idle n x at = all_the_same WORKERS n Idle x (subst (λ (l : List Hand). slice_get l n ≡ Some x) is.hands at)
 
--- ---- a turn of a worker, that may have run out of memory
-
-module _ {A E : Type 0} (s : State) (i : ℕ) (c : IsCore s) (x : Hand) (found : slice_get s.hands i ≡ Some x) (new : Held) (y : Hand) where
-  pub turn_keeps : (r : Result A E) → OnOk r (Turns s.book x new y) → OnErr r ((new ≡ s.book) × (y ≡ x)) → IsBook new
-      → IsCore (record { book = new; hands = set s.hands i y; sessions = s.sessions })
-  turn_keeps (Ok a) ok err now = worker_keeps s i c x found new y ok now
-  turn_keeps (Err e) ok err now = subst IsCore (λ j. record {
-    book = sym err.0 j;
-    hands = (sym (set_still s.hands i x found) ∙ ap (set s.hands i) (sym err.1)) j;
-    sessions = s.sessions;
-  }) c
-
-  pub turn_longer : (r : Result A E) → OnOk r (Turns s.book x new y) → OnErr r ((new ≡ s.book) × (y ≡ x))
-      → (new.source ≡ s.book.source) × ((more : List BasisEntry) × (new.entries ≡ s.book.entries ++ more))
-  turn_longer (Ok a) ok err = let f = turn_follows s.book new x y c.book (c.hands i x found) ok in (f.items.source, (f.items.more, f.items.entries))
-  turn_longer (Err e) ok err = (ap (λ (h : Held). h.source) err.0, ([], ap (λ (h : Held). h.entries) err.0 ∙ sym (append-nil s.book.entries)))
-
-pub turn_steps : {A E : Type 0} (r : Result A E) (s t : State) → s ≡ t → (n : ℕ) (x : Hand) → slice_get s.hands (n - 1) ≡ Some x → (new : Held) (y : Hand)
-    → OnOk r (Turns s.book x new y) → OnOk r (WorkerStep t n (record { book = new; hands = set s.hands (n - 1) y; sessions = s.sessions }))
-turn_steps (Ok a) s t e n x found new y ok =
+pub worker_steps : (s t : State) → s ≡ t → (n : ℕ) (x : Hand) → slice_get s.hands (n - 1) ≡ Some x → (new : Held) (y : Hand) → Turns s.book x new y
+    → WorkerStep t n (record { book = new; hands = set s.hands (n - 1) y; sessions = s.sessions })
+worker_steps s t e n x found new y turns =
     subst (λ (z : State). WorkerStep z n (record { book = new; hands = set s.hands (n - 1) y; sessions = s.sessions })) e
-    (record { before = x; found = found; after = y; turns = ok; is = refl })
-turn_steps (Err a) s t e n x found new y ok = tt
+    (record { before = x; found = found; after = y; turns = turns; is = refl })
 
 -- ---- a turn of a session, that may have run out of memory
 

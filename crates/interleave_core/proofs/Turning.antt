@@ -162,7 +162,9 @@ busy_unclosed s c n x at busy = hand_unclosed s.book x c.book (c.hands n x at) b
 idle_unclosed : (old new : Held) → new.seal ≡ None → Turns old Idle new Idle → IsUnclosed new
 idle_unclosed old new unsealed (inl starts) = absurd starts.work
 idle_unclosed old new unsealed (inr (inl seals)) =
-    let e : Some (record { source = old.source; entries = old.entries }) ≡ None = sym (ap (λ (h : Held). h.seal) seals.is) ∙ unsealed in absurd (cc)
+    let s : Seal = record { source = old.source; entries = old.entries } in
+    let e : Some s ≡ None = sym (ap (λ (h : Held). h.seal) seals.is) ∙ unsealed in
+    absurd (cc)
 idle_unclosed old new unsealed (inr (inr none)) = subst IsUnclosed (sym none.is) none.unclosed
 
 pub nothing_found : (old new : Held) (x y : Hand) → x ≡ Idle → y ≡ Idle → new.seal ≡ None → Turns old x new y → IsUnclosed new

@@ -46,8 +46,8 @@ all_given_back h (x ∷ hands) = all_given_back (given_back h x) hands
 
 -- The book and the sessions that are left of the machine. All tasks in hand are given back, and nothing else of the book
 -- changes; the sessions ask its items
-pub record IsLeft (s : State) (book : Held) (sessions : List SessionState) : Type 0 where
+pub record IsLeft (s : State) (book : Held) (ss : List SessionState) : Type 0 where
   pub given : book ≡ all_given_back s.book s.hands
   pub rest : book ≡ record s.book { tasks = book.tasks }
-  pub sessions : sessions ≡ s.sessions
-  pub askers : AreAskers book sessions
+  pub sessions : ss ≡ s.sessions
+  pub askers : AreAskers book ss

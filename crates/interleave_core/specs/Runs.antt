@@ -39,19 +39,20 @@ pub record Keeps (old new : State) : Type 0 where
   pub sessions : (n : ℕ) (s : SessionState) → slice_get old.sessions n ≡ Some s → (t : SessionState)
       × (slice_get new.sessions n ≡ Some t) × KeepsReplies s t
 
--- the book and the sessions that are left of a machine that was opened with these sessions, and has played these events
-pub record IsPlayed (p : Presented) (limits : Limits) (ss : List SessionState) (es : List Event) (book : Held)
-    (left : List SessionState) : Type 0 where
+-- the book and the sessions that are left of a machine that was opened with the sessions ss and has played these events
+pub record IsPlayed (p : Presented) (l : Limits) (ss : List SessionState) (es : List Event) (book : Held)
+    (ts : List SessionState) : Type 0 where
   pub start : State
-  pub opened : IsOpened p limits ss start
+  pub opened : IsOpened p l ss start
   pub end : State
   pub run : Run start es end
-  pub left : IsLeft end book left
+  pub left : IsLeft end book ts
 
--- they are of the presentation, of these limits, and of the sessions' questions. The sessions ask the book's items
-pub record CanBeEnded (p : Presented) (limits : Limits) (ss : List SessionState) (book : Held)
-    (left : List SessionState) : Type 0 where
+-- they are of the presentation, of these limits, and of the questions of the sessions ss; the sessions ask the book's
+-- items
+pub record CanBeEnded (p : Presented) (l : Limits) (ss : List SessionState) (book : Held)
+    (ts : List SessionState) : Type 0 where
   pub source : book.source ≡ p
-  pub limits : book.limits ≡ limits
-  pub askers : AreAskers book left
-  pub questions : map (λ s. s.questions) left ≡ map (λ s. s.questions) ss
+  pub limits : book.limits ≡ l
+  pub askers : AreAskers book ts
+  pub questions : map (λ s. s.questions) ts ≡ map (λ s. s.questions) ss

@@ -23,8 +23,7 @@ pub fn runs_keep()
 
 /// What is left of a machine that has played events can be ended: it is a book of the presentation and of the limits, and
 /// sessions with the questions that they had, which ask its items.
-#[tactic(auto, using(crate::proofs::Ending::played))]
 pub fn played_machines_can_be_ended()
-    ensures { (p : Presented) (limits : TheLimits) (ss : List SessionState) (es : List TheEvent) (book : Held)
-        (left : List SessionState) → IsPlayed p limits ss es book left → CanBeEnded p limits ss book left }
+    ensures { (p : Presented) (l : TheLimits) (ss : List SessionState) (es : List TheEvent) (book : Held)
+        (ts : List SessionState) → IsPlayed p l ss es book ts → CanBeEnded p l ss book ts }
 {}

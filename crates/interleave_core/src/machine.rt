@@ -1,7 +1,7 @@
 //! `Core`: the machine.
 
 ghost use Rattle.std.specs.List.{AllByRecursion};
-ghost use Rattle.std.specs.Prelude.{◌≡◌, ℕ, ◌<◌, ◌≤◌, All, IfOk, OnOk, OnErr, length, replicate, take};
+ghost use Rattle.std.specs.Prelude.{◌≡◌, ℕ, ◌<◌, ◌≤◌, All, IfOk, IsTrue, OnOk, OnErr, length, replicate, take};
 ghost use Rattle.std.specs.Arc.{arc_value};
 ghost use Rattle.task_table.specs.declared.TheConstants.{ENTRIES as MOST};
 ghost use Rattle.session_text.specs.Schedule.{IsEvent};
@@ -10,6 +10,7 @@ ghost use Rattle.pair_book.specs.Books.{IsBook, AreWithin};
 ghost use Rattle.session_core.specs.Sessions.{IsSession};
 ghost use Rattle.interleave_core.specs.declared.hands.Hand.TheVariants.{Idle};
 ghost use Rattle.interleave_core.specs.Machine.{Step};
+ghost use Rattle.interleave_core.specs.Inner.{IsUnclosed};
 ghost use Rattle.interleave_core.specs.Invariants.{IsCore, IsHand};
 ghost use Rattle.interleave_core.specs.Opening.{AreNewSessions, IsOpened, IsLeft, given_back};
 ghost use Rattle.interleave_core.specs.Runs.{Run};
@@ -127,8 +128,8 @@ impl Core {
         ensures ok { OnOk result (Step self.old (Worker number) self.new) }
         ensures err { OnErr result (self.new ≡ self.old) }
     {
+        let unclosed = self.is_unclosed();
         catch_up(&self.book, &mut self.index)?;
-        let unclosed = self.stuck || some_busy(&self.hands);
         let hand = &mut self.hands[number as usize - 1];
         self.stuck = turn(
             alloc,
@@ -139,6 +140,13 @@ impl Core {
             hand,
         )?;
         Ok(())
+    }
+
+    /// Whether some task is known not to be closed.
+    fn is_unclosed(&self) -> bool
+        ensures { IsTrue result → IsUnclosed self.now.book }
+    {
+        self.stuck || some_busy(&self.hands)
     }
 
     /// The turn of the session with this number.

@@ -1,5 +1,8 @@
 use Rattle.std.proofs.Common.{rules, arith, refl, ap, length, ◌<◌, ◌≡◌, ◌+◌, ◌-◌, ◌≤◌, sym, subst, Some, slice_get}
 use Rattle.std.proofs.lemmas.Option.{slice_get_read}
+use Rattle.std.specs.List.{AllByRecursion}
+use Rattle.presentation.specs.Presented.{Presented}
+use Rattle.session_core.specs.Questions.{CanBeAsked}
 use Rattle.interleave_core.specs.Machine.{State}
 use Rattle.basis_entry.specs.Seals.{item_count}
 use Rattle.pair_book.specs.Books.{Held}
@@ -21,6 +24,17 @@ ask-requires-clause-front c =
     (last_within h (c.args.number - 1 + 1) c.index_mut.result.now c.self.invariant.core.book.lawful.within
     (c.self.invariant.core.sessions (c.args.number - 1) c.index_mut.result.now found))
 
+pub ask-requires-clause-questions : goal.ask-requires-clause-questions
+ask-requires-clause-questions c =
+    let lo = c.requires.0 in
+    let hi = c.requires.2 in
+    let many : length c.self.inside.sessions.items ≡ length c.args.self.now.sessions = ap (λ (s : State). length s.sessions) c.self.view_is in
+    let found : slice_get c.self.inside.sessions.items (c.args.number - 1) ≡ Some c.index_mut.result.now = slice_get_read c.self.inside.sessions.items
+    (length c.self.inside.sessions.items) (c.args.number - 1) c.index_mut.result.now refl (omega (arith, lo, hi, many)) c.index_mut.ensures.value in
+    let source : c.deref.result.now ≡ c.self.inside.book.source = search rules in
+    subst (λ (p : Presented). AllByRecursion (CanBeAsked p) c.index_mut.result.now.questions) (sym source)
+    (c.self.invariant.core.sessions (c.args.number - 1) c.index_mut.result.now found).questions
+
 pub invariant_of-self-2 : goal.invariant_of-self-2
 invariant_of-self-2 c =
     let lo = c.requires.0 in
@@ -34,6 +48,7 @@ invariant_of-self-2 c =
           c.over-list.ensures.list c.ask.result (c.args.number - 1) c.self.invariant.core found c.ask.ensures.ok c.ask.ensures.err;
       source = c.self.invariant.source;
       leads = c.in_ok-catch_up.ensures.first;
+      stuck = c.self.invariant.stuck;
     }
 
 pub returns-clause-ok : goal.returns-clause-ok
