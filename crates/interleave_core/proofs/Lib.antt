@@ -1,0 +1,11 @@
+pub mod Lists
+pub mod Tasks
+pub mod Resting
+pub mod Turning
+pub mod Following
+pub mod Replying
+pub mod Keeping
+pub mod Running
+pub mod Giving
+pub mod Leading
+pub mod Ending
