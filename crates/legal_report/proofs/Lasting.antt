@@ -50,16 +50,16 @@ last_by : (p : Presented) (es : List BasisEntry) (seal : Option Seal) (q : Quest
     → IsClosing p es seal q live.verdict c
     → (IsOpen live.verdict → (r : Reply) → IsClosingReply p es seal q r → kind ≡ kind_of (tag_of r.verdict))
     → ((IsOpen live.verdict → ⊥) → kind ≡ kind_of (tag_of live.verdict)) → kind ≡ kind_of (tag_of (unwrap_or c live).verdict)
-last_by p es seal q live None kind is open closed = closed is
-last_by p es seal q live (Some r) kind is open closed = open is.0 r is.1
+last_by p es seal q live None kind is left closed = closed is
+last_by p es seal q live (Some r) kind is left closed = left is.0 r is.1
 
 module _ (p : Presented) (es : List BasisEntry) (seal : Option Seal) (s : SessionState) (replied : IsReplied p es seal s) (i : ℕ) (kind : Kind) where
   module _ (q : Question) (k : Kept) (asked : slice_get s.questions i ≡ Some q) (kept : slice_get s.kept i ≡ Some k) where
     reply : IsReply p (take k.front es) (seal_below es seal k.front) q k
     reply = replied.each i q k asked kept
 
-    at : Told p es seal s replied i
-    at = record { q = q; k = k; question = asked; kept = kept; reply = reply }
+    here : Told p es seal s replied i
+    here = record { q = q; k = k; question = asked; kept = kept; reply = reply }
 
     module _ (a : Answered) (h : IsAnswered p es seal q k a) where
       same : a.live.verdict ≡ reply.verdict
@@ -69,18 +69,20 @@ module _ (p : Presented) (es : List BasisEntry) (seal : Option Seal) (s : Sessio
       tag_is = ap (λ (v : Verdict). kind_of (tag_of v)) same ∙ ap kind_of (sym reply.tag)
 
       open_live : is_left_open k.tag ≡ true → IsOpen a.live.verdict
-      open_live e = subst IsOpen (sym same) (open_verdict p es seal s replied i at e)
+      unfolding here
+      open_live e = subst IsOpen (sym same) (open_verdict p es seal s replied i here e)
 
       closed_live : is_left_open k.tag ≡ false → IsOpen a.live.verdict → ⊥
-      closed_live e open = closed_verdict p es seal s replied i at e (subst IsOpen same open)
+      unfolding here
+      closed_live e left = closed_verdict p es seal s replied i here e (subst IsOpen same left)
 
       decided : is_left_open k.tag ≡ false → kind ≡ kind_of k.tag → kind ≡ last_kind a
-      decided e is = last_by p es seal q a.live a.closing kind h.closing (λ open r c. absurd (closed_live e open)) (λ closed. is ∙ sym tag_is)
+      decided e is = last_by p es seal q a.live a.closing kind h.closing (λ left r c. absurd (closed_live e left)) (λ closed. is ∙ sym tag_is)
 
       final : k.front ≡ item_count es seal → kind ≡ kind_of k.tag → kind ≡ last_kind a
       final all is =
           last_by p es seal q a.live a.closing kind h.closing
-          (λ open r c. is ∙ sym tag_is ∙ ap (λ (v : Verdict). kind_of (tag_of v))
+          (λ left r c. is ∙ sym tag_is ∙ ap (λ (v : Verdict). kind_of (tag_of v))
           (one_verdict p (vectors_of es) seal q a.live.verdict r.verdict
           (by_all p es seal q a.live.verdict a.live.front (h.front ∙ all) h.live.verdict)
           (by_all p es seal q r.verdict r.front c.front c.reply.verdict)))
@@ -89,7 +91,7 @@ module _ (p : Presented) (es : List BasisEntry) (seal : Option Seal) (s : Sessio
       asked_again : (v : Verdict) → is_left_open k.tag ≡ true → IsVerdict p (vectors_of es) seal q v → kind ≡ kind_of (tag_of v) → kind ≡ last_kind a
       asked_again v e made is =
           last_by p es seal q a.live a.closing kind h.closing
-          (λ open r c. is ∙ ap (λ (v : Verdict). kind_of (tag_of v))
+          (λ left r c. is ∙ ap (λ (v : Verdict). kind_of (tag_of v))
           (one_verdict p (vectors_of es) seal q v r.verdict made (by_all p es seal q r.verdict r.front c.front c.reply.verdict)))
           (λ closed. absurd (closed (open_live e)))
 
@@ -97,19 +99,19 @@ module _ (p : Presented) (es : List BasisEntry) (seal : Option Seal) (s : Sessio
   pub kept_last : (k : Kept) → slice_get s.kept i ≡ Some k → (is_left_open k.tag ≡ false) ⊎ (k.front ≡ item_count es seal) → kind ≡ kind_of k.tag
       → IsLastKind p es seal s i kind
   kept_last k kept (inl e) is = record {
-    closing = λ q x asked there open. absurd (not_both x there open);
+    closing = λ q x asked there left. absurd (not_both x there left);
     is = λ q x a asked there h. let one : k ≡ x = same_item s.kept i k x kept there in
         decided q x asked there a h (subst (λ (y : Kept). is_left_open y.tag ≡ false) one e) (subst (λ (y : Kept). kind ≡ kind_of y.tag) one is);
   }
     where
       not_both : (x : Kept) → slice_get s.kept i ≡ Some x → is_left_open x.tag ≡ true → ⊥
-      not_both x there open =
+      not_both x there left =
           let one : k ≡ x = same_item s.kept i k x kept there in
           let no : is_left_open x.tag ≡ false = subst (λ (y : Kept). is_left_open y.tag ≡ false) one e in
-          let both : true ≡ false = sym open ∙ no in
+          let both : true ≡ false = sym left ∙ no in
           absurd (cc)
   kept_last k kept (inr all) is = record {
-    closing = λ q x asked there open. let one : k ≡ x = same_item s.kept i k x kept there in
+    closing = λ q x asked there left. let one : k ≡ x = same_item s.kept i k x kept there in
         closing p es seal q x (subst (λ (y : Kept). y.front ≡ item_count es seal) one all) (reply q x asked there);
     is = λ q x a asked there h. let one : k ≡ x = same_item s.kept i k x kept there in
         final q x asked there a h (subst (λ (y : Kept). y.front ≡ item_count es seal) one all) (subst (λ (y : Kept). kind ≡ kind_of y.tag) one is);
@@ -119,10 +121,10 @@ module _ (p : Presented) (es : List BasisEntry) (seal : Option Seal) (s : Sessio
   pub asked_last : (vs : List (List Term)) (q : Question) (v : Verdict) → vs ≡ vectors_of es → slice_get s.questions i ≡ Some q
       → ((k : Kept) → slice_get s.kept i ≡ Some k → is_left_open k.tag ≡ true) → IsVerdict p vs seal q v → kind ≡ kind_of (tag_of v)
       → IsLastKind p es seal s i kind
-  asked_last vs q v entries asked open made is = record {
-    closing = λ x k here there left. subst (HasClosing p es seal) (same_item s.questions i q x asked here)
+  asked_last vs q v entries asked left made is = record {
+    closing = λ x k here there e. subst (HasClosing p es seal) (same_item s.questions i q x asked here)
         (closing_there p vs es seal entries q v made);
-    is = λ x k a here there h. asked_again x k here there a h v (open k there)
+    is = λ x k a here there h. asked_again x k here there a h v (left k there)
         (subst (λ (y : Question). IsVerdict p (vectors_of es) seal y v) (same_item s.questions i q x asked here)
         (subst (λ (b : List (List Term)). IsVerdict p b seal q v) entries made)) is;
   }
@@ -178,7 +180,9 @@ none_kept all (Some x) e k is =
 take_one : {A : Type 0} (xs : List A) (i : ℕ) (x : A) → slice_get xs i ≡ Some x → take (i + 1) xs ≡ take i xs ++ x ∷ []
 take_one [] i x at = absurd (cc)
 take_one (y ∷ xs) zero x at = let e : y ≡ x = cc in ap (λ z. z ∷ []) e
-take_one (y ∷ xs) (suc i) x at = ap (λ zs. y ∷ zs) (take_one xs i x at)
+take_one {A} (y ∷ xs) (suc i) x at =
+    let e : suc (i + 1) ≡ suc i + 1 = omega arith in
+    subst (λ (j : ℕ). take j (y ∷ xs) ≡ y ∷ (take i xs ++ x ∷ [])) e (ap (λ (zs : List A). y ∷ zs) (take_one xs i x at))
 
 -- of the first questions
 pub record ArePutTo (p : Presented) (es : List BasisEntry) (seal : Option Seal) (s : SessionState) (n : ℕ) (old now : List Kind) : Type 0 where
@@ -192,7 +196,7 @@ take_none (x ∷ xs) = refl
 
 pub none_put : (p : Presented) (es : List BasisEntry) (seal : Option Seal) (s : SessionState) (old : List Kind) → ArePutTo p es seal s 0 old old
 none_put p es seal s old = record {
-  closings = λ i q k lt asked kept open. absurd (omega (arith, lt));
+  closings = λ i q k lt asked kept left. absurd (omega (arith, lt));
   are = λ t h. sym (ap (λ (xs : List Answered). old ++ map last_kind xs) (take_none t.answers) ∙ append-nil old);
 }
 
@@ -200,9 +204,9 @@ module _ (p : Presented) (es : List BasisEntry) (seal : Option Seal) (s : Sessio
   pub one_put : IsReplied p es seal s → n < length s.questions → (kind : Kind) (next : List Kind) → IsLastKind p es seal s n kind → next ≡ now ++ kind ∷ []
       → ArePutTo p es seal s (n + 1) old next
   one_put replied lt kind next last is = record {
-    closings = λ i q k less asked kept open. elim (before_or_at i n less) [
-      | inl h ↦ to.closings i q k h asked kept open
-      | inr e ↦ last.closing q k (subst (λ (m : ℕ). slice_get s.questions m ≡ Some q) e asked) (subst (λ (m : ℕ). slice_get s.kept m ≡ Some k) e kept) open
+    closings = λ i q k less asked kept left. elim (before_or_at i n less) [
+      | inl h ↦ to.closings i q k h asked kept left
+      | inr e ↦ last.closing q k (subst (λ (m : ℕ). slice_get s.questions m ≡ Some q) e asked) (subst (λ (m : ℕ). slice_get s.kept m ≡ Some k) e kept) left
     ];
     are = λ t h.
         let q : StandsAt s.questions n = stands_at s.questions n lt in
@@ -226,7 +230,7 @@ module _ (p : Presented) (es : List BasisEntry) (seal : Option Seal) (s : Sessio
 
   pub all_put : length s.questions ≤ n → ArePut p es seal s old now
   all_put le = record {
-    closings = λ i q k asked kept open. to.closings i q k (within i q asked) asked kept open;
+    closings = λ i q k asked kept left. to.closings i q k (within i q asked) asked kept left;
     are = λ t h. to.are t h ∙ ap (λ (xs : List Answered). old ++ map last_kind xs) (take_all n t.answers (omega (arith, le, h.count)));
   }
     where
@@ -280,4 +284,5 @@ module _ (p : Presented) (es : List BasisEntry) (seal : Option Seal) (ss : List 
   }
 
 pub ruleset putting = (none_put, one_put, all_put)
+
 pub ruleset finding = (none_found, one_found, all_found)

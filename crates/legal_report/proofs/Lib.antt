@@ -8,4 +8,4 @@ pub mod Reportable
 mod Lasting
 mod TrueAnswers
 mod Accepted
-mod Solved
+mod Concluding

@@ -19,11 +19,11 @@ pub verdict-requires-clause-question : goal.verdict-requires-clause-question
 verdict-requires-clause-question g c =
     at_place (CanBeAsked c.args.p.now) c.args.session.now.questions (c.args.number - 1) c.question.result.now c.requires.replied.asked c.question.ensures
 
-pub returns-in-None : goal.returns-in-None
-returns-in-None g c =
+pub returns-in_ok-verdict-in-None : goal.returns-in_ok-verdict-in-None
+returns-in_ok-verdict-in-None g c =
     let i : ℕ = c.args.number - 1 in
     let all : ℕ = item_count (g.F.Front.entries c.args.list.now) (g.F.Front.seal c.args.list.now) in
     let is : kind_kept all (slice_get c.args.session.now.kept i) ≡ None = search rules in
-    asked_last c.args.p.now (g.F.Front.entries c.args.list.now) (g.F.Front.seal c.args.list.now) c.args.session.now c.requires.replied i c.of.result
-    (g.F.Front.vectors c.args.list.now) c.question.result.now c.in_ok-verdict.verdict (g.F.Front.vectors_are c.args.list.now) c.question.ensures
-    (λ k kept. none_kept all (slice_get c.args.session.now.kept i) is k kept) c.in_ok-verdict.ensures.is (search rules)
+    asked_last c.args.p.now (g.F.Front.entries c.args.list.now) (g.F.Front.seal c.args.list.now) c.args.session.now c.requires.replied i c.of-in-None.result
+    (g.F.VecList.vectors c.args.list.now) c.question.result.now c.in_ok-verdict-in-None.verdict (search rules) c.question.ensures
+    (λ k kept. none_kept all (slice_get c.args.session.now.kept i) is k kept) c.in_ok-verdict-in-None.ensures.is (search rules)

@@ -8,7 +8,7 @@ use Rattle.report_text.specs.Reports.{Reported, IsReportable, reported}
 use Rattle.legal_report.specs.Gathering.{questions_of}
 use Rattle.legal_report.proofs.Accepted.{holds_over}
 use Rattle.legal_report.proofs.Reportable.{reportable}
-use Rattle.legal_report.proofs.Solved.{sourced}
+use Rattle.legal_report.proofs.Concluding.{sourced}
 use Rattle.legal_report.proofs.solving.conclude.Goals as goal
 
 pub last_kinds-requires : goal.last_kinds-requires

@@ -4,7 +4,7 @@ use Rattle.std.specs.Arc.{arc_value}
 use Rattle.presentation.specs.Presented.{IsPresented}
 use Rattle.session_core.specs.Sessions.{IsSession}
 use Rattle.report_text.specs.Reports.{reported}
-use Rattle.legal_report.proofs.Solved.{askers, solution}
+use Rattle.legal_report.proofs.Concluding.{askers, solution}
 use Rattle.legal_report.proofs.solving.solve.Goals as goal
 
 pub conclude-requires-clause-sessions : goal.conclude-requires-clause-sessions
