@@ -87,9 +87,17 @@ module _ (counted later : Type 0) (on : counted → later) (u v : List ℕ → O
   no_schedule n many (Says a) cause fails =
       let here : FileFails counted SCHEDULE_BYTES q.schedule (u q.schedule) (in_lines (schedule_text (length q.sessions))) a =
       subst (λ (k : ℕ). FileFails counted SCHEDULE_BYTES q.schedule (u q.schedule) (in_lines (schedule_text k)) a) many fails in
-      inr (cause.0, cause.1, inr (p, presented, inl (subst (λ (told : Option (List ℕ)). FileFails later SCHEDULE_BYTES q.schedule told
-      (in_lines (schedule_text (length q.sessions))) a) (same q.schedule)
-      (fails_later counted later on SCHEDULE_BYTES q.schedule (u q.schedule) (in_lines (schedule_text (length q.sessions))) a here))))
+      inr (
+        cause.0,
+        cause.1,
+        inr (
+          p,
+          presented,
+          inl (subst (λ (told : Option (List ℕ)). FileFails later SCHEDULE_BYTES q.schedule told
+              (in_lines (schedule_text (length q.sessions))) a) (same q.schedule)
+              (fails_later counted later on SCHEDULE_BYTES q.schedule (u q.schedule) (in_lines (schedule_text (length q.sessions))) a here)),
+        ),
+      )
   no_schedule n many NoMemory cause fails = tt
 
   -- and where a session's has none

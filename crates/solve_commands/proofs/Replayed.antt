@@ -3,12 +3,10 @@ use Rattle.std.proofs.Common.{◌≡◌, ℕ, suc, ◌+◌, List, [], ◌∷◌,
 use Rattle.presentation.specs.Presented.{Presented}
 use Rattle.session_text.specs.declared.question.Event.{Event}
 use Rattle.session_text.specs.declared.question.Question.{Question}
-
 use Rattle.pair_book.specs.declared.limits.Limits.{Limits}
 use Rattle.pair_book.specs.Books.{Held}
 use Rattle.session_core.specs.Sessions.{SessionState}
 use Rattle.interleave_core.specs.Askers as machine
-use Rattle.interleave_core.specs.Invariants.{IsCore}
 use Rattle.interleave_core.specs.Machine.{State}
 use Rattle.interleave_core.specs.Opening.{IsOpened, IsLeft}
 use Rattle.interleave_core.specs.Runs.{Run, KeepsReplies, Keeps}
@@ -32,10 +30,10 @@ questions_kept (s ∷ olds) (t ∷ news) count each =
     rw (own, rest) refl
 
 module _ (p : Presented) (limits : Limits) (ss : List SessionState) (events : List Event) (first last : State) (book : Held) (left : List SessionState)
-    (opened : IsOpened p limits ss first) (core : IsCore first) (run : Run first events last) (is : IsLeft last book left)
-    (keep : (old new : State) (es : List Event) → IsCore old → Run old es new → Keeps old new) where
+    (opened : IsOpened p limits ss first) (run : Run first events last) (is : IsLeft last book left)
+    (keep : (old new : State) (es : List Event) → Run old es new → Keeps old new) where
   kept : Keeps first last
-  kept = keep first last events core run
+  kept = keep first last events run
 
   pub source : book.source ≡ p
   source = ap (λ (h : Held). h.source) is.rest ∙ kept.items.source ∙ ap (λ (h : Held). h.source) opened.book.is

@@ -43,23 +43,27 @@ end_word (Full m c) = codes "full"
 end_word (Spent c t) = codes "spent"
 
 -- how many of the last verdicts are of each kind: those on words, those on maps, and those that settle nothing
-abbrev pub words_text : List Kind → List ℕ
+unfoldable pub words_text : List Kind → List ℕ
 words_text kinds = codes "trivial " ++ decimal (how_many Trivial kinds) ++ codes " not-trivial "
     ++ decimal (how_many NotTrivial kinds) ++ codes " normal " ++ decimal (how_many Normal kinds)
 
-abbrev pub maps_text : List Kind → List ℕ
+unfoldable pub maps_text : List Kind → List ℕ
 maps_text kinds = codes "extends " ++ decimal (how_many Extends kinds) ++ codes " fails "
     ++ decimal (how_many Fails kinds)
 
-abbrev pub unsettled_text : List Kind → List ℕ
+unfoldable pub unsettled_text : List Kind → List ℕ
 unsettled_text kinds = codes "unknown " ++ decimal (how_many Unknown kinds) ++ codes " stop "
     ++ decimal (how_many Stop kinds)
 
--- a line with the seed, the number of entries, how the log ends, and these numbers
+-- the seed, the number of entries, and how the log ends
+unfoldable pub head_text : ℕ → ℕ → End → List ℕ
+head_text seed entries end = codes "gen " ++ decimal seed ++ codes " entries " ++ decimal entries ++ codes " end "
+    ++ end_word end
+
+-- the line of all this
 abbrev pub summary_line : ℕ → ℕ → End → List Kind → List ℕ
-summary_line seed entries end kinds = codes "gen " ++ decimal seed ++ codes " entries " ++ decimal entries
-    ++ codes " end " ++ end_word end ++ codes " " ++ words_text kinds ++ codes " " ++ maps_text kinds ++ codes " "
-    ++ unsettled_text kinds ++ codes "\n"
+summary_line seed entries end kinds = head_text seed entries end ++ codes " " ++ words_text kinds ++ codes " "
+    ++ maps_text kinds ++ codes " " ++ unsettled_text kinds ++ codes "\n"
 
 -- the summary of what a seed leads to
 abbrev pub summary : ℕ → History → List ℕ

@@ -65,10 +65,10 @@ pub record IsWithinTable (w : ReplayWords) : Type 0 where
 
 -- The machine was opened with sessions of these questions before their first reply, and the events have led it to this
 -- state
-pub record IsPlayed (p : Presented) (limits : Limits) (questions : List (List Question)) (events : List Event)
+pub record IsPlayed (p : Presented) (limits : Limits) (asked : List (List Question)) (events : List Event)
     (s : State) : Type 0 where
   pub sessions : List SessionState
-  pub questions : questions_of sessions ≡ questions
+  pub questions : questions_of sessions ≡ asked
   pub first : State
   pub opened : IsOpened p limits sessions first
   pub run : Run first events s

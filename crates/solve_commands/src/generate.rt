@@ -8,6 +8,7 @@ ghost use Rattle.session_text.specs.Reading.{session_text};
 ghost use Rattle.report_text.specs.Histories.{History};
 ghost use Rattle.report_text.specs.Reports.{reported, IsHistoryOf};
 ghost use Rattle.legal_report.specs.Last.{AreLastKinds};
+ghost use Rattle.command_floor.specs.declared.status.Status.TheVariants.{ReadFault};
 ghost use Rattle.command_floor.specs.Files.{CommandEnd, HasCause, TextGives, in_lines};
 ghost use Rattle.solve_commands.specs.SessionFiles.{QuestionsGive, AreAskable};
 ghost use Rattle.solve_commands.specs.Runs.{ShowsSettled};
@@ -98,7 +99,7 @@ fn shown(alloc: Global, seed: u32, solved: &Solved) -> Result<Answer, AllocError
 // The answer to these texts.
 fn summarize(alloc: Global, seed: u32, presentation: &[u8], session: &[u8]) -> Result<Answer, Halt>
     ensures exact { CommandEnd (TextsLead seed presentation.now session.now) result }
-    ensures read { IfOk result (λ a. a.status ≢ Status.ReadFault) }
+    ensures read { IfOk result (λ a. a.status ≢ ReadFault) }
     ensures cause { IfErr result (HasCause ⊥) }
 {
     let p = presentation_in(alloc, presentation)?;
@@ -116,7 +117,7 @@ fn summarize(alloc: Global, seed: u32, presentation: &[u8], session: &[u8]) -> R
 pub fn answer(alloc: Global, seed: u32) -> Result<Answer, Halt>
     requires { seed ≤ MOST_SEED }
     ensures exact { CommandEnd (GenLeads seed) result }
-    ensures read { IfOk result (λ a. a.status ≢ Status.ReadFault) }
+    ensures read { IfOk result (λ a. a.status ≢ ReadFault) }
     ensures cause { IfErr result (HasCause ⊥) }
 {
     let (presentation, session) = large(alloc, u64::from(seed))?;

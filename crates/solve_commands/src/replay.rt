@@ -78,7 +78,6 @@ fn replayed(
     generators_fit(p, limits);
     runs_keep();
     let mut core = Core::open(alloc, p, sessions, limits)?;
-    core.known();
     core.play(alloc, events)?;
     let (book, sessions) = core.parts();
     let solved = conclude(alloc, p, book, sessions, limits)?;
@@ -86,11 +85,7 @@ fn replayed(
 }
 
 /// What `replay` finds over these texts: the report of the run that the schedule tells.
-pub fn report<S: Shelf>(
-    alloc: Global,
-    shelf: &mut S,
-    words: &ReplayWords,
-) -> Result<Solved, Halt>
+pub fn report<S: Shelf>(alloc: Global, shelf: &mut S, words: &ReplayWords) -> Result<Solved, Halt>
     requires within { IsWithinTable words.now }
     ensures gives { GivesReport (ReplayLeads (CountRose (S.faults shelf.old) (S.faults shelf.new)) (S.under shelf.old)
         (replay_asked words.now)) result }

@@ -1,10 +1,11 @@
 //! The summary of a report: how its log ends, and how many of its last verdicts are of each kind.
 
-ghost use Rattle.std.specs.Prelude.{◌≡◌, IfOk, codes};
+ghost use Rattle.std.specs.Prelude.{◌≡◌, string_bytes, IfOk};
 ghost use Rattle.report_text.specs.Histories.{History};
 ghost use Rattle.report_text.specs.Reports.{reported, IsHistoryOf};
 ghost use Rattle.legal_report.specs.Last.{AreLastKinds};
-ghost use Rattle.solve_commands.specs.Generate.{end_word, words_text, maps_text, unsettled_text, summary_line, summary};
+ghost use Rattle.solve_commands.specs.Generate.{end_word, head_text, words_text, maps_text, unsettled_text, summary_line};
+ghost use Rattle.solve_commands.specs.Generate.{summary};
 
 use legal_report::{Kind, Solved};
 use outcomes::End;
@@ -22,35 +23,51 @@ fn end_word(end: &End) -> &'static str
     }
 }
 
+/// The seed, the number of entries, and how the log ends.
+#[tactic(auto, unfolding(crate::specs::Generate::head_text))]
+fn head_text(alloc: Global, seed: u32, entries: usize, end: &End) -> Result<String, AllocError>
+    ensures { IfOk result (λ text. string_bytes text ≡ head_text seed entries end.now) }
+{
+    let word = end_word(end);
+    let text = format!(in alloc; "gen {seed} entries {entries} end {word}")?;
+    Ok(text)
+}
+
 /// How many verdicts on words there are.
+#[tactic(auto, unfolding(crate::specs::Generate::words_text))]
 fn words_text(alloc: Global, kinds: &[Kind]) -> Result<String, AllocError>
-    ensures { IfOk result (λ text. text ≡ words_text kinds.now) }
+    ensures { IfOk result (λ text. string_bytes text ≡ words_text kinds.now) }
 {
     let trivial = Kind::Trivial.count(kinds);
     let not_trivial = Kind::NotTrivial.count(kinds);
     let normal = Kind::Normal.count(kinds);
-    format!(in alloc; "trivial {trivial} not-trivial {not_trivial} normal {normal}")
+    let text = format!(in alloc; "trivial {trivial} not-trivial {not_trivial} normal {normal}")?;
+    Ok(text)
 }
 
 /// How many verdicts on maps there are.
+#[tactic(auto, unfolding(crate::specs::Generate::maps_text))]
 fn maps_text(alloc: Global, kinds: &[Kind]) -> Result<String, AllocError>
-    ensures { IfOk result (λ text. text ≡ maps_text kinds.now) }
+    ensures { IfOk result (λ text. string_bytes text ≡ maps_text kinds.now) }
 {
     let extends = Kind::Extends.count(kinds);
     let fails = Kind::Fails.count(kinds);
-    format!(in alloc; "extends {extends} fails {fails}")
+    let text = format!(in alloc; "extends {extends} fails {fails}")?;
+    Ok(text)
 }
 
 /// How many verdicts there are that settle nothing.
+#[tactic(auto, unfolding(crate::specs::Generate::unsettled_text))]
 fn unsettled_text(alloc: Global, kinds: &[Kind]) -> Result<String, AllocError>
-    ensures { IfOk result (λ text. text ≡ unsettled_text kinds.now) }
+    ensures { IfOk result (λ text. string_bytes text ≡ unsettled_text kinds.now) }
 {
     let unknown = Kind::Unknown.count(kinds);
     let stop = Kind::Stop.count(kinds);
-    format!(in alloc; "unknown {unknown} stop {stop}")
+    let text = format!(in alloc; "unknown {unknown} stop {stop}")?;
+    Ok(text)
 }
 
-/// The line of these numbers.
+/// The line of all this.
 fn summary_line(
     alloc: Global,
     seed: u32,
@@ -60,11 +77,11 @@ fn summary_line(
 ) -> Result<Vec<u8>, AllocError>
     ensures { IfOk result (λ text. text.items ≡ summary_line seed entries end.now kinds.now) }
 {
-    let end = end_word(end);
+    let head = head_text(alloc, seed, entries, end)?;
     let words = words_text(alloc, kinds)?;
     let maps = maps_text(alloc, kinds)?;
     let rest = unsettled_text(alloc, kinds)?;
-    let text = format!(in alloc; "gen {seed} entries {entries} end {end} {words} {maps} {rest}\n")?;
+    let text = format!(in alloc; "{head} {words} {maps} {rest}\n")?;
     Ok(text.into_bytes())
 }
 
@@ -75,11 +92,5 @@ pub fn summary(alloc: Global, seed: u32, solved: &Solved) -> Result<Vec<u8>, All
         → text.items ≡ summary seed h) }
 {
     let report = &solved.report;
-    summary_line(
-        alloc,
-        seed,
-        report.entries.len(),
-        &report.end,
-        &solved.last,
-    )
+    summary_line(alloc, seed, report.entries.len(), &report.end, &solved.last)
 }

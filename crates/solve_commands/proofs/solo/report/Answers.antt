@@ -1,5 +1,6 @@
-use Rattle.std.proofs.Common.{rules, ◌≡◌, ℕ, List, Option, length, subst, ◌∙◌}
+use Rattle.std.proofs.Common.{rules, ◌≡◌, ℕ, List, Option, Err, length, sym, ap, subst, ◌∙◌}
 use Rattle.std.proofs.lemmas.List.{length-map}
+use Rattle.std.proofs.lemmas.Result.{err_from_is_err_and}
 use Rattle.std.specs.Arc.{arc_value}
 use Rattle.mb_io.specs.Shelf.{CountRose}
 use Rattle.mb_io.proofs.Giving.{rose_later}
@@ -12,7 +13,8 @@ use Rattle.legal_report.specs.Gathering.{questions_of}
 use Rattle.solve_commands.specs.SessionFiles.{AreQuestionsUnder}
 use Rattle.legal_report.specs.Solutions.{AreNewSessions, IsSolution}
 use Rattle.solve_commands.specs.Presentations.{IsPresentedIn}
-use Rattle.solve_commands.specs.Solo.{SoloAsked, solo_asked}
+use Rattle.solve_commands.specs.Runs.{GivesReport}
+use Rattle.solve_commands.specs.Solo.{SoloAsked, SoloLeads, solo_asked}
 use Rattle.solve_commands.proofs.SessionFiles.{asked_same}
 use Rattle.solve_commands.proofs.SoloFound.{due, not_presented, halted}
 use Rattle.solve_commands.proofs.solo.report.Goals as goal
@@ -28,11 +30,12 @@ returns-in_err-sessions-clause-gives g c =
     let under : List ℕ → Option (List ℕ) = g.S.Shelf.under c.args.shelf.now in
     let q : SoloAsked = solo_asked c.args.words.now in
     let presented : IsPresentedIn under q.presentation c.in_ok-p.p = search rules in
-    search (
-      rules,
-      halted (CountRose mid now) (CountRose before now) (rose_later before mid now c.load_presentation.ensures.later)
-          (g.S.Shelf.under c.load_presentation.new.shelf) under c.load_presentation.ensures.same q c.in_ok-p.p presented,
-    )
+    let failed = err_from_is_err_and c.from_residual-in_err-sessions.result c.from_residual-in_err-sessions.ensures.1 in
+    let same : c.from_residual-in_err-sessions.result ≡ Err c.in_err-sessions.field-0.0 = failed.1 ∙ ap Err failed.2 in
+    subst (GivesReport (SoloLeads (CountRose before now) under q)) (sym same)
+    (halted (CountRose mid now) (CountRose before now) (rose_later before mid now c.load_presentation.ensures.later)
+    (g.S.Shelf.under c.load_presentation.new.shelf) under c.load_presentation.ensures.same q c.in_ok-p.p presented c.in_err-sessions.field-0.0
+    c.in_err-sessions.ensures.cause (search (rules, c.in_err-sessions.ensures.gives)))
 
 pub solve-requires-clause-sessions : goal.solve-requires-clause-sessions
 solve-requires-clause-sessions g c =
