@@ -111,7 +111,10 @@ fn questions_come_between(rt: HostRuntime) -> Result<(), Fail> {
         ("w1 w2 w3 w1 w3 w3", at_the_end),
         (" \r\n", at_the_end),
     ] {
-        assert!(rt; replays(alloc, line, schedule, pieces, Status::Done)?, "{schedule}");
+        assert!(rt;
+            replays(alloc, line, schedule, pieces, Status::Done)?,
+            "{schedule}"
+        );
     }
     let line: &[&str] = &["replay", "--budget=1", "p", "h", "s"];
     let pieces: &[&str] = &[BASE, SIXTH, SPENT_AT_7];
@@ -128,14 +131,25 @@ fn what_is_wrong_with_a_schedule_is_told(rt: HostRuntime) -> Result<(), Fail> {
         ("w01", "refused h line 1 column 1 expected\n"),
         ("w1\n w17 s2", "refused h line 2 column 2 expected\n"),
     ] {
-        assert!(rt; replays(alloc, line, schedule, &[text], Status::TextRefused)?, "{schedule}");
+        assert!(rt;
+            replays(alloc, line, schedule, &[text], Status::TextRefused)?,
+            "{schedule}"
+        );
     }
     // The schedule is read before the session, which has a fault too.
     let shelf = files(alloc, "<a|>", "x", "normal b")?;
     let text = "refused h line 1 column 1 expected\n";
     assert!(rt; ends(alloc, line, shelf, text, Status::TextRefused)?);
     let shelf = files(alloc, "<a|>", "", "")?;
-    assert!(rt; ends(alloc, &["replay", "p", "h"], shelf, "refused words\n", Status::WordsRefused)?);
+    assert!(rt;
+        ends(
+            alloc,
+            &["replay", "p", "h"],
+            shelf,
+            "refused words\n",
+            Status::WordsRefused
+        )?
+    );
     Ok(())
 }
 
@@ -148,7 +162,11 @@ fn a_stop_that_is_answered_at_the_end_is_settled(rt: HostRuntime) -> Result<(), 
     let line: &[&str] = &["replay", "p", "h", "s"];
     let (status, out) = run(alloc, line, shelf, sink(alloc, &[])?)?;
     let stop = b" : stop 1 wide 42 a^4@b\n";
-    assert!(rt; out.taken().windows(stop.len()).any(|part| part == stop.as_slice()));
+    assert!(rt;
+        out.taken()
+            .windows(stop.len())
+            .any(|part| part == stop.as_slice())
+    );
     assert!(rt; out.taken().ends_with(b" : not-trivial\ndone\n"));
     assert!(rt; status == Status::Done);
     Ok(())
