@@ -46,9 +46,35 @@ fn words_outside_the_table_are_refused(rt: HostRuntime) -> Result<(), Fail> {
 fn options_stand_anywhere_behind_the_command(rt: HostRuntime) -> Result<(), Fail> {
     let alloc = rt.alloc();
     let lines: [&[&str]; 3] = [
-        &["solo", "--entries", "4096", "--budget=0", "--order", "2", "p", "-"],
-        &["solo", "p", "--budget", "000", "--order=000000002", "-", "--entries=4096"],
-        &["solo", "--order", "2", "--entries=4096", "p", "--budget=0", "--", "-"],
+        &[
+            "solo",
+            "--entries",
+            "4096",
+            "--budget=0",
+            "--order",
+            "2",
+            "p",
+            "-",
+        ],
+        &[
+            "solo",
+            "p",
+            "--budget",
+            "000",
+            "--order=000000002",
+            "-",
+            "--entries=4096",
+        ],
+        &[
+            "solo",
+            "--order",
+            "2",
+            "--entries=4096",
+            "p",
+            "--budget=0",
+            "--",
+            "-",
+        ],
     ];
     for line in lines {
         let words = words(alloc, line)?;
