@@ -1,12 +1,10 @@
 -- What is left of a machine that has played events can be ended.
-use Rattle.std.proofs.Common.{ℕ, zero, suc, ◌≡◌, refl, sym, ap, ◌∙◌, arith, List, [], ◌∷◌, length, map, Some, slice_get, subst}
+use Rattle.std.proofs.Common.{ℕ, suc, ◌≡◌, refl, ap, ◌∙◌, arith, List, [], ◌∷◌, length, map, Some, slice_get}
 use Rattle.presentation.specs.Presented.{Presented}
 use Rattle.session_text.specs.declared.question.Event.{Event}
-use Rattle.session_text.specs.declared.question.Question.{Question}
 use Rattle.pair_book.specs.declared.limits.Limits.{Limits}
 use Rattle.pair_book.specs.Books.{Held}
 use Rattle.session_core.specs.Sessions.{SessionState}
-use Rattle.interleave_core.specs.Machine.{State}
 use Rattle.interleave_core.specs.Runs.{KeepsReplies, Keeps, IsPlayed, CanBeEnded}
 use Rattle.interleave_core.proofs.Lists.{same_some}
 use Rattle.interleave_core.proofs.Running.{run_keeps}

@@ -1,8 +1,8 @@
 -- What a worker's turn leaves of the book, for the other workers and the sessions.
-use Rattle.std.proofs.Common.{ℕ, ◌+◌, ◌<◌, ◌≤◌, ◌≡◌, ◌≢◌, ◌⊎◌, inl, inr, arith, refl, sym, ap, ◌∙◌, List, [], ◌∷◌, ◌++◌, length, length-append, append-nil}
-use Rattle.std.proofs.Common.{Bool, true, false}
-use Rattle.std.proofs.Common.{Option, Some, None, subst, take, slice_get}
-use Rattle.std.specs.Prelude.{Ok, Err}
+use Rattle.std.proofs.Common.{◌≡◌, ◌≢◌, ◌⊎◌, inl, inr, arith, refl, sym, ap, ◌∙◌, List, [], ◌∷◌, ◌++◌, length, length-append, append-nil}
+use Rattle.std.proofs.Common.{true}
+use Rattle.std.proofs.Common.{Option, Some, None, subst}
+use Rattle.std.specs.Prelude.{Ok}
 use Rattle.std.specs.Arc.{arc_value}
 use Rattle.std.proofs.lemmas.List.{append_assoc}
 use Rattle.presentation.specs.Presented.{Presented}
@@ -10,16 +10,16 @@ use Rattle.outcomes.specs.declared.tasks.Task.{Task}
 use Rattle.task_table.specs.declared.states.TaskState.{TaskState}
 use Rattle.task_table.specs.declared.states.TaskState.TheVariants.{Open, Taken, Hard, Closed, Never}
 use Rattle.task_table.specs.Tasks.{IsTask, is_open, is_taken}
-use Rattle.task_table.specs.Tables.{Table, IsTable, state_of, put}
+use Rattle.task_table.specs.Tables.{Table, IsTable, state_of}
 use Rattle.task_table.specs.Rows.{grown}
 use Rattle.task_table.proofs.Putting.{put_same}
-use Rattle.basis_entry.specs.Entries.{BasisEntry, vectors_of}
+use Rattle.basis_entry.specs.Entries.{BasisEntry}
 use Rattle.basis_entry.specs.Seals.{Seal}
 use Rattle.pair_work.specs.declared.outcome.Close.{Close}
 use Rattle.pair_work.specs.declared.outcome.Close.TheVariants.{Covered, Zero, Rest}
 use Rattle.pair_book.specs.Books.{Held, IsBook, IsTaken, IsSealedBy, with_state}
 use Rattle.pair_book.specs.Chaining.{is_waiting}
-use Rattle.pair_book.specs.Commits.{Fits, OnRest, closed_by, appended_by, state_after}
+use Rattle.pair_book.specs.Commits.{OnRest, closed_by, appended_by, state_after}
 use Rattle.pair_work.specs.Outcomes.{Worked}
 use Rattle.pair_book.specs.Settled.{settled_row}
 use Rattle.pair_work.specs.Works.{Works}

@@ -1,23 +1,16 @@
 -- The tasks in hand are given back.
-use Rattle.std.proofs.Common.{ℕ, zero, suc, ◌+◌, ◌<◌, ◌≤◌, ◌≡◌, ◌≢◌, ◌⊎◌, inl, inr, arith, refl, sym, ap, ◌∙◌, List, [], ◌∷◌, ◌++◌, length, Some, subst}
+use Rattle.std.proofs.Common.{ℕ, suc, ◌+◌, ◌<◌, ◌≡◌, arith, refl, sym, ap, ◌∙◌, List, [], ◌∷◌, length, Some, subst}
 use Rattle.std.proofs.Common.{slice_get, drop, get_or}
 use Rattle.std.proofs.lemmas.List.{drop_more}
-use Rattle.std.specs.List.{AllByRecursion}
-use Rattle.presentation.specs.Presented.{Presented}
-use Rattle.outcomes.specs.declared.tasks.Task.{Task}
-use Rattle.task_table.specs.declared.states.TaskState.{TaskState}
-use Rattle.task_table.specs.declared.states.TaskState.TheVariants.{Open, Hard}
-use Rattle.task_table.specs.Tasks.{is_taken}
-use Rattle.task_table.specs.Tables.{Table}
-use Rattle.pair_book.specs.Books.{Held, IsBook, IsTaken, GivesBack, with_state}
+use Rattle.pair_book.specs.Books.{Held, IsBook}
 use Rattle.session_core.specs.Sessions.{SessionState}
 use Rattle.interleave_core.specs.declared.hands.Hand.{Hand}
 use Rattle.interleave_core.specs.declared.hands.Hand.TheVariants.{Idle, Holds, Stopped}
 use Rattle.interleave_core.specs.Askers.{IsAsker, AreAskers}
-use Rattle.interleave_core.specs.Invariants.{IsTaskOf, IsHand, AreApart}
+use Rattle.interleave_core.specs.Invariants.{IsHand, AreApart}
 use Rattle.interleave_core.specs.Machine.{State}
 use Rattle.interleave_core.specs.Opening.{IsLeft, given_back, all_given_back}
-use Rattle.interleave_core.proofs.Following.{Follows, hand_follows, hand_gives}
+use Rattle.interleave_core.proofs.Following.{hand_follows, hand_gives}
 
 -- the hands that are left hold what the book has, and no task is in two of them
 pub record AreLeft (h : Held) (hands : List Hand) : Type 0 where

@@ -1,16 +1,12 @@
 -- What holds of the machine between events is kept by each of them.
-use Rattle.std.proofs.Common.{ℕ, ◌+◌, ◌-◌, ◌<◌, ◌≤◌, ◌≡◌, ◌≢◌, ◌⊎◌, inl, inr, arith, refl, sym, ap, ◌∙◌, List, [], ◌∷◌, ◌++◌, length, length-set, set, Some}
+use Rattle.std.proofs.Common.{ℕ, ◌+◌, ◌-◌, ◌≤◌, ◌≡◌, ◌≢◌, ◌⊎◌, inl, inr, refl, sym, ap, ◌∙◌, List, length, length-set, set, Some}
 use Rattle.std.proofs.Common.{subst, slice_get}
-use Rattle.std.proofs.Common.{replicate, append-nil}
 use Rattle.std.proofs.lemmas.List.{length-replicate}
 use Rattle.std.specs.List.{AllByRecursion}
 use Rattle.std.specs.Prelude.{Result, Ok, Err, OnOk, OnErr}
 use Rattle.presentation.specs.Presented.{Presented}
 use Rattle.outcomes.specs.declared.tasks.Task.{Task}
-use Rattle.session_text.specs.declared.question.Event.{Event}
-use Rattle.session_text.specs.declared.question.Event.TheVariants.{Worker, Session}
 use Rattle.basis_entry.specs.Base.{AreBase}
-use Rattle.basis_entry.specs.Entries.{BasisEntry}
 use Rattle.basis_entry.specs.Seals.{item_count}
 use Rattle.pair_book.specs.declared.limits.Limits.{Limits}
 use Rattle.pair_book.specs.Books.{Held, IsBook}
@@ -20,7 +16,7 @@ use Rattle.session_core.specs.Sessions.{SessionState, AreRising}
 use Rattle.interleave_core.specs.declared.TheConstants.{WORKERS}
 use Rattle.interleave_core.specs.declared.hands.Hand.{Hand}
 use Rattle.interleave_core.specs.declared.hands.Hand.TheVariants.{Idle}
-use Rattle.interleave_core.specs.Machine.{State, Turns, Asks, WorkerStep, SessionStep, Step}
+use Rattle.interleave_core.specs.Machine.{State, Turns, Asks, WorkerStep, SessionStep}
 use Rattle.interleave_core.specs.Askers.{AreReplies, IsAsker}
 use Rattle.interleave_core.specs.Invariants.{IsTaskOf, IsHand, IsCore}
 use Rattle.interleave_core.specs.Opening.{IsNewSession, AreNewSessions, IsOpened}

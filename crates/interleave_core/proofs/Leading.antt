@@ -1,5 +1,5 @@
 -- The leads that an index has are those of the first entries of a log that has grown since.
-use Rattle.std.proofs.Common.{◌+◌, ◌≤◌, ◌≡◌, arith, sym, ap, ◌∙◌, List, ◌++◌, length, length-append, map, take}
+use Rattle.std.proofs.Common.{◌≡◌, arith, sym, ap, ◌∙◌, List, ◌++◌, length, length-append, map, take}
 use Rattle.std.proofs.lemmas.List.{length-map, map-append}
 use Rattle.std.proofs.Math.Seq.{take-append_seam}
 use Rattle.module_vec.specs.declared.places.Term.{Term}

@@ -1,5 +1,5 @@
 -- Replies while the book goes on.
-use Rattle.std.proofs.Common.{ℕ, zero, suc, ◌+◌, ◌<◌, ◌≤◌, ◌≡◌, ◌⊎◌, inl, inr, arith, refl, sym, ap, ◌∙◌, List, [], ◌∷◌, ◌++◌, length, length-append, Bool}
+use Rattle.std.proofs.Common.{ℕ, ◌+◌, ◌<◌, ◌≤◌, ◌≡◌, inl, inr, arith, refl, sym, ap, ◌∙◌, List, [], ◌∷◌, ◌++◌, length, length-append, Bool}
 use Rattle.std.proofs.Common.{true, false}
 use Rattle.std.proofs.Common.{Option, Some, None, subst, take, slice_get}
 use Rattle.std.specs.List.{AllByRecursion}
@@ -19,7 +19,7 @@ use Rattle.session_core.specs.Replies.{IsReply}
 use Rattle.session_core.specs.Sessions.{SessionState, AreRising, front_after, last_front}
 use Rattle.interleave_core.specs.declared.hands.Hand.{Hand}
 use Rattle.interleave_core.specs.Machine.{Answers, Asks}
-use Rattle.interleave_core.specs.Askers.{AreReplies, IsAsker}
+use Rattle.interleave_core.specs.Askers.{IsAsker}
 use Rattle.interleave_core.proofs.Following.{Follows}
 use Rattle.interleave_core.proofs.Lists.{same_or_apart, same_some}
 

@@ -1,10 +1,8 @@
 -- What the work of a task leaves: a rest of the presentation, whose lead no lead divides; and the leads of a log.
-use Rattle.std.proofs.Common.{ℕ, zero, suc, ◌+◌, ◌<◌, ◌≡◌, ◌≢◌, arith, refl, sym, ap, ◌∙◌, List, [], ◌∷◌, ◌++◌, length, Bool, true, false, subst, MatchBool, ℤ}
-use Rattle.std.proofs.Common.{pos, negsuc, ◌*ℤ◌, map, take}
+use Rattle.std.proofs.Common.{ℕ, zero, suc, ◌<◌, ◌≡◌, ◌≢◌, arith, refl, sym, ap, ◌∙◌, List, [], ◌∷◌, length, Bool, true, false, subst, MatchBool, ℤ}
+use Rattle.std.proofs.Common.{pos, negsuc, ◌*ℤ◌}
 use borrow.Author.Differences.{ints}
 use Rattle.std.specs.Prelude.{◌<ℤ◌, ◌≤ℤ◌}
-use Rattle.std.specs.Arc.{arc_value}
-use Rattle.std.proofs.lemmas.List.{take_more, map-append}
 use Rattle.formal_sums.specs.FormalSum.{scale}
 use Rattle.presentation.specs.Presented.{Presented}
 use Rattle.module_vec.specs.declared.places.Term.{Term}

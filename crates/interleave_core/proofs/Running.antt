@@ -1,6 +1,6 @@
 -- Runs one behind the other, and what they keep.
-use Rattle.std.proofs.Common.{ℕ, ◌+◌, ◌-◌, ◌<◌, ◌≤◌, ◌≡◌, ◌⊎◌, inl, inr, arith, refl, sym, ap, ◌∙◌, List, [], ◌∷◌, ◌++◌, length, length-set, set, take}
-use Rattle.std.proofs.Common.{Option, Some, None, subst, slice_get, append-nil, get_or}
+use Rattle.std.proofs.Common.{ℕ, ◌+◌, ◌-◌, ◌<◌, ◌≡◌, inl, inr, refl, sym, ap, ◌∙◌, List, [], ◌∷◌, ◌++◌, length, length-set, set, take}
+use Rattle.std.proofs.Common.{Option, Some, subst, slice_get, append-nil, get_or}
 use Rattle.std.proofs.lemmas.List.{append_assoc, take_more}
 use Rattle.presentation.specs.Presented.{Presented}
 use Rattle.session_text.specs.declared.question.Event.{Event}

@@ -1,5 +1,5 @@
 -- Tasks of a book that aren't closed from the start.
-use Rattle.std.proofs.Common.{◌<◌, ◌≡◌, ◌⊎◌, inl, inr, arith, refl, sym, ◌∙◌, length, Bool, true, false}
+use Rattle.std.proofs.Common.{◌≡◌, ◌⊎◌, inl, inr, arith, refl, sym, ◌∙◌, length, Bool, true, false}
 use Rattle.std.proofs.lemmas.List.{length-map}
 use Rattle.outcomes.specs.declared.tasks.Task.{Task}
 use Rattle.strong_pairs.specs.Pairs.{IsPair, lead_at}

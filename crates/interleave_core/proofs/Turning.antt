@@ -1,15 +1,14 @@
 -- What a worker's turn does, from what the calls on the book say.
-use Rattle.std.proofs.Common.{ℕ, ◌+◌, ◌<◌, ◌≤◌, ◌≡◌, ◌≢◌, ◌⊎◌, inl, inr, arith, refl, sym, ap, ◌∙◌, List, [], ◌∷◌, ◌++◌, length, length-append, set, Bool}
+use Rattle.std.proofs.Common.{ℕ, ◌<◌, ◌≤◌, ◌≡◌, ◌≢◌, inl, inr, arith, refl, sym, ap, ◌∙◌, List, [], ◌∷◌, ◌++◌, length, length-append, set, Bool}
 use Rattle.std.proofs.Common.{true, false}
 use Rattle.std.proofs.Common.{Option, Some, None, subst, append-nil, slice_get}
-use Rattle.std.specs.Prelude.{Result, Ok, Err, ◌↔◌, IsTrue, map}
+use Rattle.std.specs.Prelude.{Ok, Err, ◌↔◌, IsTrue}
 use Rattle.std.proofs.lemmas.List.{set-set, set-get_or, length-map}
 use Rattle.std.specs.Arc.{arc_value}
 use Rattle.presentation.specs.Presented.{Presented}
 use Rattle.outcomes.specs.declared.ends.Measure.{Measure}
 use Rattle.outcomes.specs.declared.ends.Measure.TheVariants.{Entries, Terms, Steps}
 use Rattle.outcomes.specs.declared.kinds.PairKind.{PairKind}
-use Rattle.outcomes.specs.declared.kinds.PairKind.TheVariants.{S}
 use Rattle.outcomes.specs.declared.tasks.Task.{Task}
 use Rattle.module_vec.specs.declared.places.Term.{Term}
 use Rattle.module_vec.specs.declared.faults.Stop.{Stop}
@@ -17,7 +16,7 @@ use Rattle.strong_pairs.specs.Pairs.{IsPair, lead_of}
 use Rattle.strong_pairs.specs.Tasks.{IsClosed}
 use Rattle.task_table.specs.declared.states.TaskState.{TaskState}
 use Rattle.task_table.specs.declared.states.TaskState.TheVariants.{Open, Taken, Hard, Closed, Never}
-use Rattle.task_table.specs.declared.states.Wanted.TheVariants.{OpenOnes, Unclosed}
+use Rattle.task_table.specs.declared.states.Wanted.TheVariants.{OpenOnes}
 use Rattle.task_table.specs.Tasks.{IsTask, number_of, is_open, is_taken, is_unclosed, is_never, is_closed_later}
 use Rattle.task_table.specs.Tables.{Table, NoneIs, state_of, put}
 use Rattle.task_table.proofs.Putting.{put_same}
@@ -33,7 +32,7 @@ use Rattle.pair_book.specs.declared.faults.Committed.TheVariants as done
 use Rattle.pair_book.specs.declared.faults.SealFault.TheVariants as seals
 use Rattle.pair_book.specs.Books.{Held, IsBook, IsTaken, IsSealed, IsSealedBy, IsNotSealed, GivesBack, TakesTask, with_state}
 use Rattle.pair_book.specs.Chaining.{AreChained, ClosesChained, IsDue, is_waiting}
-use Rattle.pair_book.specs.Commits.{MayCommit, Commits, Refuses, Fits, Passes, OnRest, IfRest, IsFresh, IsStranger, IsLeadDivisor, closed_by, appended_by}
+use Rattle.pair_book.specs.Commits.{Commits, Refuses, Fits, Passes, OnRest, IfRest, IsFresh, IsLeadDivisor, closed_by, appended_by}
 use Rattle.pair_book.specs.Logs.{NoneDivides}
 use Rattle.pair_work.specs.Outcomes.{Worked, IsThere, AllThere, IsOutcome, IsTrueOf}
 use Rattle.pair_work.specs.declared.faults.WorkFault.TheVariants as work

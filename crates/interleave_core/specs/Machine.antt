@@ -1,9 +1,7 @@
 -- The machine of workers and sessions: its state, what one event does, by cases, and runs over lists of events.
 use Rattle.std.specs.Prelude.{◌≡◌, ◌⊎◌, ◌↔◌, ℕ, ◌-◌, ◌<◌, ◌≤◌, List, [], ◌∷◌, ◌++◌, Bool, true, IsTrue, Option, Some}
-use Rattle.std.specs.Prelude.{None}
 use Rattle.std.specs.Prelude.{length, slice_get, slice_set, Ok, Err}
 use Rattle.presentation.specs.Presented.{Presented}
-use Rattle.module_vec.specs.declared.faults.Stop.{Stop}
 use Rattle.outcomes.specs.declared.kinds.PairKind.TheVariants.{S}
 use Rattle.outcomes.specs.declared.tasks.Task.{Task}
 use Rattle.strong_pairs.specs.Pairs.{IsPair}

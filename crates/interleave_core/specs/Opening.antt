@@ -1,6 +1,6 @@
 -- How the machine begins, and what is left of it.
 use Rattle.std.specs.List.{AllByRecursion}
-use Rattle.std.specs.Prelude.{◌≡◌, ℕ, ◌+◌, List, [], ◌∷◌, ◌++◌, length, replicate, slice_get, Some}
+use Rattle.std.specs.Prelude.{◌≡◌, ℕ, ◌+◌, List, [], ◌∷◌, length, replicate, slice_get, Some}
 use Rattle.presentation.specs.Presented.{Presented}
 use Rattle.task_table.specs.declared.states.TaskState.TheVariants.{Open, Hard}
 use Rattle.basis_entry.specs.Base.{AreBase}
@@ -8,7 +8,6 @@ use Rattle.basis_entry.specs.Entries.{BasisEntry}
 use Rattle.pair_book.specs.declared.limits.Limits.{Limits}
 use Rattle.pair_book.specs.Books as books
 use Rattle.pair_book.specs.Books.{Held, with_state}
-use Rattle.session_core.specs.declared.kept.Kept.{Kept}
 use Rattle.session_core.specs.Questions.{CanBeAsked}
 use Rattle.session_core.specs.Sessions.{SessionState}
 use Rattle.interleave_core.specs.declared.TheConstants.{WORKERS}

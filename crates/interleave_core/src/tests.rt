@@ -157,13 +157,15 @@ fn tasks_in_hand_are_given_back(rt: HostRuntime) -> Result<(), Fail> {
     Ok(())
 }
 
-/// How many entries the log has after many turns of three workers, and whether it is sealed.
-fn ends(alloc: Global, text: &str, order: Order) -> Result<(u32, bool), Fail> {
-    let mut core = open(alloc, text, None, order)?;
+/// How many entries the log has after sixty turns of each of these workers, and whether it is sealed.
+fn ends(alloc: Global, text: &str, order: Order, workers: &str) -> Result<(u32, bool), Fail> {
+    let mut schedule = String::new(alloc);
     for _ in 0..60 {
-        core.play(alloc, &events(alloc, "w1 w2 w3")?)?;
+        schedule.push_str(workers)?;
     }
-    core.play(alloc, &events(alloc, "s1 s1 s1")?)?;
+    schedule.push_str("s1 s1 s1")?;
+    let mut core = open(alloc, text, None, order)?;
+    core.play(alloc, &events(alloc, &schedule)?)?;
     let (book, sessions) = core.parts();
     for session in &sessions {
         if session.front() != book.front() {
@@ -176,12 +178,17 @@ fn ends(alloc: Global, text: &str, order: Order) -> Result<(u32, bool), Fail> {
 #[test]
 fn workers_come_to_an_end(rt: HostRuntime) -> Result<(), Fail> {
     let alloc = rt.alloc();
-    for order in [Order::ByNumber, Order::ByCost] {
-        if ends(alloc, CUBE, order)? != (11, true) {
-            return Err(Fail::from("not sealed"));
-        }
-        if ends(alloc, GROWING, order)? != (9, false) {
-            return Err(Fail::from("sealed with a hard task"));
+    for (text, order, workers, count, sealed) in [
+        (CUBE, Order::ByNumber, "w1 w1 w1 ", 11, true),
+        (CUBE, Order::ByNumber, "w1 w2 w3 ", 11, true),
+        (CUBE, Order::ByCost, "w1 w2 w3 ", 9, true),
+        // The hard task is left, and the workers find nothing to do.
+        (GROWING, Order::ByNumber, "w1 w1 w1 ", 9, false),
+        (GROWING, Order::ByNumber, "w1 w2 w3 ", 9, false),
+        (GROWING, Order::ByCost, "w1 w2 w3 ", 9, false),
+    ] {
+        if ends(alloc, text, order, workers)? != (count, sealed) {
+            return Err(Fail::from(workers));
         }
     }
     Ok(())

@@ -1,4 +1,4 @@
-use Rattle.std.proofs.Common.{◌≡◌, sym, subst, List, Some, slice_get}
+use Rattle.std.proofs.Common.{◌≡◌, subst, List, Some, slice_get}
 use Rattle.interleave_core.specs.declared.hands.Hand.{Hand}
 use Rattle.interleave_core.specs.Inner.{IsUnclosed, state_in}
 use Rattle.interleave_core.specs.Machine.{State}

@@ -1,4 +1,4 @@
-use Rattle.std.proofs.Common.{rules, refl, sym, ap, subst, ◌≡◌, ◌<◌, ◌≤◌, ◌∙◌, ◌∷◌, ◌+◌, List, length, drop}
+use Rattle.std.proofs.Common.{rules, refl, sym, ap, subst, ◌<◌, ◌≤◌, ◌∙◌, ◌+◌, List, length, drop}
 use Rattle.std.proofs.lemmas.List.{drop_all}
 use Rattle.pair_book.specs.Books.{Held}
 use Rattle.interleave_core.specs.declared.hands.Hand.{Hand}

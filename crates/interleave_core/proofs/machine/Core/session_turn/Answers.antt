@@ -1,4 +1,4 @@
-use Rattle.std.proofs.Common.{rules, arith, refl, ap, length, ◌<◌, ◌≡◌, ◌+◌, ◌-◌, ◌≤◌, sym, subst, Some, slice_get}
+use Rattle.std.proofs.Common.{rules, arith, refl, ap, length, ◌≡◌, ◌+◌, ◌-◌, ◌≤◌, sym, subst, Some, slice_get}
 use Rattle.std.proofs.lemmas.Option.{slice_get_read}
 use Rattle.std.specs.List.{AllByRecursion}
 use Rattle.presentation.specs.Presented.{Presented}

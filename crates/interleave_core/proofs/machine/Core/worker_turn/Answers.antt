@@ -1,4 +1,4 @@
-use Rattle.std.proofs.Common.{arith, refl, length, ◌<◌, ◌≡◌, ◌-◌, ◌∙◌, sym, Some, slice_get}
+use Rattle.std.proofs.Common.{arith, refl, length, ◌≡◌, ◌-◌, ◌∙◌, sym, Some, slice_get}
 use Rattle.std.proofs.lemmas.Option.{slice_get_read}
 use Rattle.interleave_core.specs.Machine.{State}
 use Rattle.interleave_core.specs.Inner.{state_in}
