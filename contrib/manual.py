@@ -7,7 +7,7 @@ TEXTS = pathlib.Path(__file__).resolve().parent.parent / "docs" / "help"
 # A line of a list is a head, two blanks at least, and a text, which may go on under itself.
 ITEM = re.compile(r"  (\S+(?: \S+)*)  +(\S.*)")
 HEAD = r""".\" Made by contrib/manual.py from docs/help; change those.
-.TH METAB 1
+.TH METAB 1 2026-12-02
 .SH NAME
 metab \- decides words in metabelian quotients
 .SH SYNOPSIS"""
@@ -38,21 +38,27 @@ def part(lines):
     return made
 
 
-def parts(text):
-    return [part(it.split("\n")) for it in text.strip("\n").split("\n\n")]
+def section(parts):
+    """The lines of these parts behind a heading, where running text needs no mark."""
+    lines = sum((part(it.split("\n")) for it in parts), [])
+    return lines[1:] if lines[0] == ".PP" else lines
+
+
+def parts_of(text):
+    return text.strip("\n").split("\n\n")
 
 
 def main():
     texts = {path.stem: path.read_text(encoding="ascii") for path in sorted(TEXTS.glob("*.txt"))}
     # The last part of the general text leads to the list of the commands, which here is the synopsis.
-    general = parts(texts.pop("metab"))[1:-1]
+    general = parts_of(texts.pop("metab"))[1:-1]
     calls = {name: text.partition("\n") for name, text in texts.items()}
     lines = [HEAD]
     for call, _, _ in calls.values():
         lines += [".nf", roff(call), ".fi"]
-    lines += [".SH DESCRIPTION", *sum(general, []), ".SH COMMANDS"]
+    lines += [".SH DESCRIPTION", *section(general), ".SH COMMANDS"]
     for call, _, text in calls.values():
-        lines += [f".SS {roff(call)}", *sum(parts(text), [])]
+        lines += [f".SS {roff(call)}", *section(parts_of(text))]
     print(*lines, TAIL, sep="\n")
 
 
