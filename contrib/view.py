@@ -68,7 +68,7 @@ class Report:
     def take(self, number, line):
         """Takes a line in, and returns its kind."""
         if not line:
-            raise Unreadable(f"it ends at line {number} without 'done': it wasn't written whole")
+            raise Unreadable(f"it ends behind line {number - 1}, without 'done': it wasn't written whole")
         kind = line.split(" ", 1)[0]
         found = LINES[kind].fullmatch(line) if kind in LINES else None
         if not found:
