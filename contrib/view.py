@@ -105,7 +105,7 @@ def told_end(words):
         return f"the {rest[2]} task of the entries {rest[0]} and {rest[1]} met a limit: {told_stop(rest[3:])}"
     if kind == "full":
         return f"the limit on {rest[0]} was met: the next result would have made them {rest[1]}"
-    return f"the budget of {rest[0]} commits was spent before the {rest[3]} task of the entries {rest[1]} and {rest[2]}"
+    return f"the budget of {counted(int(rest[0]), 'commit')} was spent before the {rest[3]} task of the entries {rest[1]} and {rest[2]}"
 
 
 def told_verdict(question, verdict):
