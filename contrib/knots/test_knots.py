@@ -41,7 +41,8 @@ KNOTS = [
     ("P(-2,3,7)", ["pretzel -2 3 7"], [1, -1, 0, 1, -1, 1, -1, 1, 0, -1, 1]),
     ("P(-3,5,7)", ["pretzel -3 5 7"], [1]),
     ("Hopf link", ["braid 1 1", "pd X[4,1,3,2] X[2,3,1,4]", "two-bridge 2/1"], [-1, 1]),
-    ("unknot", ["braid 1", "braid 1 2 -3", "pretzel 1 -2"], [1]),
+    ("unknot", ["braid 1", "braid 1 2 -3", "pretzel 1 -2", "pd X[1,2,2,1]", "pd X[2,2,1,1]"], [1]),
+    ("two circles, one over the other", ["braid 1 -1", "pd X[1,4,2,3] X[2,4,1,3]"], []),
 ]
 
 # A code, a power of the first meridian, and whether that is central in the metabelian quotient: it is where the polynomial
