@@ -8,8 +8,8 @@ usage: knot.py [--few] braid LETTERS     the closure of a braid:   knot.py braid
 
 The first three give Wirtinger's presentation: a generator for each arc, and a relation for each crossing but one, which
 follows from the others. With --few it is written over as few of these generators as lead to all others, crossing by
-crossing, which completes sooner and keeps larger knots within 24 generators. Mirror images have isomorphic groups; which of
-the two a code means plays no part.
+crossing: that mostly completes sooner, and keeps larger knots within 24 generators. A knot and its mirror image have isomorphic
+groups, so it plays no part which of the two a code means.
 """
 import collections
 import itertools
@@ -229,7 +229,7 @@ def few(arcs, crossings):
     for over, sign, under, out in spread(words, crossings):
         by = words[over] if sign > 0 else inverse(words[over])
         relations.append((product(inverse(by), words[under], by), words[out]))
-    # One crossing follows from the others: the one that would be longest. Relations that are no more than a word is itself go.
+    # One crossing follows from the others, and the longest is left out; so are relations between equal words.
     relations = sorted(relations, key=lambda it: len(it[0]) + len(it[1]))[:-1]
     return presented(len(chosen), [f"{written(u)} = {written(v)}" for u, v in relations if u != v])
 
