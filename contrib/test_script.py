@@ -4,6 +4,7 @@
 The script is copied to a folder where `rt` is a stand-in that says what rt would say and proves nothing.
 """
 import os
+import pty
 import shutil
 import subprocess
 import sys
@@ -15,7 +16,7 @@ CRATES = "# what stands here\nlow:\nmiddle: low\nmetab_cli: middle\n"
 RT = """#!/bin/sh
 case $1 in
     all) cat "$SAID" ;;
-    run) [ -e "$BROKEN" ] || { printf '#!/bin/sh\\necho ran "$@"\\n' >out/metab_cli; chmod +x out/metab_cli; } ;;
+    run) [ -e "$BROKEN" ] || { printf '#!/bin/sh\\necho ran "$@"\\n[ "$2" != bad ] || exit 2\\n' >out/metab_cli; chmod +x out/metab_cli; } ;;
     version) echo stand-in ;;
 esac
 """
@@ -63,6 +64,16 @@ class Copy:
         ran = subprocess.run([f"{self.folder}/metab", *words], env=env, capture_output=True, text=True)
         return ran.returncode, ran.stdout, ran.stderr
 
+    def told_on_a_terminal(self, *words):
+        ours, theirs = pty.openpty()
+        ran = subprocess.run([f"{self.folder}/metab", *words], stdout=subprocess.DEVNULL, stderr=theirs)
+        # So that there is something to read in any case.
+        os.write(theirs, b".")
+        os.close(theirs)
+        told = os.read(ours, 10_000).decode()
+        os.close(ours)
+        return ran.returncode, told
+
 
 def cases():
     """What is tried, what came of it, and whether that is right."""
@@ -78,6 +89,10 @@ def cases():
         yield "a second run", None, copy.run("gen", "1") == (0, "ran gen 1\n", "")
         yield "the path", None, copy.run("--where") == (0, f"{folder}/crates/metab_cli/out/metab_cli\n", "")
         yield "--where with words", None, copy.run("--where", "x")[1] == "ran --where x\n"
+        yield "words that are refused", None, copy.run("solo", "bad") == (2, "ran solo bad\n", "")
+        hints = [copy.told_on_a_terminal(*words) for words in (["solo", "bad"], ["so", "bad"], ["solo", "good"])]
+        yield "hints on a terminal", hints, [status for status, _ in hints] == [2, 2, 0] and (
+            "'metab help solo'" in hints[0][1] and "'metab help' lists" in hints[1][1] and hints[2][1] == ".")
         status, printed, _ = copy.run("help")
         yield "help", printed, status == 0 and printed.endswith("  metab --where\n") and "  metab solo [" in printed
         yield "help solo", None, copy.run("help", "solo")[1].startswith("metab solo [")
