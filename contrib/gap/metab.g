@@ -5,7 +5,7 @@
 #   MetabSolve(program, G, questions [, m])
 #                                   the verdicts of metab on questions about G: a list of texts
 #
-# program is the path of the program, as ./metab --where prints it. A question is one of
+# program is the path of metab, as "./metab" where GAP was started beside it. A question is one of
 #
 #   ["trivial", w]   ["equal", u, v]   ["normal", w]   ["hom", H, images]
 #
@@ -92,7 +92,7 @@ MetabSolve := function(program, G, questions, modulus...)
     od;
     FileString(session, text);
     report := "";
-    status := Process(folder, program, InputTextNone(), OutputTextString(report, false), ["solo", pres, session]);
+    status := Process(DirectoryCurrent(), program, InputTextNone(), OutputTextString(report, false), ["solo", pres, session]);
     if not status in [0, 1] then
         Error("metab ended with status ", status, ": ", report);
     fi;

@@ -5,7 +5,7 @@
     metab_solve(program, G, questions, m=None)
                                       the verdicts of metab on questions about G: a list of texts
 
-program is the path of the program, as ./metab --where prints it. A question is one of
+program is the path of metab, as "./metab" where Sage was started beside it. A question is one of
 
     ("trivial", w)   ("equal", u, v)   ("normal", w)   ("hom", H, images)
 
