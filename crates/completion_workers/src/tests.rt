@@ -84,9 +84,9 @@ fn questions(alloc: Global, p: &Arc<Presentation>) -> Result<Vec<Question>, Fail
     ensures count { IfOk result (λ qs. length qs.items ≤ 3) }
 {
     let mut questions = Vec::new(alloc);
-    questions.push(question(alloc, p, "trivial [a,b]")?)?;
-    questions.push(question(alloc, p, "trivial [a,b]")?)?;
-    questions.push(question(alloc, p, "trivial [a,b]")?)?;
+    questions.push(question(alloc, p, "trivial a b a^-1 b^-1")?)?;
+    questions.push(question(alloc, p, "trivial a b a^-1 b^-1")?)?;
+    questions.push(question(alloc, p, "trivial a b a^-1 b^-1")?)?;
     Ok(questions)
 }
 
