@@ -1,17 +1,15 @@
 -- A session that goes on from question to question.
-use Rattle.std.proofs.Common.{◌≡◌, ◌+◌, ◌<◌, ◌≤◌, List, [], ◌∷◌, ◌++◌, length, length-append, refl, sym, ap, subst, ◌∙◌, arith}
+use Rattle.std.proofs.Common.{◌≡◌, ◌+◌, ◌<◌, ◌≤◌, List, [], ◌∷◌, length, length-append, refl, sym, ap, subst, ◌∙◌, arith}
 use Rattle.std.specs.List.{AllByRecursion}
 use Rattle.std.specs.Prelude.{Result, Ok, Err, MatchResult}
-use mathlib.Core.List.{IsPrefix}
 use Rattle.presentation.specs.Presented.{Presented}
-use Rattle.session_text.specs.declared.question.Question.{Question}
 use Rattle.basis_log.specs.Items.{LogItem, entries_of, seal_of, AreItems}
 use Rattle.basis_log.specs.Rows.{row_source}
 use Rattle.basis_log.specs.Seats.{Seen}
 use Rattle.session_core.specs.Questions.{CanBeAsked}
 use Rattle.session_core.specs.Sessions.{SessionState, last_front}
 use Rattle.completion_workers.specs.Growth.{HasGrown}
-use Rattle.completion_workers.specs.Answers.{AreAnswers, count_of}
+use Rattle.completion_workers.specs.Answers.{count_of}
 use Rattle.completion_workers.specs.Asking.{HasAsked, CanAsk, HasGoneOn}
 use Rattle.completion_workers.proofs.Growing.{grown_not, grown_again, grown_length}
 use Rattle.completion_workers.proofs.Answering.{answers_stand, asked_more, last_within}

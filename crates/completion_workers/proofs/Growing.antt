@@ -1,13 +1,11 @@
 -- Seats whose lists grow, and the leads that an index beside them has.
-use Rattle.std.proofs.Common.{◌≡◌, ℕ, zero, suc, ◌+◌, ◌<◌, ◌≤◌, List, [], ◌∷◌, ◌++◌, length, length-append, take, map, Option, Some, None, refl, sym, ap, subst, ◌∙◌, arith}
-use Rattle.std.proofs.lemmas.List.{map-append, length-map, take-append-le, append-nil}
+use Rattle.std.proofs.Common.{◌≡◌, ℕ, zero, suc, ◌≤◌, List, [], ◌∷◌, ◌++◌, length, take, refl, sym, ap, subst, ◌∙◌, arith}
+use Rattle.std.proofs.lemmas.List.{map-append, length-map, take-append-le}
 use mathlib.Core.List.{IsPrefix}
-use Rattle.presentation.specs.Presented.{Presented}
 use Rattle.module_vec.specs.declared.places.Term.{Term}
 use Rattle.reducer_index.specs.Leads.{lead_of, AreLeads}
 use Rattle.basis_entry.specs.Entries.{BasisEntry, vectors_of}
-use Rattle.basis_entry.specs.Seals.{Seal, item_count}
-use Rattle.basis_log.specs.Items.{LogItem, entries_of, seal_of, AreItems}
+use Rattle.basis_log.specs.Items.{LogItem, entries_of}
 use Rattle.basis_log.specs.Seats.{Seen}
 use Rattle.basis_log.proofs.Prefixes.{prefix_self, prefix_trans, prefix_more, prefix_length}
 use Rattle.completion_workers.specs.Growth.{HasGrown, AreFirstLeads}

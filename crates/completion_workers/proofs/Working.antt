@@ -1,7 +1,6 @@
 -- Tasks that are worked by the list of a seat.
-use Rattle.std.proofs.Common.{◌≡◌, ℕ, ◌<◌, ◌≤◌, List, length, None, ap, sym, ◌∙◌, arith}
+use Rattle.std.proofs.Common.{◌≡◌, List, length, None}
 use Rattle.presentation.specs.Presented.{Presented}
-use Rattle.basis_entry.specs.Seals.{item_count}
 use Rattle.basis_log.specs.Items.{LogItem, entries_of, seal_of, AreItems}
 use Rattle.basis_log.proofs.Logs.{counted}
 

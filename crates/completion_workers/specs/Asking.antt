@@ -1,6 +1,6 @@
 -- A session on its way through its questions.
 use Rattle.std.specs.List.{AllByRecursion}
-use Rattle.std.specs.Prelude.{◌≡◌, ◌≤◌, ◌++◌, ◌∷◌, [], ℕ, List, Option, length, slice_get, Some}
+use Rattle.std.specs.Prelude.{◌≡◌, ◌≤◌, ◌++◌, ◌∷◌, [], List, Option, length, slice_get, Some}
 use Rattle.presentation.specs.Presented.{Presented}
 use Rattle.session_text.specs.declared.question.Question.{Question}
 use Rattle.basis_entry.specs.Entries.{BasisEntry}

@@ -1,5 +1,5 @@
 -- What becomes of a task that a worker holds, and of the book and the seat, in what is done under the book's lock.
-use Rattle.std.specs.Prelude.{◌≡◌, ◌⊎◌, ◌<◌, List, [], ◌∷◌, ◌++◌, Bool, true, false, length, None}
+use Rattle.std.specs.Prelude.{◌≡◌, ◌≢◌, ◌⊎◌, ◌<◌, List, [], ◌∷◌, ◌++◌, Bool, true, false, length, Some, None}
 use Rattle.presentation.specs.Presented.{Presented}
 use Rattle.basis_entry.specs.Seals.{Seal}
 use Rattle.basis_log.specs.declared.items.Item.{Item}
@@ -8,9 +8,11 @@ use Rattle.basis_log.specs.Items.{LogItem, shown, seal_of}
 use Rattle.basis_log.specs.Refusals.{SaysRefused}
 use Rattle.basis_log.specs.Seats.{Seen}
 use Rattle.pair_work.specs.Outcomes.{Worked}
+use Rattle.pair_book.specs.declared.faults.CommitFault.{CommitFault}
+use Rattle.pair_book.specs.declared.faults.CommitFault.TheVariants.{NotTaken, Spent, Stranger, Stale, Full}
 use Rattle.pair_book.specs.declared.faults.Committed.{Committed}
 use Rattle.pair_book.specs.Books.{Held, IsSealed}
-use Rattle.pair_book.specs.Commits.{IsCommitted}
+use Rattle.pair_book.specs.Commits.{IsCommitted, Refuses}
 use Rattle.completion_workers.specs.declared.fates.Fate.{Fate}
 use Rattle.completion_workers.specs.declared.fates.Fate.TheVariants as fate
 
@@ -24,16 +26,35 @@ pub record IsPublished (old : Held) (x : LogItem) (seat : Seen) : Type 0 where
   pub front : length before ≡ length old.entries
   pub items : seat.items ≡ before ++ x ∷ []
 
--- publishing the item is refused
-abbrev pub IsUnpublished : Item → Seen → Type 0
-IsUnpublished item seat = (why : Refused) × (before : Seen) × SaysRefused why item before seat
+-- the item is refused behind as many items as the book's log had entries
+pub record IsUnpublished (old : Held) (item : Item) (seat : Seen) : Type 0 where
+  pub before : Seen
+  pub front : length before.items ≡ length old.entries
+  pub why : Refused
+  pub says : SaysRefused why item before seat
+
+-- the commit is refused for a fault that is so
+abbrev pub HasRefused : Held → Worked → Held → (CommitFault → Type 0) → Type 0
+HasRefused old w new P = (fault : CommitFault) × Refuses old w (Some fault) × P fault × (new ≡ old)
+
+abbrev pub IsStale : CommitFault → Type 0
+IsStale NotTaken = ⊥
+IsStale (Spent commits) = ⊥
+IsStale (Stranger entry) = ⊥
+IsStale (Stale front now) = Unit {0}
+IsStale (Full measure count) = ⊥
+
+-- the seat hasn't seen the log alone, and the whole of it
+abbrev pub IsElsewhere : Held → Seen → Type 0
+IsElsewhere old seat = (seal_of seat.items ≢ None) ⊎ (length seat.items ≢ length old.entries)
 
 -- the commit of an outcome that has a rest, and the publishing of the rest as an item
 abbrev pub Appends : Held → Worked → Item → Fate → Held → Seen → Type 0
 Appends old w item fate.Committed new seat = HasCommitted old w new × IsPublished old (shown item) seat
-Appends old w item fate.Unpublished new seat = HasCommitted old w new × IsUnpublished item seat
-Appends old w item fate.Stale new seat = (new ≡ old) × (w.front < length seat.items) × (seal_of seat.items ≡ None)
-Appends old w item fate.Open new seat = new ≡ old
+Appends old w item fate.Unpublished new seat = HasCommitted old w new × IsUnpublished old item seat
+Appends old w item fate.Stale new seat = HasRefused old w new IsStale × (w.front < length seat.items)
+Appends old w item fate.Open new seat = (IsElsewhere old seat × (new ≡ old))
+    ⊎ HasRefused old w new (λ fault. IsStale fault → ⊥)
 Appends old w item fate.Hard new seat = ⊥
 
 -- the commit of an outcome that has no rest
@@ -41,7 +62,7 @@ abbrev pub Closes : Held → Worked → Fate → Held → Type 0
 Closes old w fate.Committed new = HasCommitted old w new
 Closes old w fate.Unpublished new = ⊥
 Closes old w fate.Stale new = ⊥
-Closes old w fate.Open new = new ≡ old
+Closes old w fate.Open new = HasRefused old w new (λ _. Unit {0})
 Closes old w fate.Hard new = ⊥
 
 -- whether a worker has another turn after a task

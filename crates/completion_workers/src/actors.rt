@@ -18,7 +18,10 @@ use std::sync::Wait;
 #[derive(Drop)]
 pub enum Actor<'r> {
     /// A worker takes tasks of the book, and publishes in the row what it appends.
-    Worker { number: u32, seat: Seat<'r> },
+    Worker {
+        number: u32,
+        seat: Seat<'r>,
+    },
     /// A session asks its questions, each by what its seat then sees. `dry` says that memory ran out, and the rest of the
     /// questions is unasked.
     Session {

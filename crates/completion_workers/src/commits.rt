@@ -30,7 +30,12 @@ pub(crate) fn close(book: &mut Book, outcome: Outcome) -> Fate
 /// Looks again, commits an outcome with a rest where the seat has seen the whole log and no seal, and publishes the
 /// item, which shows the rest.
 #[tactic(auto, using(crate::proofs::Growing::growing))]
-pub(crate) fn append(book: &mut Book, seat: &mut Seat<'_>, outcome: Outcome, item: Box<Item>) -> Fate
+pub(crate) fn append(
+    book: &mut Book,
+    seat: &mut Seat<'_>,
+    outcome: Outcome,
+    item: Box<Item>,
+) -> Fate
     requires rest { OnRest outcome.close (λ e. shown item.value ≡ LogItem.an_entry e) }
     requires source { item_source (shown item.value) ≡ row_source seat.old.row }
     ensures grows { HasGrown seat.old seat.new }
@@ -53,7 +58,12 @@ pub(crate) fn append(book: &mut Book, seat: &mut Seat<'_>, outcome: Outcome, ite
 /// Looks again, seals the book where every task is closed, and publishes the seal where it is of the presentation and
 /// the seat has seen the whole log and no seal. Tells whether it did.
 #[tactic(auto, using(crate::proofs::Growing::growing))]
-pub(crate) fn seal(alloc: Global, p: &Arc<Presentation>, book: &mut Book, seat: &mut Seat<'_>) -> bool
+pub(crate) fn seal(
+    alloc: Global,
+    p: &Arc<Presentation>,
+    book: &mut Book,
+    seat: &mut Seat<'_>,
+) -> bool
     requires { row_source seat.old.row ≡ arc_value p.now }
     ensures grows { HasGrown seat.old seat.new }
     ensures tries { TriesToSeal (arc_value p.now) book.old result book.new seat.new }

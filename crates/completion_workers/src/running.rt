@@ -43,5 +43,10 @@ pub fn run_actors<'r, G: Gate + Sync, R: Threads + Wait + Sync>(
         pace: &pace,
     };
     let threads = actors.len();
-    for_each_mut(rt, actors, threads, &|at, actor| actor.run(rt, &shared, gate, at));
+    for_each_mut(
+        rt,
+        actors,
+        threads,
+        &|at, actor| actor.run(rt, &shared, gate, at),
+    );
 }

@@ -70,7 +70,12 @@ fn question(alloc: Global, p: &Presentation, text: &str) -> Result<Question, Fai
     Ok(q)
 }
 
-fn worker<'r>(alloc: Global, p: &Arc<Presentation>, row: &'r Row, number: u32) -> Result<Actor<'r>, Fail>
+fn worker<'r>(
+    alloc: Global,
+    p: &Arc<Presentation>,
+    row: &'r Row,
+    number: u32,
+) -> Result<Actor<'r>, Fail>
     requires { row_source row.now ≡ arc_value p.now }
     ensures { IfOk result (IsReady (arc_value p.now)) }
 {
@@ -90,7 +95,12 @@ fn questions(alloc: Global, p: &Arc<Presentation>) -> Result<Vec<Question>, Fail
     Ok(questions)
 }
 
-fn session<'r>(alloc: Global, p: &Arc<Presentation>, row: &'r Row, number: u32) -> Result<Actor<'r>, Fail>
+fn session<'r>(
+    alloc: Global,
+    p: &Arc<Presentation>,
+    row: &'r Row,
+    number: u32,
+) -> Result<Actor<'r>, Fail>
     requires { row_source row.now ≡ arc_value p.now }
     ensures { IfOk result (IsReady (arc_value p.now)) }
 {
@@ -117,7 +127,11 @@ fn is_answered(session: &Session) -> bool {
 
 /// Runs two workers and two sessions. Tells whether all questions are answered, the book is sealed, and a worker has
 /// seen all of its items.
-fn completes<G: Gate + Sync, R: Threads + Wait + Sync>(rt: &R, alloc: Global, gate: &G) -> Result<bool, Fail> {
+fn completes<G: Gate + Sync, R: Threads + Wait + Sync>(
+    rt: &R,
+    alloc: Global,
+    gate: &G,
+) -> Result<bool, Fail> {
     let p = presentation(alloc, TORSION)?;
     let book = open(alloc, &p, LIMITS)?;
     let row = row(alloc, &p)?;
@@ -134,7 +148,9 @@ fn completes<G: Gate + Sync, R: Threads + Wait + Sync>(rt: &R, alloc: Global, ga
     for actor in &actors {
         match actor {
             Actor::Worker { seat, .. } => seen = seat.front().max(seen),
-            Actor::Session { session, dry, .. } => answered = answered && !*dry && is_answered(session),
+            Actor::Session { session, dry, .. } => answered = answered
+                && !*dry
+                && is_answered(session),
         }
     }
     Ok(answered && book.sealed().is_some() && seen == book.front())
@@ -162,7 +178,11 @@ impl Meeting {
 
 impl Gate for Meeting {
     fn pass<R: Wait>(&self, _: &R, actor: u32, place: u8) {
-        let at = if place == 2 { actor } else { actor.saturating_add(2) };
+        let at = if place == 2 {
+            actor
+        } else {
+            actor.saturating_add(2)
+        };
         let Some(own) = self.stands.get(at.saturating_sub(1) as usize) else {
             return;
         };

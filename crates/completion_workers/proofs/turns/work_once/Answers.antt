@@ -1,4 +1,4 @@
-use Rattle.std.proofs.Common.{rules, arith, ◌≡◌, ◌<◌, ◌≤◌, length, None, ap, ◌∙◌}
+use Rattle.std.proofs.Common.{rules, arith, ◌≡◌, length, None, ap, ◌∙◌}
 use Rattle.basis_log.specs.Items.{seal_of, entries_of}
 use Rattle.basis_log.specs.Rows.{row_source}
 use Rattle.basis_log.specs.Seats.{Seen}
