@@ -1,4 +1,4 @@
--- What the work of a task leaves: a rest of the presentation, whose lead no lead divides; and the leads of a log.
+-- What the work of a task leaves: a rest of the presentation, whose lead no lead divides.
 use Rattle.std.proofs.Common.{ℕ, zero, suc, ◌<◌, ◌≡◌, ◌≢◌, arith, refl, sym, ap, ◌∙◌, List, [], ◌∷◌, length, Bool, true, false, subst, MatchBool, ℤ}
 use Rattle.std.proofs.Common.{pos, negsuc, ◌*ℤ◌}
 use borrow.Author.Differences.{ints}

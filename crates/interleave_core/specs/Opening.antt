@@ -43,8 +43,8 @@ abbrev pub all_given_back : Held → List Hand → Held
 all_given_back h [] = h
 all_given_back h (x ∷ hands) = all_given_back (given_back h x) hands
 
--- The book and the sessions that are left of the machine. All tasks in hand are given back, and nothing else of the book
--- changes; the sessions ask its items
+-- The book and the sessions that are left of the machine. All tasks in hand are given back, and nothing else of the
+-- book changes; the sessions ask its items
 pub record IsLeft (s : State) (book : Held) (ss : List SessionState) : Type 0 where
   pub given : book ≡ all_given_back s.book s.hands
   pub rest : book ≡ record s.book { tasks = book.tasks }

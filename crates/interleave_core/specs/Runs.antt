@@ -12,8 +12,8 @@ use Rattle.interleave_core.specs.Machine.{State, Step}
 use Rattle.interleave_core.specs.Invariants.{IsCore}
 use Rattle.interleave_core.specs.Opening.{IsOpened, IsLeft}
 
--- The events in order lead from the one state to the other. In each state on the way, the first and the last among them,
--- the log is lawful, closed tasks are truly closed, and replies are verdicts by the items below their fronts
+-- The events in order lead from the one state to the other. In each state on the way, the first and the last among
+-- them, the log is lawful, closed tasks are truly closed, and replies are verdicts by the items below their fronts
 abbrev pub Run : State → List Event → State → Type 0
 Run old [] new = IsCore old × (new ≡ old)
 Run old (e ∷ es) new = IsCore old × ((mid : State) × Step old e mid × Run mid es new)

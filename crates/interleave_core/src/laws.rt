@@ -21,8 +21,8 @@ pub fn runs_keep()
     ensures { (old new : State) (es : List TheEvent) → Run old es new → Keeps old new }
 {}
 
-/// What is left of a machine that has played events can be ended: it is a book of the presentation and of the limits, and
-/// sessions with the questions that they had, which ask its items.
+/// What is left of a machine that has played events can be ended: it is a book of the presentation and of the limits,
+/// and sessions with the questions that they had, which ask its items.
 pub fn played_machines_can_be_ended()
     ensures { (p : Presented) (l : TheLimits) (ss : List SessionState) (es : List TheEvent) (book : Held)
         (ts : List SessionState) → IsPlayed p l ss es book ts → CanBeEnded p l ss book ts }
