@@ -9,3 +9,4 @@ pub mod Answering
 pub mod Named
 pub mod LineTexts
 pub mod Texts
+pub mod Written

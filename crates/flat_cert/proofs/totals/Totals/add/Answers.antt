@@ -22,8 +22,8 @@ returns-then-len c =
     (omega (arith, c.if-len.true, c.len.ensures.len))
     (omega (arith, weight_own c.args.k c.args.at, abs_some c.args.k c.requires.nonzero)) (λ y. omega arith))
 
-pub with-requires : goal.with-requires
-with-requires c =
+pub total_with-requires : goal.total_with-requires
+total_with-requires c =
     let before : c.copied-before.result ≡ found c.self.inside.places.entries c.args.at = c.copied-before.ensures ∙ c.get.ensures.value in
     record { small = subst IsSmall (sym before) (small_found c.self.inside.places.entries c.args.at c.self.invariant.all) }
 
