@@ -25,9 +25,11 @@ pub fn write_flat<K: Sink>(
     ensures text { Puts (K.taken out.old) (certificate_text p.now.names list.now) result (K.taken out.new) }
     ensures counts { Counts (K.faults out.old) result (K.faults out.new) }
 {
-    put_with_end(Vec::from_slice(alloc, b"metab flat 1")?, out)?;
+    let first = Vec::from_slice(alloc, b"metab flat 1")?;
+    put_with_end(first, out)?;
     put_lines(alloc, p, list, out)?;
-    put_with_end(Vec::from_slice(alloc, b"done")?, out)
+    let last = Vec::from_slice(alloc, b"done")?;
+    put_with_end(last, out)
 }
 
 /// Writes the lines, each with its end.

@@ -41,3 +41,9 @@ pub data AreNamed : List (FormalSum Place) → List (Option FlatKind) → List (
 -- what a line names the generators of the presentation's module, in their order: candidates that are zero are none
 abbrev pub AreKinds : Presented → List (Option FlatKind) → Type 0
 AreKinds p named = AreNamed (candidates p) (candidate_kinds p) named
+
+-- where these sums stand behind others, their kinds come behind what was made of those
+abbrev pub Names : List (Option FlatKind) → List (FormalSum Place) → List (Option FlatKind) → List (Option FlatKind)
+    → Type 0
+Names old fs kinds new = (gs : List (FormalSum Place)) (others : List (Option FlatKind)) → AreNamed gs others old
+    → AreNamed (gs ++ fs) (others ++ kinds) new

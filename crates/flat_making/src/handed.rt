@@ -7,7 +7,8 @@ ghost use Rattle.module_vec.specs.Places.{moved};
 ghost use Rattle.flat_cert.specs.Images.{flat_image};
 ghost use Rattle.flat_cert.specs.Adding.{sum_at, Adds};
 ghost use Rattle.flat_making.specs.Handing.{steps_sum, IsRow};
-ghost use Rattle.flat_making.specs.Pairs.{row_of, IsShare};
+ghost use Rattle.std.specs.BTreeMap.{IsOrdered};
+ghost use Rattle.flat_making.specs.Pairs.{row_of, IsShare, pair_cmp, between_entry, shares_of};
 
 use flat_cert::{FlatFault, PLACES, Total, flat_product, total_with};
 use laurent_terms::Mono;
@@ -103,24 +104,36 @@ impl Handed {
         ensures is { IfOk result (λ row. IsRow (sum_at self.now) entry (row_of entry row.items)) }
         ensures shares { IfOk result (λ row. AllByRecursion IsShare row.items) }
     {
-        let first = Pair {
-            entry,
-            t: Mono::one(),
-        };
-        let next = Pair {
-            entry: entry + 1,
-            t: Mono::one(),
-        };
-        let mut row = Vec::new(alloc);
-        for (at, total) in self.pairs.range(first..next) {
-            if total.sum != 0 {
-                row.push(Share {
-                    k: total.sum,
-                    t: at.t,
-                })?;
-            }
-        }
+        let mut row = shares(alloc, &self.pairs, entry)?;
         row.reverse();
         Ok(row)
     }
+}
+
+/// What the entry has, by rising monomials, and none of it 0.
+fn shares(
+    alloc: Global,
+    pairs: &BTreeMap<Pair, Total>,
+    entry: usize,
+) -> Result<Vec<Share>, AllocError>
+    requires { entry + 1 < 2 ^ 64 }
+    ensures is { IfOk result (λ made. made.items ≡ shares_of (between_entry entry pairs.now.entries)) }
+    ensures ordered { IsOrdered pair_cmp pairs.now }
+{
+    let t = Mono::one();
+    let first = Pair { entry, t };
+    let next = Pair {
+        entry: entry + 1,
+        t,
+    };
+    let mut made = Vec::new(alloc);
+    for (at, total) in pairs.range(first..next) {
+        if total.sum != 0 {
+            made.push(Share {
+                k: total.sum,
+                t: at.t,
+            })?;
+        }
+    }
+    Ok(made)
 }
