@@ -65,6 +65,11 @@ pub record IsFine (n : ℕ) (M : Place → ℤ) (x : Place) : Type 0 where
   pub mono : IsMonoOf n x.m
   pub flat : IsFlatMono x.m
 
+-- each generator of the recipe has a kind over the presentation
+abbrev pub HasKind : Presented → Kinds → Recipe → Type 0
+HasKind p kinds (Gen number negated) = (what : FlatKind) → slice_index_or kinds number None ≡ Some what → IsKind p what
+HasKind p kinds (Sum steps) = Unit {0}
+
 module _ (p : Presented) (M : Place → ℤ) (fine : (x : Place) → M x ≢ pos 0 → IsFine (length p.names) M x) where
   lines_are_flat : (n : ℕ) (negated : Bool) (kind : Option FlatKind) (row : FormalSum Place) → AtRow M n row
       → ((what : FlatKind) → kind ≡ Some what → IsKind p what) → AreFlat p (lines_of negated kind row)
@@ -94,16 +99,11 @@ module _ (p : Presented) (M : Place → ℤ) (fine : (x : Place) → M x ≢ pos
         kind = known what refl;
       }
 
-  -- each generator of the recipe has a kind over the presentation
-  abbrev pub HasKind : Kinds → Recipe → Type 0
-  HasKind kinds (Gen number negated) = (what : FlatKind) → slice_index_or kinds number None ≡ Some what → IsKind p what
-  HasKind kinds (Sum steps) = Unit {0}
-
-  entry_is_flat : (kinds : Kinds) (n : ℕ) (r : Recipe) (row : FormalSum Place) → HasKind kinds r → AtRow M n row → AreFlat p (entry_lines kinds r row)
+  entry_is_flat : (kinds : Kinds) (n : ℕ) (r : Recipe) (row : FormalSum Place) → HasKind p kinds r → AtRow M n row → AreFlat p (entry_lines kinds r row)
   entry_is_flat kinds n (Gen number negated) row known at = lines_are_flat n negated (slice_index_or kinds number None) row at known
   entry_is_flat kinds n (Sum steps) row known at = tt
 
-  pub list_is_flat : (kinds : Kinds) (n : ℕ) (fs : List EntryData) (list : List Flat) → AllByRecursion (λ e. HasKind kinds e.recipe) fs
+  pub list_is_flat : (kinds : Kinds) (n : ℕ) (fs : List EntryData) (list : List Flat) → AllByRecursion (λ e. HasKind p kinds e.recipe) fs
       → AreLinesFrom kinds M n fs list → AreFlat p list
   list_is_flat kinds n [] list known are = subst (AreFlat p) (sym are) tt
   list_is_flat kinds n (e ∷ fs) list known (row, rest, is, parts, are) =
@@ -174,7 +174,8 @@ module _ (M : Place → ℤ) where
 
   entry_places : (kinds : Kinds) (n count : ℕ) (r : Recipe) (row : FormalSum Place) → IsRow M n row → Places M (suc n) count
       → Places M n (length (entry_lines kinds r row) + count)
-  entry_places kinds n count (Sum steps) row is more = without_row n count more
+  entry_places kinds n count (Sum steps) row is more =
+      subst (Places M n) (let none : count ≡ length (entry_lines kinds (Sum steps) row) + count = omega arith in none) (without_row n count more)
   entry_places kinds n count (Gen number negated) row is more = by (slice_index_or kinds number None)
     where
       lengths : (what : FlatKind) (r : FormalSum Place) → length (lines_of negated (Some what) r) ≡ length r
@@ -182,7 +183,7 @@ module _ (M : Place → ℤ) where
       lengths what (t ∷ r) = omega (arith, lengths what r)
 
       by : (kind : Option FlatKind) → Places M n (length (lines_of negated kind row) + count)
-      by None = without_row n count more
+      by None = subst (Places M n) (let none : count ≡ length (lines_of negated None row) + count = omega arith in none) (without_row n count more)
       by (Some what) = subst (λ k. Places M n (k + count)) (sym (lengths what row)) (with_row n count row is.falling (at_row M n row is) more)
 
   pub list_places : (kinds : Kinds) (n : ℕ) (fs : List EntryData) (list : List Flat) → AreLinesFrom kinds M n fs list → Places M n (length list)

@@ -114,7 +114,7 @@ pub record IsNamed (p : Presented) (kind : Option FlatKind) (v : List Term) : Ty
   pub is : IsWritten sum v
 
 zero_written : (f : FormalSum Place) (g : List Term) → IsZero f → IsWritten f g → g ≢ [] → ⊥
-zero_written f g zero is some = some (same_vector g [] is.sparse (record { falling = tt; terms = tt }) (λ x. is.same x ∙ zero x))
+zero_written f g none is some = some (same_vector g [] is.sparse (record { falling = tt; terms = tt }) (λ x. is.same x ∙ none x))
 
 -- both lists leave the same candidates out
 named_at : (p : Presented) (fs : Sums) (ks named : Kinds) (gens : List (List Term)) → AreNamed fs ks named → AreWritten fs gens → AllFit p ks fs → (i : ℕ)
@@ -122,9 +122,9 @@ named_at : (p : Presented) (fs : Sums) (ks named : Kinds) (gens : List (List Ter
 named_at p _ _ _ _ AreNamed.nothing AreWritten.nothing fit i lt = absurd (omega (arith, lt))
 named_at p _ _ _ _ (AreNamed.left_out f k fs ks named z h) (AreWritten.left_out _ _ gens y w) fit i lt = named_at p fs ks named gens h w fit.1 i lt
 named_at p _ _ _ _ (AreNamed.left_out f k fs ks named z h) (AreWritten.written _ g _ gens some is w) fit i lt = absurd (zero_written f g z is some)
-named_at p _ _ _ _ (AreNamed.named f k fs ks named z h) (AreWritten.left_out _ _ gens y w) fit i lt = absurd (z y)
-named_at p _ _ _ _ (AreNamed.named f k fs ks named z h) (AreWritten.written _ g _ gens some is w) fit zero lt = record { sum = f; fits = fit.0; is = is }
-named_at p _ _ _ _ (AreNamed.named f k fs ks named z h) (AreWritten.written _ g _ gens some is w) fit (suc i) lt =
+named_at p _ _ _ _ (AreNamed.written f k fs ks named z h) (AreWritten.left_out _ _ gens y w) fit i lt = absurd (z y)
+named_at p _ _ _ _ (AreNamed.written f k fs ks named z h) (AreWritten.written _ g _ gens some is w) fit zero lt = record { sum = f; fits = fit.0; is = is }
+named_at p _ _ _ _ (AreNamed.written f k fs ks named z h) (AreWritten.written _ g _ gens some is w) fit (suc i) lt =
     named_at p fs ks named gens h w fit.1 i (omega (arith, lt))
 
 pub generator_named : (p : Presented) (named : Kinds) (gens : List (List Term)) → AreNamed (candidates p) (candidate_kinds p) named

@@ -41,7 +41,7 @@ use Rattle.flat_making.specs.Lines.{AreLinesFrom}
 use Rattle.flat_making.specs.Making.{vectors_of, NameBelow, signed, IsValueOf, IsLog, IsProof}
 use Rattle.flat_making.proofs.Bounds.{IsFine, HasKind, list_is_flat, few_lines}
 use Rattle.flat_making.proofs.Candidates.{Fits, IsNamed, generator_named}
-use Rattle.flat_making.proofs.Handing.{Totals, row_as, same_item}
+use Rattle.flat_making.proofs.Handings.{Totals, row_as, same_item}
 use Rattle.flat_making.proofs.Listing.{turned, Says, Tells, late, StandAt, list_worth}
 use Rattle.flat_making.proofs.Monomials.{cancelled_is_flat, cancelled_over}
 use Rattle.flat_making.proofs.Naming.{Kinds}

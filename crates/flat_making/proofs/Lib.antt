@@ -1,6 +1,6 @@
 pub mod Pairs
 pub mod Rows
-pub mod Handing
+pub mod Handings
 pub mod Monomials
 pub mod Values
 pub mod Parts

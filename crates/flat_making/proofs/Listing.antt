@@ -37,7 +37,7 @@ use Rattle.flat_cert.specs.Weights.{AreDistinct}
 use Rattle.flat_making.specs.Handing.{IsRow, recipe_at}
 use Rattle.flat_making.specs.Lines.{lines_of, entry_lines, AreLinesFrom}
 use Rattle.flat_making.proofs.Candidates.{IsUnit, Fits}
-use Rattle.flat_making.proofs.Handing.{elsewhere, row_as, same_item}
+use Rattle.flat_making.proofs.Handings.{elsewhere, row_as, same_item}
 use Rattle.flat_making.proofs.Monomials.{unit_moves_nothing}
 use Rattle.flat_making.proofs.Naming.{Kinds}
 use Rattle.flat_making.proofs.Parts.{part, part_at, part_none}
@@ -97,6 +97,11 @@ unit_worth negated q s g c v below long same x =
 abbrev pub Says : Presented → Bool → Option FlatKind → List Term → Type 0
 Says p negated kind v = (f : FormalSum Place) × Fits p kind f × Same same_place (sum_of v) (turned negated f)
 
+-- what a recipe says of the vector of the entry with this number
+abbrev pub Tells : Presented → List (List Term) → Kinds → ℕ → Recipe → Type 0
+Tells p b kinds n (Gen number negated) = Says p negated (slice_index_or kinds number None) (vector_at b n)
+Tells p b kinds n (Sum steps) = Unit {0}
+
 module _ (p : Presented) (few : length p.names ≤ GENERATORS) (b : List (List Term)) where
   lines_worth : (n : ℕ) (negated : Bool) (kind : Option FlatKind) (row : FormalSum Place) → AreLong row → AllByRecursion (λ t. t.1.c ≡ n) row
       → Says p negated kind (vector_at b n)
@@ -121,22 +126,17 @@ module _ (p : Presented) (few : length p.names ≤ GENERATORS) (b : List (List T
       there : Same same_place (sum_of (vector_at b t.1.c)) (turned negated (binomial (unit_monomial unit.g) unit.c))
       there y = ap (λ k. coefficient same_place (sum_of (vector_at b k)) y) own.0 ∙ same y ∙ ap (λ g. coefficient same_place (turned negated g) y) unit.is
 
-  -- what a recipe says of the vector of the entry with this number
-  abbrev pub Tells : Kinds → ℕ → Recipe → Type 0
-  Tells kinds n (Gen number negated) = Says p negated (slice_index_or kinds number None) (vector_at b n)
-  Tells kinds n (Sum steps) = Unit {0}
-
   -- the row of a generator, and nothing of a sum
   abbrev own_row : Recipe → FormalSum Place → FormalSum Place
   own_row r row = cond (is_generator r) row []
 
-  entry_worth : (kinds : Kinds) (n : ℕ) (r : Recipe) (row : FormalSum Place) → AreLong row → AllByRecursion (λ t. t.1.c ≡ n) row → Tells kinds n r
+  entry_worth : (kinds : Kinds) (n : ℕ) (r : Recipe) (row : FormalSum Place) → AreLong row → AllByRecursion (λ t. t.1.c ≡ n) row → Tells p b kinds n r
       → Same same_place (flat_image (certificate_sum p (entry_lines kinds r row))) (value b (own_row r row))
   entry_worth kinds n (Gen number negated) row long own tells = lines_worth n negated (slice_index_or kinds number None) row long own tells
   entry_worth kinds n (Sum steps) row long own tells = λ x. refl
 
   module _ (es : List EntryData) (kinds : Kinds) (all : FormalSum Place) (keys : AreKeys (length es) all)
-      (tells : (n : ℕ) → n < length es → Tells kinds n (recipe_at es n)) where
+      (tells : (n : ℕ) → n < length es → Tells p b kinds n (recipe_at es n)) where
     -- an entry of a generator from number n on
     abbrev pub late : ℕ → Place → Bool
     late n x = cond (nat_le n x.c) (is_generator (recipe_at es x.c)) false
@@ -207,7 +207,7 @@ module _ (p : Presented) (few : length p.names ≤ GENERATORS) (b : List (List T
         ∙ Same-append same_place (flat_image (certificate_sum p (entry_lines kinds e.recipe row))) (value b (own_row e.recipe row))
         (flat_image (certificate_sum p rest)) (value b (part (late (suc n)) all))
         (entry_worth kinds n e.recipe row (keys_long (length es) row (row_keys (IsKey (length es)) all row n keys is)) is.own
-        (subst (Tells kinds n) recipe (tells n (omega (arith, stand.0)))))
+        (subst (Tells p b kinds n) recipe (tells n (omega (arith, stand.0)))))
         (list_worth (suc n) fs rest (stand_on n e fs stand) are) x
         ∙ sym (value-append b (own_row e.recipe row) (part (late (suc n)) all) x)
         ∙ sym (value-same b (part (late n) all) (own_row e.recipe row ++ part (late (suc n)) all) (late_split n row e.recipe recipe is) x)

@@ -53,7 +53,9 @@ zeros_cancelled (suc zero) = refl
 zeros_cancelled (suc (suc k)) = ap (λ (s : List ℕ). 0 ∷ 0 ∷ s) (zeros_cancelled k)
 
 pair_cancelled : (g m : ℕ) → cancelled (replicate (2 * g) 0 ++ 1 ∷ 1 ∷ replicate m 0) ≡ replicate (2 * g + suc (suc m)) 0
-pair_cancelled zero m = ap (λ (s : List ℕ). 0 ∷ 0 ∷ s) (zeros_cancelled m)
+pair_cancelled zero m =
+    let all : suc (suc m) ≡ 2 * 0 + suc (suc m) = omega arith in
+    ap (λ (s : List ℕ). 0 ∷ 0 ∷ s) (zeros_cancelled m) ∙ ap (λ z. replicate z 0) all
 pair_cancelled (suc g) m =
     let more : 2 * suc g ≡ suc (suc (2 * g)) = omega arith in
     let all : suc (suc (2 * g + suc (suc m))) ≡ 2 * suc g + suc (suc m) = omega arith in

@@ -11,7 +11,10 @@ use Rattle.free_words.specs.declared.letter.Letter.{Letter}
 use Rattle.presentation.specs.Presented.{Presented}
 use Rattle.formal_sums.specs.FormalSum.{FormalSum, Same, coefficient}
 use Rattle.formal_sums.proofs.Keys.{eq-apart}
-use Rattle.laurent_terms.specs.Monomials.{one}
+use Rattle.free_words.specs.declared.TheConstants.{GENERATORS}
+use Rattle.laurent_terms.specs.Monomials.{one, degree, variable, IsMonomial}
+use Rattle.laurent_terms.proofs.Combining.{sum-product}
+use Rattle.laurent_terms.proofs.Variables.{degree-variable, variable_is_monomial}
 use Rattle.module_vec.specs.declared.places.Place.{Place}
 use Rattle.module_vec.specs.declared.places.Term.{Term}
 use Rattle.module_vec.specs.Modules.{vector_at}
@@ -20,7 +23,7 @@ use Rattle.module_vec.specs.Vectors.{sum_of, IsSparse}
 use Rattle.module_vec.proofs.Determined.{same_vector}
 use Rattle.module_vec.proofs.Order.{test}
 use Rattle.fox_calculus.specs.Fox.{fox, image}
-use Rattle.fox_calculus.specs.Generators.{binomial, constant, IsZero, IsWritten, AreWritten}
+use Rattle.fox_calculus.specs.Generators.{binomial, constant, unit_monomial, IsZero, IsWritten, AreWritten}
 use Rattle.flat_cert.specs.declared.lines.FlatKind.{FlatKind}
 use Rattle.flat_making.specs.Kinds.{AreNamed, Names}
 
@@ -37,16 +40,16 @@ zero_more : (fs : Sums) (ks named : Kinds) (f : FormalSum Place) (k : Option Fla
 zero_more _ _ _ f k z AreNamed.nothing = AreNamed.left_out f k [] [] [] z AreNamed.nothing
 zero_more _ _ _ f k z (AreNamed.left_out e j fs ks named y h) =
     AreNamed.left_out e j (fs ++ f ∷ []) (ks ++ k ∷ []) named y (zero_more fs ks named f k z h)
-zero_more _ _ _ f k z (AreNamed.named e j fs ks named y h) =
-    AreNamed.named e j (fs ++ f ∷ []) (ks ++ k ∷ []) named y (zero_more fs ks named f k z h)
+zero_more _ _ _ f k z (AreNamed.written e j fs ks named y h) =
+    AreNamed.written e j (fs ++ f ∷ []) (ks ++ k ∷ []) named y (zero_more fs ks named f k z h)
 
 named_more : (fs : Sums) (ks named : Kinds) (f : FormalSum Place) (k : Option FlatKind) → (IsZero f → ⊥) → AreNamed fs ks named
     → AreNamed (fs ++ f ∷ []) (ks ++ k ∷ []) (named ++ k ∷ [])
-named_more _ _ _ f k z AreNamed.nothing = AreNamed.named f k [] [] [] z AreNamed.nothing
+named_more _ _ _ f k z AreNamed.nothing = AreNamed.written f k [] [] [] z AreNamed.nothing
 named_more _ _ _ f k z (AreNamed.left_out e j fs ks named y h) =
     AreNamed.left_out e j (fs ++ f ∷ []) (ks ++ k ∷ []) (named ++ k ∷ []) y (named_more fs ks named f k z h)
-named_more _ _ _ f k z (AreNamed.named e j fs ks named y h) =
-    AreNamed.named e j (fs ++ f ∷ []) (ks ++ k ∷ []) (named ++ k ∷ []) y (named_more fs ks named f k z h)
+named_more _ _ _ f k z (AreNamed.written e j fs ks named y h) =
+    AreNamed.written e j (fs ++ f ∷ []) (ks ++ k ∷ []) (named ++ k ∷ []) y (named_more fs ks named f k z h)
 
 pub put_zero : (old : Kinds) (k : Option FlatKind) (b : Bool) → b ≡ true → (f : FormalSum Place) → (IsTrue b ↔ IsZero f)
     → Names old (f ∷ []) (k ∷ []) old
@@ -184,3 +187,32 @@ constant_is_some n c some z =
     rw (test.reflexive (record { m = one; c = c })) (omega (arith, ints)) in
     let wrong : pos n ≡ pos 0 = sym here ∙ z (record { m = one; c = c }) in
     absurd (omega (arith, ints, wrong, some))
+
+unit_degree : (g : ℕ) → g < GENERATORS → degree (unit_monomial g) ≡ 2
+unit_degree g below =
+    let first : IsMonomial (variable (2 * g)) = variable_is_monomial (2 * g) (omega (arith, below)) in
+    let second : IsMonomial (variable (2 * g + 1)) = variable_is_monomial (2 * g + 1) (omega (arith, below)) in
+    omega (arith, sum-product (variable (2 * g)) (variable (2 * g + 1)) (first.variables ∙ sym second.variables),
+    degree-variable (2 * g) (omega (arith, below)), degree-variable (2 * g + 1) (omega (arith, below)))
+
+pub unit_is_some : (g c : ℕ) → g < GENERATORS → IsZero (binomial (unit_monomial g) c) → ⊥
+unit_is_some g c below none_there = zero_is_one (unit_monomial g) c none_there (λ same.
+    let two : degree (unit_monomial g) ≡ 2 = unit_degree g below in
+    let none : degree (unit_monomial g) ≡ 0 = ap degree same in
+    absurd (omega (arith, two, none)))
+
+-- a binomial is zero where its monomial is 1
+pub binomial_test : (m : List ℕ) (c : ℕ) (b : Bool) → (IsTrue b ↔ (m ≡ one)) → IsTrue b ↔ IsZero (binomial m c)
+binomial_test m c b is = ((λ t. one_is_zero m c (is.0 t)), (λ z. by b refl z))
+  where
+    by : (r : Bool) → b ≡ r → IsZero (binomial m c) → IsTrue b
+    by true e z = e
+    by false e z = absurd (zero_is_one m c z (λ same. let wrong : true ≡ false = sym (is.1 same) ∙ e in cc))
+
+-- lists that are the same
+pub binomials_as : (m m' : List ℕ) (n n' : ℕ) (g : ℕ → Option FlatKind) (mid new : Kinds) → m ≡ m' → n ≡ n'
+    → Names mid (map (binomial m) (range_with_len 0 n)) (map g (range_with_len 0 n)) new
+    → Names mid (map (binomial m') (range_with_len 0 n')) (map g (range_with_len 0 n')) new
+binomials_as m m' n n' g mid new e k h =
+    subst (λ (x : List ℕ). Names mid (map (binomial x) (range_with_len 0 n')) (map g (range_with_len 0 n')) new) e
+    (subst (λ (x : ℕ). Names mid (map (binomial m) (range_with_len 0 x)) (map g (range_with_len 0 x)) new) k h)

@@ -75,3 +75,12 @@ pub sorted_apart : (es : Pairs) → IsStrictlySortedBy pair_cmp (keys_of es) →
 unfolding IsStrictlySortedBy
 sorted_apart [] sorted = tt
 sorted_apart (e ∷ es) sorted = (above_apart e.0 es sorted.0, sorted_apart es sorted.1)
+
+-- what is found after an insertion
+pub updated : (es new : Pairs) (x : Pair) (t : Total)
+    → ((y : Pair) → lookup (λ z. is_eq (pair_cmp y z)) new ≡ cond (is_eq (pair_cmp x y)) (Some t) (lookup (λ z. is_eq (pair_cmp y z)) es))
+    → (q : Place) → found (places_of new) q ≡ cond (is_eq (place_cmp (place_of x) q)) (Some t) (found (places_of es) q)
+updated es new x t updates q =
+    found_at new (record { entry = q.c; t = q.m })
+    ∙ updates (record { entry = q.c; t = q.m })
+    ∙ λ i. cond (pair_eq x (record { entry = q.c; t = q.m }) i) (Some t) (sym (found_at es (record { entry = q.c; t = q.m })) i)

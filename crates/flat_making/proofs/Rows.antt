@@ -11,7 +11,7 @@ use Rattle.std.specs.Map.{keys_of}
 use Rattle.std.specs.Ordering.{is_eq, is_le, nat_cmp, ordering_then, int_eq}
 use Rattle.std.specs.declared.cmp.Ordering.{Ordering}
 use Rattle.std.specs.declared.cmp.Ordering.TheVariants.{Less, Equal, Greater}
-use Rattle.std.specs.declared.ops.bounds.Bound.TheVariants.{Included, Excluded}
+use Rattle.std.specs.declared.ops.Bound.TheVariants.{Included, Excluded}
 use borrow.Author.Differences.{ints}
 use Rattle.formal_sums.specs.FormalSum.{FormalSum, coefficient, Falling, NonZero, AllAbove}
 use Rattle.formal_sums.proofs.Coefficients.{Same-permutation}
@@ -58,21 +58,26 @@ lies_is : (n : ℕ) (x : Pair) → IsMonomial x.t → lies n x ≡ (nat_le n x.e
 lies_is n x is =
     λ i. le_first n x.entry (mono_cmp one x.t) (one_least x.t is) i && not (le_first (n + 1) x.entry (mono_cmp one x.t) (one_least x.t is) i)
 
-lies_of : (n : ℕ) (x : Pair) → IsMonomial x.t → lies n x ≡ true → x.entry ≡ n
-lies_of n x is e = by (nat_le n x.entry) refl (nat_le (n + 1) x.entry) refl (sym (lies_is n x is) ∙ e)
+between : (n k : ℕ) → (nat_le n k && not (nat_le (n + 1) k)) ≡ true → k ≡ n
+between n k h = by (nat_le n k) refl (nat_le (n + 1) k) refl h
   where
-    by : (a : Bool) → nat_le n x.entry ≡ a → (b : Bool) → nat_le (n + 1) x.entry ≡ b → (a && not b) ≡ true → x.entry ≡ n
+    by : (a : Bool) → nat_le n k ≡ a → (b : Bool) → nat_le (n + 1) k ≡ b → (a && not b) ≡ true → k ≡ n
     by true p false q h = grind arith
     by true p true q h = absurd cc
     by false p b q h = absurd cc
 
+itself_between : (n : ℕ) → (nat_le n n && not (nat_le (n + 1) n)) ≡ true
+itself_between n =
+    let first : nat_le n n ≡ true = grind arith in
+    let second : nat_le (n + 1) n ≡ false = grind arith in
+    rw first (rw second refl)
+
+lies_of : (n : ℕ) (x : Pair) → IsMonomial x.t → lies n x ≡ true → x.entry ≡ n
+lies_of n x is e = between n x.entry (sym (lies_is n x is) ∙ e)
+
 lies_not : (n : ℕ) (x : Pair) → IsMonomial x.t → lies n x ≡ false → x.entry ≢ n
-lies_not n x is e same = by (nat_le n x.entry) refl (nat_le (n + 1) x.entry) refl (sym (lies_is n x is) ∙ e)
-  where
-    by : (a : Bool) → nat_le n x.entry ≡ a → (b : Bool) → nat_le (n + 1) x.entry ≡ b → (a && not b) ≡ false → ⊥
-    by true p false q h = cc
-    by true p true q h = absurd (grind arith)
-    by false p b q h = absurd (grind arith)
+lies_not n x is e same =
+    let wrong : true ≡ false = sym (itself_between n) ∙ ap (λ k. nat_le n k && not (nat_le (n + 1) k)) (sym same) ∙ sym (lies_is n x is) ∙ e in cc
 
 all_lie : (n : ℕ) (es : Pairs) → AllByRecursion IsTotal (places_of es) → AllByRecursion (λ e. e.0.entry ≡ n) (between_entry n es)
 all_lie n [] all = tt
@@ -82,14 +87,6 @@ all_lie n (e ∷ es) all = by (lies n e.0) refl (all_lie n es all.1)
         → AllByRecursion (λ (e : Pair × Total). e.0.entry ≡ n) (cond b (e ∷ between_entry n es) (between_entry n es))
     by true s rest = (lies_of n e.0 all.0.place s, rest)
     by false s rest = rest
-
-all_kept : {P : Pair × Total → Type 0} (n : ℕ) (es : Pairs) → AllByRecursion P es → AllByRecursion P (between_entry n es)
-all_kept n [] all = tt
-all_kept {P} n (e ∷ es) all = by (lies n e.0) (all_kept n es all.1)
-  where
-    by : (b : Bool) → AllByRecursion P (between_entry n es) → AllByRecursion P (cond b (e ∷ between_entry n es) (between_entry n es))
-    by true rest = (all.0, rest)
-    by false rest = rest
 
 totals_kept : (n : ℕ) (es : Pairs) → AllByRecursion IsTotal (places_of es) → AllByRecursion IsTotal (places_of (between_entry n es))
 totals_kept n [] all = tt

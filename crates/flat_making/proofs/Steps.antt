@@ -23,7 +23,7 @@ use Rattle.flat_cert.proofs.Adding.{terms_of, first_is_far, first_is_heavy}
 use Rattle.flat_making.specs.declared.handed.Share.{Share}
 use Rattle.flat_making.specs.Handing.{steps_sum, hands_on}
 use Rattle.flat_making.specs.Pairs.{row_of}
-use Rattle.flat_making.proofs.Handing.{Totals}
+use Rattle.flat_making.proofs.Handings.{Totals}
 
 -- where something has k at t, what it hands on by the steps
 abbrev pub handed_by : ℤ → List ℕ → List Step → FormalSum Place

@@ -25,7 +25,7 @@ use Rattle.report_reading.specs.declared.entry.EntryData.{EntryData}
 use Rattle.flat_cert.specs.Images.{flat_place, flat_image, cancelled}
 use Rattle.flat_making.specs.Handing.{steps_sum, IsRow, hands_on, recipe_at, HandDown}
 use Rattle.flat_making.specs.Making.{NameBelow}
-use Rattle.flat_making.proofs.Handing.{elsewhere}
+use Rattle.flat_making.proofs.Handings.{elsewhere}
 use Rattle.flat_making.proofs.Monomials.{length-cancelled}
 use Rattle.flat_making.proofs.Parts.{part, part_at, part-append, part_all}
 use Rattle.flat_making.proofs.Values.{AreLong, raw, worth, value, value-append, value-same, value-multiple, value-flat, steps_raw, multiple_same}
@@ -130,15 +130,12 @@ module _ (es : List EntryData) (b : List (List Term)) (long : (i : ℕ) → AreL
   hands_worth : (n : ℕ) (row : FormalSum Place) (steps : List Step) → AreLong row → AllByRecursion (λ t. t.1.c ≡ n) row → AreGood n steps
       → Same same_place (sum_of (vector_at b n)) (sum_of_steps b steps) → Same same_place (value b (hands_on row (Sum steps))) (value b row)
   hands_worth n [] steps all own good same = λ x. refl
-  hands_worth n (t ∷ row) steps all own good same = λ x. value-append b (flat_image first) (hands_on row (Sum steps)) x
-      ∙ Same-append same_place (value b (flat_image first)) (scale t.0 (worth b t.1)) (value b (hands_on row (Sum steps))) (value b row) one
+  hands_worth n (t ∷ row) steps all own good same = λ x.
+      value-append b (flat_image (multiple moved t.0 t.1.m (steps_sum steps))) (hands_on row (Sum steps)) x
+      ∙ Same-append same_place (value b (flat_image (multiple moved t.0 t.1.m (steps_sum steps)))) (scale t.0 (worth b t.1)) (value b (hands_on row (Sum steps))) (value b row) one
       (hands_worth n row steps all.1 own.1 good same) x
     where
-      first : FormalSum Place
-      first = multiple moved t.0 t.1.m (steps_sum steps)
-
-      one : Same same_place (value b (flat_image first)) (scale t.0 (worth b t.1))
-      unfolding first
+      one : Same same_place (value b (flat_image (multiple moved t.0 t.1.m (steps_sum steps)))) (scale t.0 (worth b t.1))
       one x =
           let is : value b (flat_image (multiple moved t.0 t.1.m (steps_sum steps))) ≡ scale t.0 (flat_image (rename (moved t.1.m) (raw b (steps_sum steps)))) =
           value-flat b long (multiple moved t.0 t.1.m (steps_sum steps))

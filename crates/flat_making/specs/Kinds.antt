@@ -34,7 +34,7 @@ pub data AreNamed : List (FormalSum Place) → List (Option FlatKind) → List (
   nothing : AreNamed [] [] []
   left_out : (f : FormalSum Place) (kind : Option FlatKind) (fs : List (FormalSum Place)) (kinds : List (Option FlatKind))
       (named : List (Option FlatKind)) → IsZero f → AreNamed fs kinds named → AreNamed (f ∷ fs) (kind ∷ kinds) named
-  named : (f : FormalSum Place) (kind : Option FlatKind) (fs : List (FormalSum Place)) (kinds : List (Option FlatKind))
+  written : (f : FormalSum Place) (kind : Option FlatKind) (fs : List (FormalSum Place)) (kinds : List (Option FlatKind))
       (named : List (Option FlatKind)) → (IsZero f → ⊥) → AreNamed fs kinds named
       → AreNamed (f ∷ fs) (kind ∷ kinds) (kind ∷ named)
 

@@ -3,7 +3,7 @@ use Rattle.std.specs.BTreeMap.Range.{entries_between}
 use Rattle.std.specs.Ordering.{nat_cmp, ordering_then, int_eq}
 use Rattle.std.specs.Prelude.{◌≢◌, ℕ, ◌+◌, pos, List, [], ◌∷◌, map, if◌then◌else◌}
 use Rattle.std.specs.declared.cmp.Ordering.{Ordering}
-use Rattle.std.specs.declared.ops.bounds.Bound.TheVariants.{Included, Excluded}
+use Rattle.std.specs.declared.ops.Bound.TheVariants.{Included, Excluded}
 use Rattle.formal_sums.specs.FormalSum.{FormalSum}
 use Rattle.laurent_terms.specs.Monomials.{IsMonomial, mono_cmp, one}
 use Rattle.module_vec.specs.declared.places.Place.{Place}

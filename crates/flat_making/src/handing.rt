@@ -44,7 +44,8 @@ fn hand_entry(
     let Recipe::Sum { steps } = recipe else {
         return Ok(());
     };
-    for share in &handed.row(alloc, number)? {
+    let row = handed.row(alloc, number)?;
+    for share in &row {
         handed.hand_on(share.k, &share.t, steps.steps())?;
     }
     Ok(())

@@ -40,9 +40,10 @@ fn put(
     ensures { OnOk result ((f : FormalSum Place) → (IsTrue is_zero ↔ IsZero f)
         → Names made.old.items (f ∷ []) (kind ∷ []) made.new.items) }
 {
-    if !is_zero {
-        made.push(kind)?;
+    if is_zero {
+        return Ok(());
     }
+    made.push(kind)?;
     Ok(())
 }
 
@@ -111,7 +112,7 @@ fn put_units(made: &mut Vec<Option<FlatKind>>, g: u8, count: u8) -> Result<(), A
     ensures { OnOk result (Names made.old.items (map (binomial (unit_monomial g)) (range_with_len 0 count))
         (map (λ c. None) (range_with_len 0 count)) made.new.items) }
 {
-    for _c in 0..count {
+    for c in 0..count {
         put(made, false, None)?;
     }
     Ok(())

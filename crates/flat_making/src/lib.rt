@@ -6,13 +6,13 @@
 //! flat image is 0.
 #![tactic(auto)]
 
-mod flatten;
 mod handed;
 mod handing;
 mod kinds;
 mod lines;
+mod making;
 
-pub use flatten::flatten;
+pub use making::flatten;
 
 #[cfg(test)]
 mod tests;

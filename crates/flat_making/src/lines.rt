@@ -53,7 +53,8 @@ fn put_lines(
     let Some(Some(what)) = kinds.get(*generator as usize) else {
         return Ok(());
     };
-    for share in &handed.row(alloc, number)? {
+    let row = handed.row(alloc, number)?;
+    for share in &row {
         let k = if *negated { -share.k } else { share.k };
         made.push(Flat {
             k,

@@ -15,11 +15,14 @@ use Rattle.module_vec.proofs.Order.{test, order}
 use Rattle.basis_entry.specs.declared.recipes.Recipe.{Recipe}
 use Rattle.report_reading.specs.declared.entry.EntryData.{EntryData}
 use Rattle.flat_cert.specs.declared.totals.Total.{Total}
-use Rattle.flat_cert.specs.declared.faults.FlatFault.TheVariants.{Beyond}
+use Rattle.flat_cert.specs.declared.faults.FlatFault.{FlatFault}
+use Rattle.flat_cert.specs.declared.faults.FlatFault.TheVariants.{Beyond, NoMemory}
 use Rattle.flat_cert.specs.Weights.{weight, IsBeyond}
 use Rattle.flat_cert.specs.Adding.{sum_at, weight_at, Adds}
 use Rattle.flat_cert.proofs.Weights.{weight-append, beyond_more}
-use Rattle.flat_making.specs.Handing.{IsRow, hands_on, recipe_at, HandDown, Holds}
+use Rattle.module_vec.specs.declared.steps.Step.{Step}
+use Rattle.flat_cert.specs.Images.{flat_image}
+use Rattle.flat_making.specs.Handing.{steps_sum, IsRow, hands_on, recipe_at, HandDown, IsHanded, Holds, HandsDown}
 
 abbrev pub Totals : Type 0
 Totals = List (Place × Total)
@@ -235,3 +238,22 @@ pub same_item : {A : Type 0} (xs : List A) (n : ℕ) (d e : A) → n < length xs
 same_item [] n d e lt = absurd (omega (arith, lt))
 same_item (x ∷ xs) zero d e lt = refl
 same_item (x ∷ xs) (suc n) d e lt = same_item xs n d e (omega (arith, lt))
+
+-- ---- all that is handed
+
+pub handed_there : (es : List EntryData) (proof : List Step) → (all : FormalSum Place) × IsHanded es proof all
+handed_there es proof = down_there es (length es) (flat_image (steps_sum proof))
+
+pub handed_once : (es : List EntryData) (proof : List Step) (a b : FormalSum Place) → IsHanded es proof a → IsHanded es proof b → a ≡ b
+handed_once es proof a b f g = down_once es (length es) (flat_image (steps_sum proof)) a b f g
+
+pub all_get : {A : Type 0} (P : A → Type 0) (xs : List A) (n : ℕ) (x : A) → AllByRecursion P xs → n < length xs → x ≡ get_or xs n x → P x
+all_get P [] n x all lt e = absurd (omega (arith, lt))
+all_get P (y ∷ xs) zero x all lt e = subst P (sym e) all.0
+all_get P (y ∷ xs) (suc n) x all lt e = all_get P xs n x all.1 (omega (arith, lt)) e
+
+-- where handing on fails, handing down does
+pub down_fails : (es : List EntryData) (first old new : Totals) (n : ℕ) (e : FlatFault) → ((handed : FormalSum Place) → Holds first handed → Reached es (suc n) old handed)
+    → EntryAdds es n old new (Err e) → HandsDown es first new (Err e)
+down_fails es first old new n Beyond reached adds = λ handed held. reached_beyond es n old new handed (reached handed held) adds
+down_fails es first old new n NoMemory reached adds = tt
