@@ -9,7 +9,7 @@ use Rattle.presentation.specs.Presented.{Presented, IsPresented}
 use Rattle.formal_sums.specs.FormalSum.{FormalSum, Same, coefficient, scale}
 use Rattle.formal_sums.specs.Span.{multiple}
 use Rattle.formal_sums.proofs.Coefficients.{coefficient-scale}
-use Rattle.laurent_terms.specs.Monomials.{IsMonomial}
+use Rattle.laurent_terms.specs.Monomials.{IsMonomial, one}
 use Rattle.module_vec.specs.declared.TheConstants.{COEFFICIENT}
 use Rattle.module_vec.specs.declared.places.Place.{Place}
 use Rattle.module_vec.specs.declared.places.Term.{Term}
@@ -28,20 +28,23 @@ use Rattle.report_reading.specs.declared.entry.EntryData.{EntryData}
 use Rattle.flat_cert.specs.declared.lines.Flat.{Flat}
 use Rattle.flat_cert.specs.declared.lines.FlatKind.{FlatKind}
 use Rattle.flat_cert.specs.declared.totals.Total.{Total}
-use Rattle.flat_cert.specs.Adding.{found, sum_at, weight_at, AreTotals, IsTotal, IsSmall}
+use Rattle.flat_cert.specs.Adding.{found, sum_at, weight_at, AreTotals, IsTotal, IsSmall, Adds}
+use Rattle.flat_cert.specs.declared.faults.FlatFault.{FlatFault}
+use Rattle.flat_cert.specs.declared.faults.FlatFault.TheVariants.{Beyond, NoMemory}
 use Rattle.flat_cert.specs.Certificates.{IsKind, AreFlat, certificate_sum}
 use Rattle.flat_cert.specs.Images.{flat_image, cancelled, IsFlatMono}
 use Rattle.flat_cert.specs.Texts.{IsCertificate}
 use Rattle.flat_cert.specs.Weights.{weight, IsBeyond}
 use Rattle.flat_cert.proofs.Entries.{found_is, small_found, not_beyond}
 use Rattle.flat_cert.proofs.Weights.{beyond_more}
-use Rattle.flat_making.specs.Handing.{steps_sum, IsRow, hands_on, recipe_at, HandDown, IsHanded, Holds, HaveFactor, HasFactors, HaveFactors}
+use Rattle.flat_making.specs.Handing.{steps_sum, IsRow, hands_on, recipe_at, HandDown, IsHanded, Holds, HaveFactor, HasFactors, HaveFactors, HandsDown}
 use Rattle.flat_making.specs.Kinds.{AreKinds}
 use Rattle.flat_making.specs.Lines.{AreLinesFrom}
-use Rattle.flat_making.specs.Making.{vectors_of, NameBelow, signed, IsValueOf, IsLog, IsProof}
+use Rattle.flat_making.specs.Making.{vectors_of, NameBelow, signed, IsValueOf, IsLog, IsProof, IsCertificateOf, Answers}
 use Rattle.flat_making.proofs.Bounds.{IsFine, HasKind, list_is_flat, few_lines}
 use Rattle.flat_making.proofs.Candidates.{Fits, IsNamed, generator_named}
-use Rattle.flat_making.proofs.Handings.{Totals, row_as, same_item}
+use Rattle.flat_making.proofs.Handings.{Totals, row_as, same_item, holds_on, passes_on, down_there, down_more}
+use Rattle.flat_making.proofs.Steps.{handed_by, handed_first}
 use Rattle.flat_making.proofs.Listing.{turned, Says, Tells, late, StandAt, list_worth}
 use Rattle.flat_making.proofs.Monomials.{cancelled_is_flat, cancelled_over}
 use Rattle.flat_making.proofs.Naming.{Kinds}
@@ -192,9 +195,9 @@ module _ (p : Presented) (es : List EntryData) (log : IsLog p es) where
     has_kinds = each_entry (λ e. HasKind p kinds e.recipe) es (λ i e is. kind_of i e.recipe (coefficient_at e.vector) (log.values i e is))
       where
         kind_of : (n : ℕ) (r : Recipe) (f : Place → ℤ) → IsValueOf p log.gens vectors n r f → HasKind p kinds r
-        kind_of n (Gen number negated) f is what e =
+        kind_of n (Gen number negated) f is =
             let name : IsNamed p (slice_index_or kinds number None) (vector_at log.gens number) = named number is.0 in
-            kind_known (slice_index_or kinds number None) name.sum name.fits what e
+            λ what e. kind_known (slice_index_or kinds number None) name.sum name.fits what e
         kind_of n (Sum steps) f is = tt
 
   pub have_factors : HaveFactors es
@@ -298,3 +301,40 @@ module _ (p : Presented) (known : IsPresented p) (es : List EntryData) (log : Is
                 let below : nat_lt y.c 0 ≡ false = grind arith in
                 let above : Rattle.std.proofs.Common.nat_le 0 y.c ≡ true = grind arith in
                 rw below (rw above refl)
+
+  -- ---- what is answered
+
+  handed_are : handed_by (pos 1) one proof ≡ first
+  handed_are = handed_first proof proof_long
+
+  holds_nothing : Holds [] []
+  holds_nothing = record { sums = λ x. refl; weights = λ x. refl }
+
+  pub start_holds : (new : Totals) → Adds [] (handed_by (pos 1) one proof) new (Ok tt) → Holds new first
+  start_holds new adds = subst (Holds new) handed_are (holds_on [] new [] (handed_by (pos 1) one proof) holds_nothing adds)
+
+  pub start_fails : (new : Totals) (e : FlatFault) → Adds [] (handed_by (pos 1) one proof) new (Err e) → Answers p es proof (Err e)
+  start_fails new Beyond adds =
+      let (all, down) = down_there es (length es) first in
+      (all, down, beyond_more (weight first) (weight all) (down_more es (length es) first all down)
+          (subst (λ v. IsBeyond (weight v)) handed_are (passes_on [] new [] (handed_by (pos 1) one proof) holds_nothing adds)))
+  start_fails new NoMemory adds = tt
+
+  pub then_fails : (old new : Totals) (e : FlatFault) → Holds old first → HandsDown es old new (Err e) → Answers p es proof (Err e)
+  then_fails old new Beyond held fails = fails first held
+  then_fails old new NoMemory held fails = tt
+
+  module _ (totals : Totals) (are_totals : AreTotals totals) (reached : (all : FormalSum Place) × IsHanded es proof all × Holds totals all) (kinds : Kinds)
+      (are : AreKinds p kinds) (list : List Flat)
+      (lines : (all : FormalSum Place) → Holds totals all → AreLinesFrom kinds (coefficient same_place all) 0 es list) where
+    by_totals : AreLinesFrom kinds (sum_at totals) 0 es list
+    by_totals = lines_as kinds (coefficient same_place reached.0) (sum_at totals) 0 es list (λ x. sym (reached.2.sums x)) (lines reached.0 reached.2)
+
+    pub flatten_exact : (all : FormalSum Place) × IsHanded es proof all × (IsBeyond (weight all) → ⊥) × IsCertificateOf p es all list
+    flatten_exact = (reached.0, reached.1, within reached.0 reached.1 totals are_totals reached.2, (kinds, are, lines reached.0 reached.2))
+
+    pub flatten_certificate : IsCertificate p list
+    flatten_certificate = is_certificate reached.0 reached.1 totals are_totals reached.2 kinds are list by_totals
+
+    pub flatten_sum : Same same_place (flat_image (certificate_sum p list)) (flat_image (sum_of_steps (vectors_of es) proof))
+    flatten_sum = sum_kept reached.0 reached.1 totals are_totals reached.2 kinds are list by_totals

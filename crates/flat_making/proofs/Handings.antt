@@ -1,7 +1,10 @@
 -- Rows are there and only once, and what is handed grows.
 use Rattle.std.proofs.Common.{◌≡◌, ◌≢◌, ◌⊎◌, inl, inr, ◌∙◌, ℕ, zero, suc, ◌+◌, ◌<◌, ◌≤◌, nat_eq, Bool, true, false, cond, ℤ, pos, ◌+ℤ◌, List, [], ◌∷◌, ◌++◌, length}
-use Rattle.std.proofs.Common.{get_or, refl, sym, ap, subst, arith}
-use Rattle.std.specs.Prelude.{Ok, Err}
+use Rattle.std.proofs.Common.{get_or, drop, refl, sym, ap, subst, arith, append_assoc, append-nil}
+use Rattle.std.specs.Prelude.{Option, Result, Ok, Err, OnOk}
+use Rattle.flat_cert.specs.declared.lines.Flat.{Flat}
+use Rattle.flat_cert.specs.declared.lines.FlatKind.{FlatKind}
+use Rattle.flat_making.specs.Lines.{entry_lines, AreLinesFrom}
 use Rattle.std.specs.List.{AllByRecursion}
 use Rattle.std.specs.Ordering.{int_eq}
 use borrow.Author.Differences.{ints}
@@ -13,12 +16,14 @@ use Rattle.module_vec.specs.declared.places.Place.{Place}
 use Rattle.module_vec.specs.Places.{same_place, IsBelow}
 use Rattle.module_vec.proofs.Order.{test, order}
 use Rattle.basis_entry.specs.declared.recipes.Recipe.{Recipe}
+use Rattle.basis_entry.specs.declared.recipes.Recipe.TheVariants.{Sum}
 use Rattle.report_reading.specs.declared.entry.EntryData.{EntryData}
 use Rattle.flat_cert.specs.declared.totals.Total.{Total}
 use Rattle.flat_cert.specs.declared.faults.FlatFault.{FlatFault}
 use Rattle.flat_cert.specs.declared.faults.FlatFault.TheVariants.{Beyond, NoMemory}
 use Rattle.flat_cert.specs.Weights.{weight, IsBeyond}
 use Rattle.flat_cert.specs.Adding.{sum_at, weight_at, Adds}
+use Rattle.flat_cert.proofs.Adding.{Answer}
 use Rattle.flat_cert.proofs.Weights.{weight-append, beyond_more}
 use Rattle.module_vec.specs.declared.steps.Step.{Step}
 use Rattle.flat_cert.specs.Images.{flat_image}
@@ -209,7 +214,7 @@ pub reached_first : (es : List EntryData) (totals : Totals) (handed : FormalSum 
 reached_first es totals handed held = (handed, held, λ all down. down)
 
 -- what entry number n is to hand on
-abbrev pub EntryAdds : List EntryData → ℕ → Totals → Totals → Rattle.flat_cert.proofs.Adding.Answer → Type 0
+abbrev pub EntryAdds : List EntryData → ℕ → Totals → Totals → Answer → Type 0
 EntryAdds es n old new r = (row : FormalSum Place) → IsRow (sum_at old) n row → Adds old (hands_on row (recipe_at es n)) new r
 
 pub reached_next : (es : List EntryData) (n : ℕ) (old new : Totals) (handed : FormalSum Place) → Reached es (suc n) old handed
@@ -257,3 +262,40 @@ pub down_fails : (es : List EntryData) (first old new : Totals) (n : ℕ) (e : F
     → EntryAdds es n old new (Err e) → HandsDown es first new (Err e)
 down_fails es first old new n Beyond reached adds = λ handed held. reached_beyond es n old new handed (reached handed held) adds
 down_fails es first old new n NoMemory reached adds = tt
+
+-- what the recipe of the entry hands on
+pub recipe_adds : (es : List EntryData) (n : ℕ) (d : EntryData) (old new : Totals) (r : Answer) → n < length es
+    → ((row : FormalSum Place) → IsRow (sum_at old) n row → Adds old (hands_on row (get_or es n d).recipe) new r) → EntryAdds es n old new r
+recipe_adds es n d old new r lt adds row own =
+    let same : (get_or es n d).recipe ≡ recipe_at es n = ap (λ (e : EntryData). e.recipe) (same_item es n d (record { recipe = Sum []; vector = [] }) lt) in
+    subst (λ (x : Recipe). Adds old (hands_on row x) new r) same (adds row own)
+
+pub on_ok : {E : Type 0} {P Q : Type 0} (r : Result (Unit {0}) E) → OnOk r P → (P → Q) → OnOk r Q
+on_ok (Ok u) h f = f h
+on_ok (Err e) h f = tt
+
+-- with the lines of one more entry
+pub lines_next : (kinds : List (Option FlatKind)) (all : FormalSum Place) (totals : Totals) → Holds totals all → (n : ℕ) (es : List EntryData) (e : EntryData)
+    (old new rest : List Flat) → drop n es ≡ e ∷ drop (n + 1) es
+    → ((row : FormalSum Place) → IsRow (sum_at totals) n row → new ≡ old ++ entry_lines kinds e.recipe row)
+    → ((others : List Flat) → AreLinesFrom kinds (coefficient same_place all) n (drop n es) others
+    → AreLinesFrom kinds (coefficient same_place all) 0 es (old ++ others))
+    → AreLinesFrom kinds (coefficient same_place all) (n + 1) (drop (n + 1) es) rest → AreLinesFrom kinds (coefficient same_place all) 0 es (new ++ rest)
+lines_next kinds all totals held n es e old new rest split put goes are =
+    let (row, is) = row_there all n in
+    let own : IsRow (sum_at totals) n row = row_as (coefficient same_place all) (sum_at totals) n row (λ x. sym (held.sums x)) is in
+    let next : n + 1 ≡ suc n = omega arith in
+    let here : AreLinesFrom kinds (coefficient same_place all) n (e ∷ drop (n + 1) es) (entry_lines kinds e.recipe row ++ rest) =
+    (row, rest, is, refl, subst (λ k. AreLinesFrom kinds (coefficient same_place all) k (drop (n + 1) es) rest) next are) in
+    subst (AreLinesFrom kinds (coefficient same_place all) 0 es)
+    (sym (append_assoc old (entry_lines kinds e.recipe row) rest) ∙ ap (λ ls. ls ++ rest) (sym (put row own)))
+    (goes (entry_lines kinds e.recipe row ++ rest)
+    (subst (λ fs. AreLinesFrom kinds (coefficient same_place all) n fs (entry_lines kinds e.recipe row ++ rest)) (sym split) here))
+
+pub lines_last : (kinds : List (Option FlatKind)) (all : FormalSum Place) (n : ℕ) (es : List EntryData) (made : List Flat) → drop n es ≡ []
+    → ((others : List Flat) → AreLinesFrom kinds (coefficient same_place all) n (drop n es) others
+    → AreLinesFrom kinds (coefficient same_place all) 0 es (made ++ others))
+    → AreLinesFrom kinds (coefficient same_place all) 0 es made
+lines_last kinds all n es made none goes =
+    subst (AreLinesFrom kinds (coefficient same_place all) 0 es) (append-nil made)
+    (goes [] (subst (λ fs. AreLinesFrom kinds (coefficient same_place all) n fs []) (sym none) refl))

@@ -1,6 +1,6 @@
 -- Steps that are handed on one after another, and rows likewise.
-use Rattle.std.proofs.Common.{◌≡◌, ◌≢◌, ◌∙◌, ℕ, ◌<◌, ℤ, pos, ◌*ℤ◌, List, [], ◌∷◌, ◌++◌, map, refl, sym, ap, subst}
-use Rattle.std.specs.Prelude.{Err, Ok, unsigned_abs}
+use Rattle.std.proofs.Common.{◌≡◌, ◌≢◌, ◌∙◌, ℕ, ◌<◌, Bool, cond, ℤ, pos, neg_ℤ, ◌*ℤ◌, List, [], ◌∷◌, ◌++◌, map, refl, sym, ap, subst}
+use Rattle.std.specs.Prelude.{Some, Err, Ok, unsigned_abs}
 use Rattle.std.specs.List.{AllByRecursion}
 use Rattle.formal_sums.specs.FormalSum.{FormalSum, rename}
 use Rattle.formal_sums.specs.Span.{multiple}
@@ -22,7 +22,10 @@ use Rattle.flat_cert.specs.Adding.{Adds}
 use Rattle.flat_cert.proofs.Adding.{terms_of, first_is_far, first_is_heavy}
 use Rattle.flat_making.specs.declared.handed.Share.{Share}
 use Rattle.flat_making.specs.Handing.{steps_sum, hands_on}
-use Rattle.flat_making.specs.Pairs.{row_of}
+use Rattle.flat_making.specs.Lines.{lines_of}
+use Rattle.flat_making.specs.Pairs.{row_of, shares_hand, share_lines}
+use Rattle.flat_cert.specs.declared.lines.Flat.{Flat}
+use Rattle.flat_cert.specs.declared.lines.FlatKind.{FlatKind}
 use Rattle.flat_making.proofs.Handings.{Totals}
 
 -- where something has k at t, what it hands on by the steps
@@ -68,10 +71,16 @@ handed_first ss all = ap flat_image (scale-one (rename (moved one) (steps_sum ss
 
 -- ---- rows
 
--- what the shares of an entry hand on
-abbrev pub shares_hand : ℕ → List Share → List Step → FormalSum Place
-shares_hand number row steps = hands_on (row_of number row) (Sum steps)
+pub shares_are : (number : ℕ) (row : List Share) (steps : List Step) → hands_on (row_of number row) (Sum steps) ≡ shares_hand row steps
+shares_are number [] steps = refl
+shares_are number (s ∷ row) steps = ap (λ v. handed_by s.k s.t steps ++ v) (shares_are number row steps)
 
-pub shares_split : (number : ℕ) (steps : List Step) (s : Share) (row rest : List Share) → row ≡ s ∷ rest
-    → shares_hand number row steps ≡ handed_by s.k s.t steps ++ shares_hand number rest steps
-shares_split number steps s row rest e = ap (λ r. shares_hand number r steps) e
+pub lines_are : (negated : Bool) (what : FlatKind) (number : ℕ) (row : List Share) → lines_of negated (Some what) (row_of number row) ≡ share_lines negated what row
+lines_are negated what number [] = refl
+lines_are negated what number (s ∷ row) =
+    ap (λ (ls : List Flat). (record { k = cond negated (neg_ℤ s.k) s.k; t = s.t; what = what }) ∷ ls) (lines_are negated what number row)
+
+-- what comes of the first share, and then of the others
+pub shares_split : (steps : List Step) (s : Share) (row rest : List Share) → row ≡ s ∷ rest
+    → shares_hand row steps ≡ handed_by s.k s.t steps ++ shares_hand rest steps
+shares_split steps s row rest e = ap (λ r. shares_hand r steps) e

@@ -1,14 +1,17 @@
 //! Handing on from entry to entry.
 
-ghost use Rattle.std.specs.Prelude.{◌+◌, ◌<◌, ◌^◌, length};
+ghost use Rattle.std.specs.List.{AllByRecursion};
+ghost use Rattle.std.specs.Prelude.{◌+◌, ◌<◌, ◌^◌};
 ghost use Rattle.formal_sums.specs.FormalSum.{FormalSum};
 ghost use Rattle.module_vec.specs.declared.places.Place.{Place};
 ghost use Rattle.flat_cert.specs.Adding.{sum_at, Adds};
-ghost use Rattle.flat_making.specs.Handing.{IsRow, hands_on, HasFactors, HaveFactors, HandsDown};
+ghost use Rattle.flat_making.specs.Handing.{IsRow, hands_on, HaveFactor, HasFactors, HaveFactors, HandsDown};
+ghost use Rattle.flat_making.specs.Pairs.{IsShare, shares_hand};
 
-use crate::handed::Handed;
+use crate::handed::{Handed, Share};
 use basis_entry::Recipe;
 use flat_cert::FlatFault;
+use module_vec::Step;
 use report_reading::EntryData;
 use std::alloc::Global;
 
@@ -41,12 +44,23 @@ fn hand_entry(
     ensures { (row : FormalSum Place) → IsRow (sum_at handed.old) number row
         → Adds handed.old (hands_on row recipe.now) handed.new result }
 {
-    let Recipe::Sum { steps } = recipe else {
-        return Ok(());
-    };
-    let row = handed.row(alloc, number)?;
-    for share in &row {
-        handed.hand_on(share.k, &share.t, steps.steps())?;
+    match recipe {
+        Recipe::Gen { .. } => Ok(()),
+        Recipe::Sum { steps } => {
+            let row = handed.row(alloc, number)?;
+            hand_shares(&row, steps.steps(), handed)
+        }
+    }
+}
+
+/// Each share is handed on by the steps.
+fn hand_shares(row: &[Share], steps: &[Step], handed: &mut Handed) -> Result<(), FlatFault>
+    requires shares { AllByRecursion IsShare row.now }
+    requires steps { HaveFactor steps.now }
+    ensures { Adds handed.old (shares_hand row.now steps.now) handed.new result }
+{
+    for share in row {
+        handed.hand_on(share.k, &share.t, steps)?;
     }
     Ok(())
 }

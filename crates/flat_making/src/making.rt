@@ -1,9 +1,11 @@
 //! The flat certificate of a proof.
 
-ghost use Rattle.std.specs.Prelude.{length, IfOk};
+ghost use Rattle.std.specs.List.{AllByRecursion};
+ghost use Rattle.std.specs.Prelude.{IfOk};
 ghost use Rattle.formal_sums.specs.FormalSum.{Same};
 ghost use Rattle.module_vec.specs.Modules.{sum_of_steps};
 ghost use Rattle.module_vec.specs.Places.{same_place};
+ghost use Rattle.module_vec.specs.Vectors.{IsVector};
 ghost use Rattle.flat_cert.specs.Images.{flat_image};
 ghost use Rattle.flat_cert.specs.Certificates.{certificate_sum};
 ghost use Rattle.flat_cert.specs.Texts.{IsCertificate};
@@ -39,9 +41,21 @@ pub fn flatten(
     ensures sum { IfOk result (λ list. Same same_place (flat_image (certificate_sum p.now list.items))
         (flat_image (sum_of_steps (vectors_of entries.now) proof.now))) }
 {
+    p.known();
+    vectors_known(entries);
     let mut handed = Handed::new(alloc);
     handed.hand_on(1, &Mono::one(), proof)?;
     hand_down(alloc, entries, &mut handed)?;
     let kinds = generator_kinds(alloc, p)?;
-    Ok(certificate_lines(alloc, entries, &kinds, &handed)?)
+    let list = certificate_lines(alloc, entries, &kinds, &handed)?;
+    Ok(list)
+}
+
+/// What holds of the vectors. The call does nothing: where it is compiled no loop is left of it.
+fn vectors_known(entries: &[EntryData])
+    ensures { AllByRecursion (λ e. IsVector e.vector) entries.now }
+{
+    for entry in entries {
+        entry.vector.terms();
+    }
 }
