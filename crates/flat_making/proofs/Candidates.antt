@@ -129,4 +129,4 @@ named_at p _ _ _ _ (AreNamed.written f k fs ks named z h) (AreWritten.written _ 
 
 pub generator_named : (p : Presented) (named : Kinds) (gens : List (List Term)) → AreNamed (candidates p) (candidate_kinds p) named
     → AreWritten (candidates p) gens → (i : ℕ) → i < length gens → IsNamed p (slice_index_or named i None) (vector_at gens i)
-generator_named p named gens are written i lt = named_at p (candidates p) (candidate_kinds p) named gens are written (candidates_fit p) i lt
+generator_named p named gens are writes i lt = named_at p (candidates p) (candidate_kinds p) named gens are writes (candidates_fit p) i lt

@@ -11,3 +11,5 @@ pub mod Listing
 pub mod Bounds
 pub mod Flattening
 pub mod Steps
+pub mod Accepted
+pub mod Reported

@@ -3,3 +3,4 @@ pub mod Pairs
 pub mod Kinds
 pub mod Lines
 pub mod Making
+pub mod Checked

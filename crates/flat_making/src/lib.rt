@@ -10,6 +10,7 @@ mod handed;
 mod handing;
 mod kinds;
 mod lines;
+pub mod laws;
 mod making;
 
 pub use making::flatten;
