@@ -10,3 +10,4 @@ pub mod Named
 pub mod LineTexts
 pub mod Texts
 pub mod Written
+pub mod ReadingBack
