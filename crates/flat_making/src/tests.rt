@@ -1,11 +1,17 @@
 //! Certificates worked out by hand.
 
+ghost use Rattle.std.specs.Prelude.{IsTrue, IfSome};
+ghost use Rattle.flat_making.specs.Checked.{IsChecked};
+ghost use Rattle.flat_making.specs.Making.{NameBelow};
+
 use crate::flatten;
+use crate::laws::accepted_reports_hold;
+use cert_checker::check;
 use flat_cert::{FlatFault, write_flat};
 use mb_io::MemSink;
 use module_vec::Step;
-use presentation::read_presentation;
-use report_reading::read_report;
+use presentation::{Presentation, read_presentation};
+use report_reading::{ReportData, read_report};
 use std::alloc::Global;
 use std::rt::HostRuntime;
 use step_text::read_steps;
@@ -59,9 +65,13 @@ done
 /// The text of the certificate, `beyond`, or nothing where memory runs out.
 fn certificate(alloc: Global, p: &str, report: &str, proof: &str) -> Option<String> {
     let p = read_presentation(alloc, p.as_bytes()).ok()?;
-    let report = read_report(alloc, &p, report.as_bytes()).ok()?;
+    let report = accepted(alloc, &p, report.as_bytes())?;
     let proof = read_steps(alloc, &p, proof.as_bytes()).ok()?;
-    let list = match flatten(alloc, &p, report.entries.entries(), proof.steps()) {
+    let entries = report.entries.entries();
+    if !all_named(proof.steps(), entries.len()) {
+        return None;
+    }
+    let list = match flatten(alloc, &p, entries, proof.steps()) {
         Ok(list) => list,
         Err(FlatFault::Beyond) => return String::from_str(alloc, "beyond").ok(),
         Err(FlatFault::NoMemory) => return None,
@@ -69,6 +79,33 @@ fn certificate(alloc: Global, p: &str, report: &str, proof: &str) -> Option<Stri
     let mut sink = MemSink::new(alloc, 1000, Vec::new(alloc)).ok()?;
     write_flat(alloc, &p, &list, &mut sink).ok()?;
     String::from_utf8(Vec::from_slice(alloc, sink.taken()).ok()?).ok()
+}
+
+/// What is read of the report, where the checker accepts it.
+fn accepted(alloc: Global, p: &Presentation, report: &[u8]) -> Option<ReportData>
+    ensures { IfSome result (IsChecked p.now) }
+{
+    p.known();
+    let Ok(_checked) = check(alloc, p, report) else {
+        return None;
+    };
+    let Ok(data) = read_report(alloc, p, report) else {
+        return None;
+    };
+    accepted_reports_hold();
+    Some(data)
+}
+
+/// Whether the steps name entries below the front.
+fn all_named(steps: &[Step], front: usize) -> bool
+    ensures { IsTrue result → NameBelow front steps.now }
+{
+    for step in steps {
+        if step.by as usize >= front {
+            return false;
+        }
+    }
+    true
 }
 
 #[test]
