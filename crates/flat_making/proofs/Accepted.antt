@@ -27,3 +27,8 @@ is_accepted p es w proof list (Err Beyond) shown same answers = tt
 is_accepted p es w proof list (Err NoMemory) shown same answers = tt
 is_accepted p es w proof list (Err (NotZero at)) shown same answers =
     answers.0.here (omega (arith, ints, same at, flat_same (sum_of_steps (vectors_of es) proof) (fox w) shown.sum at))
+
+pub is_image : (p : Presented) (es : List EntryData) (w : List Letter) (proof : List Step) (list : List Flat) → IsShownBy p es w proof
+    → Same same_place (flat_image (certificate_sum p list)) (flat_image (sum_of_steps (vectors_of es) proof))
+    → Same same_place (flat_image (certificate_sum p list)) (flat_image (fox w))
+is_image p es w proof list shown same x = same x ∙ flat_same (sum_of_steps (vectors_of es) proof) (fox w) shown.sum x

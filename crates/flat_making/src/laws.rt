@@ -8,6 +8,7 @@ ghost use Rattle.module_vec.specs.declared.places.Place.{Place};
 ghost use Rattle.module_vec.specs.declared.steps.Step.{Step};
 ghost use Rattle.module_vec.specs.Modules.{sum_of_steps};
 ghost use Rattle.module_vec.specs.Places.{same_place};
+ghost use Rattle.fox_calculus.specs.Fox.{fox};
 ghost use Rattle.report_reading.specs.declared.data.ReportData.{ReportData};
 ghost use Rattle.report_reading.specs.declared.entry.EntryData.{EntryData};
 ghost use Rattle.report_reading.specs.Reading.{Answers as IsRead};
@@ -29,10 +30,15 @@ pub fn accepted_reports_hold()
         → IsCheckedText p text (Ok c) → IsRead p text (Ok d) → IsChecked p d }
 {}
 
-/// A certificate with the sum of a proof of the word: a check of it says yes or that it is beyond the limits.
-#[tactic(auto, using(crate::proofs::Accepted::is_accepted))]
+/// A certificate with the sum of a proof of the word: this sum is the flat image of the word's Fox vector, and a check
+/// of it says yes or that it is beyond the limits.
+#[tactic(auto, using(crate::proofs::Accepted::is_image, crate::proofs::Accepted::is_accepted))]
 pub fn certificates_of_proofs_are_accepted()
-    ensures { (p : Presented) (es : List EntryData) (w : List Letter) (proof : List Step) (list : List Flat)
+    ensures sum { (p : Presented) (es : List EntryData) (w : List Letter) (proof : List Step) (list : List Flat)
+        → IsShownBy p es w proof
+        → Same same_place (flat_image (certificate_sum p list)) (flat_image (sum_of_steps (vectors_of es) proof))
+        → Same same_place (flat_image (certificate_sum p list)) (flat_image (fox w)) }
+    ensures checked { (p : Presented) (es : List EntryData) (w : List Letter) (proof : List Step) (list : List Flat)
         (r : Result (Unit {0}) FlatSumFault) → IsShownBy p es w proof
         → Same same_place (flat_image (certificate_sum p list)) (flat_image (sum_of_steps (vectors_of es) proof))
         → Answers p w list r → FindsNone r }
