@@ -1,9 +1,8 @@
 -- What is written of a certificate is read back: its text is that of no other, and none of its lines can't stand.
-use Rattle.std.proofs.Common.{◌≡◌, ◌≢◌, ℕ, ◌+◌, ◌==◌, Bool, true, false, cond, List, [], ◌∷◌, ◌++◌, length, Some, None, Ok, Err, decimal, refl, sym, ap, subst, ◌∙◌, arith, append_assoc}
+use Rattle.std.proofs.Common.{◌≡◌, ◌≢◌, ℕ, ◌==◌, Bool, true, false, cond, List, [], ◌∷◌, ◌++◌, Some, None, Ok, Err, decimal, refl, sym, ap, subst, ◌∙◌, arith, append_assoc}
 use Rattle.std.proofs.Common.{inl, append-nil}
-use Rattle.std.specs.Prelude.{codes, Option, Result, Vec}
+use Rattle.std.specs.Prelude.{codes, Result, Vec}
 use Rattle.std.specs.declared.alloc.Global.{Global}
-use Rattle.std.specs.List.{AllByRecursion}
 use Rattle.std.proofs.lemmas.List.{length-append}
 use Rattle.spelling.specs.Spelling.{cut, coefficient}
 use Rattle.spelling.proofs.Cuts.{cut_here, some_same}
@@ -21,7 +20,7 @@ use Rattle.flat_cert.specs.declared.faults.FlatTextFault.TheVariants.{Line, NoMe
 use Rattle.flat_cert.specs.declared.lines.Flat.{Flat}
 use Rattle.flat_cert.specs.declared.lines.FlatKind.{FlatKind}
 use Rattle.flat_cert.specs.declared.lines.FlatKind.TheVariants.{Rel, Bin, Mod}
-use Rattle.flat_cert.specs.Certificates.{IsRelator, IsKind, IsFlat, AreFlat}
+use Rattle.flat_cert.specs.Certificates.{IsKind, IsFlat, AreFlat}
 use Rattle.flat_cert.specs.Texts.{kind_text, line_text, lines_text, title, last_line, certificate_text, IsCertificate, IsNoTitle, CantStand, IsFirstFault, ReadsText}
 use Rattle.flat_cert.specs.Texts.{IsReadBack}
 use Rattle.flat_cert.specs.Texts.IsFirstFault.{at_title, behind, after_last}
@@ -65,9 +64,11 @@ module _ (p : Presented) (known : IsPresented p) where
   line_lacks : (l : Flat) → IsFlat p l → Lacks 10 (line_text p.names l)
   line_lacks l is =
       lacks_append 10 (coefficient l.k) (codes "*" ++ (monomial_text p.names l.t ++ (codes " " ++ kind_text p.names l.what)))
-      (coefficient_lacks 10 l.k (inl (omega arith)) (λ e. omega (arith, e)) (λ e. omega (arith, e)) (factor p known l is))
-      (refl, lacks_append 10 (monomial_text p.names l.t) (codes " " ++ kind_text p.names l.what)
-      (monomial_lacks 10 p.names l.t ender (λ e. omega (arith, e)) (names_of p known) is.mono) (refl, kind_lacks l.what is.kind))
+      (coefficient_lacks 10 l.k (inl (omega arith)) (λ e. omega (arith, e)) (λ e. omega (arith, e)) (factor p known l is)) (
+        refl,
+        lacks_append 10 (monomial_text p.names l.t) (codes " " ++ kind_text p.names l.what)
+            (monomial_lacks 10 p.names l.t ender (λ e. omega (arith, e)) (names_of p known) is.mono) (refl, kind_lacks l.what is.kind),
+      )
 
   -- ---- a line is that of one value alone
 
@@ -171,7 +172,7 @@ module _ (p : Presented) (known : IsPresented p) where
       subst IsNoTitle (ap (cut 10) is ∙ title_cut (lines_text p.names ls ++ (last_line ++ 10 ∷ []))) other refl
   none_fails ls _ text all is (after_last ms rest known_ms was some) =
       let e : body ls [] ≡ body ms rest = body_of ls text (body ms rest) is
-          (was ∙ ap (λ t. title ++ 10 ∷ t) (append_assoc (lines_text p.names ms) (last_line ++ 10 ∷ []) rest)) in
+      (was ∙ ap (λ t. title ++ 10 ∷ t) (append_assoc (lines_text p.names ms) (last_line ++ 10 ∷ []) rest)) in
       some (sym (one_body ls ms [] rest all.flat known_ms.flat e).1)
   none_fails ls _ text all is (behind ms rest known_ms was fails) =
       let e : body ls [] ≡ lines_text p.names ms ++ rest = body_of ls text (lines_text p.names ms ++ rest) is was in

@@ -1,7 +1,7 @@
 -- Texts that are written piece by piece.
 use Rattle.std.proofs.Common.{◌≡◌, ℕ, List, [], ◌∷◌, ◌++◌, take, drop, Option, Some, None, Result, Ok, Err, refl, sym, ap, subst, ◌∙◌, append_assoc, append-nil}
 use Rattle.std.proofs.Common.{take-append-drop}
-use Rattle.std.proofs.Common.{◌⊎◌, inl, inr, ◌<◌, ◌≤◌, ◌-◌, ◌^◌, arith}
+use Rattle.std.proofs.Common.{inl, inr, ◌≤◌, arith}
 use Rattle.mb_io.specs.Shelf.{TakesPrefix, CountRose}
 use Rattle.flat_cert.specs.declared.faults.WriteFault.{WriteFault}
 use Rattle.flat_cert.specs.declared.faults.WriteFault.TheVariants.{Failed, NoMemory}

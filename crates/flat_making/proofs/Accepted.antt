@@ -1,5 +1,5 @@
 -- A check of a certificate with the sum of a proof finds no difference.
-use Rattle.std.proofs.Common.{◌≡◌, ◌∙◌, ℕ, List, Result, Ok, Err, sym, arith}
+use Rattle.std.proofs.Common.{◌∙◌, List, Result, Ok, Err, arith}
 use Rattle.free_words.specs.declared.letter.Letter.{Letter}
 use Rattle.presentation.specs.Presented.{Presented}
 use borrow.Author.Differences.{ints}

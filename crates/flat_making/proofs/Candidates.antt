@@ -1,22 +1,20 @@
 -- Each kind says what its candidate is, and so names its generator.
-use Rattle.std.proofs.Common.{◌≡◌, ◌≢◌, ◌∙◌, ℕ, zero, suc, ◌+◌, ◌-◌, ◌<◌, ◌≤◌, ◌==◌, Bool, true, false, cond, List, [], ◌∷◌, ◌++◌, length, map, get_or, refl, sym, ap, subst, arith}
+use Rattle.std.proofs.Common.{◌≡◌, ◌≢◌, ◌∙◌, ℕ, zero, suc, ◌+◌, ◌-◌, ◌<◌, ◌≤◌, ◌==◌, Bool, true, false, cond, List, [], ◌∷◌, ◌++◌, length, map, get_or, refl, ap, arith}
 use Rattle.std.specs.Prelude.{Option, Some, None, slice_index_or}
 use Rattle.std.specs.List.{range_with_len, flat_map}
 use Rattle.std.proofs.lemmas.Bool.Decides.{nat_tests}
 use Rattle.free_words.specs.declared.letter.Letter.{Letter}
 use Rattle.presentation.specs.Presented.{Presented}
-use Rattle.formal_sums.specs.FormalSum.{FormalSum, coefficient}
+use Rattle.formal_sums.specs.FormalSum.{FormalSum}
 use Rattle.module_vec.specs.declared.places.Place.{Place}
 use Rattle.module_vec.specs.declared.places.Term.{Term}
 use Rattle.module_vec.specs.Modules.{vector_at}
-use Rattle.module_vec.specs.Places.{same_place}
-use Rattle.module_vec.specs.Vectors.{sum_of}
 use Rattle.module_vec.proofs.Determined.{same_vector}
 use Rattle.fox_calculus.specs.Fox.{fox, image}
 use Rattle.fox_calculus.specs.Generators.{binomial, constant, unit_monomial, components, candidates, IsZero, IsWritten, AreWritten}
 use Rattle.flat_cert.specs.declared.lines.FlatKind.{FlatKind}
 use Rattle.flat_cert.specs.declared.lines.FlatKind.TheVariants.{Rel, Bin, Mod}
-use Rattle.flat_cert.specs.Certificates.{IsRelator, relator, IsKind, generator_of}
+use Rattle.flat_cert.specs.Certificates.{relator, IsKind, generator_of}
 use Rattle.flat_making.specs.Kinds.{AreNamed, candidate_kinds}
 use Rattle.flat_making.proofs.Naming.{Kinds, Sums}
 

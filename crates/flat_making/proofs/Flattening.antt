@@ -1,27 +1,24 @@
 -- The flat certificate of a proof: what it is worth, and that it is a certificate.
 use Rattle.std.proofs.Common.{◌≡◌, ◌≢◌, ◌∙◌, inl, inr, ℕ, zero, suc, ◌+◌, ◌<◌, ◌≤◌, nat_lt, Bool, true, false, cond, ℤ, pos, negsuc, ◌+ℤ◌, neg_ℤ, List, [], ◌∷◌, ◌++◌}
 use Rattle.std.proofs.Common.{length, map, get_or, refl, sym, ap, subst, arith}
-use Rattle.std.specs.Prelude.{Option, Some, None, slice_get, slice_index_or, Ok, Err, Result, unsigned_abs}
+use Rattle.std.specs.Prelude.{Option, Some, None, slice_get, slice_index_or, Ok, Err}
 use Rattle.std.specs.List.{AllByRecursion}
 use borrow.Author.Differences.{ints}
-use Rattle.free_words.specs.declared.TheConstants.{GENERATORS}
 use Rattle.presentation.specs.Presented.{Presented, IsPresented}
 use Rattle.formal_sums.specs.FormalSum.{FormalSum, Same, coefficient, scale}
 use Rattle.formal_sums.specs.Span.{multiple}
 use Rattle.formal_sums.proofs.Coefficients.{coefficient-scale}
 use Rattle.laurent_terms.specs.Monomials.{IsMonomial, one}
-use Rattle.module_vec.specs.declared.TheConstants.{COEFFICIENT}
 use Rattle.module_vec.specs.declared.places.Place.{Place}
 use Rattle.module_vec.specs.declared.places.Term.{Term}
 use Rattle.module_vec.specs.declared.steps.Step.{Step}
-use Rattle.module_vec.specs.Modules.{vector_at, steps_at, sum_of_steps}
+use Rattle.module_vec.specs.Modules.{vector_at, sum_of_steps}
 use Rattle.module_vec.specs.Places.{same_place, moved}
 use Rattle.module_vec.specs.Vectors.{sum_of, coefficient_at, IsTerm, IsVector}
 use Rattle.module_vec.proofs.FallingTerms.{all_join}
-use Rattle.step_text.specs.Over.{IsStepOf, AreStepsOf}
+use Rattle.step_text.specs.Over.{AreStepsOf}
 use Rattle.vector_text.specs.Over.{MonoIsOver}
 use Rattle.vector_text.proofs.Over.{product_over}
-use Rattle.fox_calculus.specs.Generators.{AreGenerators}
 use Rattle.basis_entry.specs.declared.recipes.Recipe.{Recipe}
 use Rattle.basis_entry.specs.declared.recipes.Recipe.TheVariants.{Gen, Sum}
 use Rattle.report_reading.specs.declared.entry.EntryData.{EntryData}
@@ -31,19 +28,19 @@ use Rattle.flat_cert.specs.declared.totals.Total.{Total}
 use Rattle.flat_cert.specs.Adding.{found, sum_at, weight_at, AreTotals, IsTotal, IsSmall, Adds}
 use Rattle.flat_cert.specs.declared.faults.FlatFault.{FlatFault}
 use Rattle.flat_cert.specs.declared.faults.FlatFault.TheVariants.{Beyond, NoMemory}
-use Rattle.flat_cert.specs.Certificates.{IsKind, AreFlat, certificate_sum}
-use Rattle.flat_cert.specs.Images.{flat_image, cancelled, IsFlatMono}
+use Rattle.flat_cert.specs.Certificates.{IsKind, certificate_sum}
+use Rattle.flat_cert.specs.Images.{flat_image, IsFlatMono}
 use Rattle.flat_cert.specs.Texts.{IsCertificate}
 use Rattle.flat_cert.specs.Weights.{weight, IsBeyond}
 use Rattle.flat_cert.proofs.Entries.{found_is, small_found, not_beyond}
 use Rattle.flat_cert.proofs.Weights.{beyond_more}
-use Rattle.flat_making.specs.Handing.{steps_sum, IsRow, hands_on, recipe_at, HandDown, IsHanded, Holds, HaveFactor, HasFactors, HaveFactors, HandsDown}
+use Rattle.flat_making.specs.Handing.{steps_sum, hands_on, recipe_at, HandDown, IsHanded, Holds, HaveFactor, HasFactors, HaveFactors, HandsDown}
 use Rattle.flat_making.specs.Kinds.{AreKinds}
 use Rattle.flat_making.specs.Lines.{AreLinesFrom}
 use Rattle.flat_making.specs.Making.{vectors_of, NameBelow, signed, IsValueOf, IsLog, IsProof, IsCertificateOf, Answers}
 use Rattle.flat_making.proofs.Bounds.{IsFine, HasKind, list_is_flat, few_lines}
 use Rattle.flat_making.proofs.Candidates.{Fits, IsNamed, generator_named}
-use Rattle.flat_making.proofs.Handings.{Totals, row_as, same_item, holds_on, passes_on, down_there, down_more}
+use Rattle.flat_making.proofs.Handings.{Totals, row_as, holds_on, passes_on, down_there, down_more}
 use Rattle.flat_making.proofs.Steps.{handed_by, handed_first}
 use Rattle.flat_making.proofs.Listing.{turned, Says, Tells, late, StandAt, list_worth}
 use Rattle.flat_making.proofs.Monomials.{cancelled_is_flat, cancelled_over}
@@ -315,9 +312,12 @@ module _ (p : Presented) (known : IsPresented p) (es : List EntryData) (log : Is
 
   pub start_fails : (new : Totals) (e : FlatFault) → Adds [] (handed_by (pos 1) one proof) new (Err e) → Answers p es proof (Err e)
   start_fails new Beyond adds =
-      let (all, down) = down_there es (length es) first in
-      (all, down, beyond_more (weight first) (weight all) (down_more es (length es) first all down)
-          (subst (λ v. IsBeyond (weight v)) handed_are (passes_on [] new [] (handed_by (pos 1) one proof) holds_nothing adds)))
+      let (all, down) = down_there es (length es) first in (
+        all,
+        down,
+        beyond_more (weight first) (weight all) (down_more es (length es) first all down)
+            (subst (λ v. IsBeyond (weight v)) handed_are (passes_on [] new [] (handed_by (pos 1) one proof) holds_nothing adds)),
+      )
   start_fails new NoMemory adds = tt
 
   pub then_fails : (old new : Totals) (e : FlatFault) → Holds old first → HandsDown es old new (Err e) → Answers p es proof (Err e)

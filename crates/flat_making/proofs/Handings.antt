@@ -8,7 +8,7 @@ use Rattle.flat_making.specs.Lines.{entry_lines, AreLinesFrom}
 use Rattle.std.specs.List.{AllByRecursion}
 use Rattle.std.specs.Ordering.{int_eq}
 use borrow.Author.Differences.{ints}
-use Rattle.formal_sums.specs.FormalSum.{FormalSum, Same, coefficient, AllBelow, Falling, NonZero}
+use Rattle.formal_sums.specs.FormalSum.{FormalSum, coefficient, AllBelow, Falling, NonZero}
 use Rattle.formal_sums.proofs.Coefficients.{coefficient-append}
 use Rattle.formal_sums.proofs.Falling.{falling_same, AllBelow_transitive}
 use Rattle.formal_sums.proofs.Keys.{int_test, nat_test, eq-apart}
@@ -148,8 +148,7 @@ row_there (t ∷ v) n = by (nat_eq t.1.c n) refl (row_there v n)
     by : (b : Bool) → nat_eq t.1.c n ≡ b → (row : FormalSum Place) × IsRow (coefficient same_place v) n row
         → (row : FormalSum Place) × IsRow (coefficient same_place (t ∷ v)) n row
     by true e (row, is) =
-        let more : Added t.0 t.1 row = added t.0 t.1 row is.falling is.nonzero in
-        (
+        let more : Added t.0 t.1 row = added t.0 t.1 row is.falling is.nonzero in (
           more.made,
           record {
             falling = more.falling;
@@ -230,9 +229,12 @@ reached_beyond es n old new handed (now, held, goes) adds =
     let (row, is) = row_there now n in
     let own : IsRow (sum_at old) n row = row_as (coefficient same_place now) (sum_at old) n row (λ x. sym (held.sums x)) is in
     let next : FormalSum Place = now ++ hands_on row (recipe_at es n) in
-    let (all, down) = down_there es n next in
-    (all, goes all (row, is, down), beyond_more (weight next) (weight all) (down_more es n next all down)
-        (passes_on old new now (hands_on row (recipe_at es n)) held (adds row own)))
+    let (all, down) = down_there es n next in (
+      all,
+      goes all (row, is, down),
+      beyond_more (weight next) (weight all) (down_more es n next all down)
+          (passes_on old new now (hands_on row (recipe_at es n)) held (adds row own)),
+    )
 
 pub reached_last : (es : List EntryData) (totals : Totals) (handed : FormalSum Place) → Reached es 0 totals handed
     → (all : FormalSum Place) × HandDown es (length es) handed all × Holds totals all

@@ -1,29 +1,24 @@
 -- The lines of entries of generators: what they are worth, that they are flat lines, and how many there are.
-use Rattle.std.proofs.Common.{◌≡◌, ◌≢◌, ◌∙◌, ℕ, zero, suc, ◌+◌, ◌<◌, ◌≤◌, nat_lt, nat_le, nat_eq, Bool, true, false, cond, ℤ, pos, negsuc, ◌+ℤ◌, ◌*ℤ◌, neg_ℤ, List, []}
-use Rattle.std.proofs.Common.{◌∷◌, ◌++◌, length, get_or, refl, sym, ap, subst, arith, append-nil}
-use Rattle.std.specs.Prelude.{Option, Some, None, slice_index_or, unsigned_abs}
+use Rattle.std.proofs.Common.{◌≡◌, ◌∙◌, ℕ, suc, ◌+◌, ◌<◌, ◌≤◌, nat_le, Bool, true, false, cond, ℤ, pos, negsuc, ◌+ℤ◌, ◌*ℤ◌, neg_ℤ, List, []}
+use Rattle.std.proofs.Common.{◌∷◌, ◌++◌, length, get_or, refl, sym, ap, subst, arith}
+use Rattle.std.specs.Prelude.{Option, Some, None, slice_index_or}
 use Rattle.std.specs.List.{AllByRecursion}
-use Rattle.std.proofs.lemmas.List.{length-append, map-append}
 use Rattle.std.proofs.lemmas.Grind.{flat_map-append}
 use borrow.Author.Differences.{ints}
 use Rattle.free_words.specs.declared.TheConstants.{GENERATORS}
 use Rattle.presentation.specs.Presented.{Presented}
-use Rattle.formal_sums.specs.FormalSum.{FormalSum, Same, coefficient, scale, rename, AllBelow, Falling, NonZero}
+use Rattle.formal_sums.specs.FormalSum.{FormalSum, Same, coefficient, scale, rename}
 use Rattle.formal_sums.specs.Span.{multiple}
 use Rattle.formal_sums.proofs.Coefficients.{coefficient-append, coefficient-scale, Same-append, rename-append, rename-scale}
 use Rattle.formal_sums.proofs.Evaluation.{Same-rename}
-use Rattle.formal_sums.proofs.Falling.{coefficient-first}
 use Rattle.formal_sums.proofs.Integers.{*ℤ-neg_ℤ, neg_ℤ-*ℤ}
-use Rattle.formal_sums.proofs.Keys.{eq-above}
-use Rattle.laurent_terms.specs.Monomials.{one, product, IsMonomial}
+use Rattle.laurent_terms.specs.Monomials.{one, product}
 use Rattle.module_vec.specs.declared.places.Place.{Place}
 use Rattle.module_vec.specs.declared.places.Term.{Term}
 use Rattle.module_vec.specs.Modules.{vector_at}
-use Rattle.module_vec.specs.Places.{same_place, moved, IsBelow}
-use Rattle.module_vec.specs.Vectors.{sum_of, InRange}
-use Rattle.module_vec.proofs.FallingTerms.{all_join}
-use Rattle.module_vec.proofs.Order.{test, order}
-use Rattle.vector_text.specs.Over.{IsMonoOf}
+use Rattle.module_vec.specs.Places.{same_place, moved}
+use Rattle.module_vec.specs.Vectors.{sum_of}
+use Rattle.module_vec.proofs.Order.{test}
 use Rattle.fox_calculus.specs.Generators.{binomial, unit_monomial}
 use Rattle.fox_calculus.specs.Module.{HasVariables}
 use Rattle.basis_entry.specs.declared.recipes.Recipe.{Recipe}
@@ -31,13 +26,12 @@ use Rattle.basis_entry.specs.declared.recipes.Recipe.TheVariants.{Gen, Sum}
 use Rattle.report_reading.specs.declared.entry.EntryData.{EntryData}
 use Rattle.flat_cert.specs.declared.lines.Flat.{Flat}
 use Rattle.flat_cert.specs.declared.lines.FlatKind.{FlatKind}
-use Rattle.flat_cert.specs.Certificates.{IsKind, IsFlat, AreFlat, generator_of, value_of, certificate_sum}
-use Rattle.flat_cert.specs.Images.{flat_place, flat_image, cancelled, IsFlatMono}
-use Rattle.flat_cert.specs.Weights.{AreDistinct}
+use Rattle.flat_cert.specs.Certificates.{generator_of, value_of, certificate_sum}
+use Rattle.flat_cert.specs.Images.{flat_place, flat_image, cancelled}
 use Rattle.flat_making.specs.Handing.{IsRow, recipe_at}
 use Rattle.flat_making.specs.Lines.{lines_of, entry_lines, AreLinesFrom}
-use Rattle.flat_making.proofs.Candidates.{IsUnit, Fits}
-use Rattle.flat_making.proofs.Handings.{elsewhere, row_as, same_item}
+use Rattle.flat_making.proofs.Candidates.{Fits}
+use Rattle.flat_making.proofs.Handings.{elsewhere, same_item}
 use Rattle.flat_making.proofs.Monomials.{unit_moves_nothing}
 use Rattle.flat_making.proofs.Naming.{Kinds}
 use Rattle.flat_making.proofs.Parts.{part, part_at, part_none}

@@ -1,15 +1,14 @@
 -- Kinds that are put one after another, and the generators that they name.
-use Rattle.std.proofs.Common.{◌≡◌, ◌≢◌, ◌∙◌, ℕ, zero, suc, ◌+◌, ◌*◌, ◌<◌, ◌≤◌, ◌==◌, Bool, true, false, cond, ℤ, pos, negsuc, ◌+ℤ◌, List, [], ◌∷◌, ◌++◌, length, map}
+use Rattle.std.proofs.Common.{◌≡◌, ◌∙◌, ℕ, zero, suc, ◌+◌, ◌*◌, ◌<◌, ◌≤◌, ◌==◌, Bool, true, false, cond, pos, negsuc, ◌+ℤ◌, List, [], ◌∷◌, ◌++◌, length, map}
 use Rattle.std.proofs.Common.{take, get_or, refl, sym, ap, subst, arith, append_assoc, append-nil}
-use Rattle.std.specs.Prelude.{Option, Some, None, slice_index_or, ◌↔◌, IsTrue}
+use Rattle.std.specs.Prelude.{Option, ◌↔◌, IsTrue}
 use Rattle.std.specs.List.{range_with_len, flat_map}
 use Rattle.std.proofs.lemmas.Bool.Decides.{nat_tests}
 use Rattle.std.proofs.lemmas.Grind.{flat_map-append}
 use Rattle.std.proofs.lemmas.List.{take_all, take_more, map-append}
 use borrow.Author.Differences.{ints}
 use Rattle.free_words.specs.declared.letter.Letter.{Letter}
-use Rattle.presentation.specs.Presented.{Presented}
-use Rattle.formal_sums.specs.FormalSum.{FormalSum, Same, coefficient}
+use Rattle.formal_sums.specs.FormalSum.{FormalSum, coefficient}
 use Rattle.formal_sums.proofs.Keys.{eq-apart}
 use Rattle.free_words.specs.declared.TheConstants.{GENERATORS}
 use Rattle.laurent_terms.specs.Monomials.{one, degree, variable, IsMonomial}
@@ -17,13 +16,11 @@ use Rattle.laurent_terms.proofs.Combining.{sum-product}
 use Rattle.laurent_terms.proofs.Variables.{degree-variable, variable_is_monomial}
 use Rattle.module_vec.specs.declared.places.Place.{Place}
 use Rattle.module_vec.specs.declared.places.Term.{Term}
-use Rattle.module_vec.specs.Modules.{vector_at}
 use Rattle.module_vec.specs.Places.{same_place}
-use Rattle.module_vec.specs.Vectors.{sum_of, IsSparse}
+use Rattle.module_vec.specs.Vectors.{sum_of}
 use Rattle.module_vec.proofs.Determined.{same_vector}
 use Rattle.module_vec.proofs.Order.{test}
-use Rattle.fox_calculus.specs.Fox.{fox, image}
-use Rattle.fox_calculus.specs.Generators.{binomial, constant, unit_monomial, IsZero, IsWritten, AreWritten}
+use Rattle.fox_calculus.specs.Generators.{binomial, constant, unit_monomial, IsZero, IsWritten}
 use Rattle.flat_cert.specs.declared.lines.FlatKind.{FlatKind}
 use Rattle.flat_making.specs.Kinds.{AreNamed, Names}
 
@@ -192,8 +189,12 @@ unit_degree : (g : ℕ) → g < GENERATORS → degree (unit_monomial g) ≡ 2
 unit_degree g below =
     let first : IsMonomial (variable (2 * g)) = variable_is_monomial (2 * g) (omega (arith, below)) in
     let second : IsMonomial (variable (2 * g + 1)) = variable_is_monomial (2 * g + 1) (omega (arith, below)) in
-    omega (arith, sum-product (variable (2 * g)) (variable (2 * g + 1)) (first.variables ∙ sym second.variables),
-    degree-variable (2 * g) (omega (arith, below)), degree-variable (2 * g + 1) (omega (arith, below)))
+    omega (
+      arith,
+      sum-product (variable (2 * g)) (variable (2 * g + 1)) (first.variables ∙ sym second.variables),
+      degree-variable (2 * g) (omega (arith, below)),
+      degree-variable (2 * g + 1) (omega (arith, below)),
+    )
 
 pub unit_is_some : (g c : ℕ) → g < GENERATORS → IsZero (binomial (unit_monomial g) c) → ⊥
 unit_is_some g c below none_there = zero_is_one (unit_monomial g) c none_there (λ same.

@@ -1,8 +1,8 @@
 -- Parts of sums: the terms whose keys pass a test.
-use Rattle.std.proofs.Common.{◌≡◌, ◌∙◌, ℕ, Bool, true, false, cond, ℤ, pos, ◌+ℤ◌, List, [], ◌∷◌, ◌++◌, refl, sym, ap, arith}
+use Rattle.std.proofs.Common.{◌≡◌, ◌∙◌, Bool, true, false, cond, pos, ◌+ℤ◌, [], ◌∷◌, ◌++◌, refl, sym, ap, arith}
 use Rattle.std.specs.List.{AllByRecursion}
 use borrow.Author.Differences.{ints}
-use Rattle.formal_sums.specs.FormalSum.{FormalSum, Same, coefficient}
+use Rattle.formal_sums.specs.FormalSum.{FormalSum, coefficient}
 use Rattle.module_vec.specs.declared.places.Place.{Place}
 use Rattle.module_vec.specs.Places.{same_place}
 use Rattle.module_vec.proofs.Order.{test}

@@ -1,9 +1,9 @@
 -- What is read of a report that the checker accepts.
-use Rattle.std.proofs.Common.{◌≡◌, ◌∙◌, ◌⊎◌, inl, inr, ℕ, zero, suc, ◌+◌, ◌<◌, ◌≤◌, Bool, true, false, ℤ, pos, ◌+ℤ◌, neg_ℤ, List, [], ◌∷◌, ◌++◌, length, map, get_or}
+use Rattle.std.proofs.Common.{◌≡◌, ◌∙◌, ◌⊎◌, inl, inr, ℕ, zero, suc, ◌+◌, ◌<◌, ◌≤◌, ℤ, pos, ◌+ℤ◌, List, [], ◌∷◌, ◌++◌, length}
 use Rattle.std.proofs.Common.{refl, sym, ap, subst, arith, append_assoc, append-nil}
-use Rattle.std.specs.Prelude.{Option, Some, None, slice_get, slice_index_or, Result, Ok, Err}
+use Rattle.std.specs.Prelude.{Some, None, slice_get, slice_index_or, Result, Ok}
 use Rattle.std.specs.List.{AllByRecursion}
-use Rattle.std.proofs.lemmas.List.{map-append, length-append, length-map, get_or_append_left}
+use Rattle.std.proofs.lemmas.List.{map-append, length-append, get_or_append_left}
 use borrow.Author.Differences.{ints}
 use Rattle.spelling.specs.Spelling.{cut}
 use Rattle.spelling.proofs.Cuts.{cut_here}
@@ -20,9 +20,6 @@ use Rattle.module_vec.specs.Vectors.{coefficient_at, multiple}
 use Rattle.module_vec.proofs.FallingTerms.{all_join}
 use Rattle.step_lists.specs.Sums.{zero_vector}
 use Rattle.step_lists.proofs.AddingUp.{adding_adds_up, proven_vectors_are_sums}
-use Rattle.step_text.specs.Over.{AreStepsOf}
-use Rattle.fox_calculus.specs.Fox.{fox}
-use Rattle.fox_calculus.specs.Generators.{AreGenerators}
 use Rattle.outcomes.specs.declared.verdicts.Verdict.{Verdict}
 use Rattle.outcomes.specs.declared.verdicts.Verdict.TheVariants as verdicts
 use Rattle.session_text.specs.declared.question.Question.{Question}
@@ -40,18 +37,18 @@ use Rattle.report_lines.proofs.ReadingBack.{one_line}
 use Rattle.report_reading.specs.declared.data.ReportData.{ReportData}
 use Rattle.report_reading.specs.declared.entry.EntryData.{EntryData}
 use Rattle.report_reading.specs.declared.replies.ReplyData.{ReplyData}
-use Rattle.report_reading.specs.Telling.{Told, nothing, MayFollow as MayTell, recipe_of, with_proof, tell, Tell, IsDataOf}
-use Rattle.report_reading.specs.Reading.{IsReport, Answers as IsRead}
+use Rattle.report_reading.specs.Telling.{Told, nothing, MayFollow as MayTell, recipe_of, with_proof, tell, Tell}
+use Rattle.report_reading.specs.Reading.{Answers as IsRead}
 use Rattle.report_reading.proofs.LineBytes.{whole_line, head_line}
 use Rattle.cert_checker.specs.declared.checked.Checked.{Checked}
 use Rattle.cert_checker.specs.declared.phase.Phase.{Phase}
 use Rattle.cert_checker.specs.declared.phase.Phase.TheVariants.{Title, Presentation, Entries, Sealed, Closing, Finished}
 use Rattle.cert_checker.specs.declared.faults.CertFault.{CertFault}
 use Rattle.cert_checker.specs.States.{State, start, MayFollow, IsInTurn, asked, next}
-use Rattle.cert_checker.specs.Checking.{AreThere, Agrees, IsMadeOf, due, fox_at}
-use Rattle.cert_checker.specs.Texts.{BodyHolds, HoldsIn, BytesHold, Tells, TellsWhole, Answers}
+use Rattle.cert_checker.specs.Checking.{Agrees, IsMadeOf, due, fox_at}
+use Rattle.cert_checker.specs.Texts.{BodyHolds, HoldsIn, BytesHold, Tells, Answers}
 use Rattle.flat_making.specs.Checked.{IsShownBy, ShowsSubjects, IsChecked}
-use Rattle.flat_making.specs.Making.{vectors_of, NameBelow, signed, IsValueOf, IsLog, IsProof}
+use Rattle.flat_making.specs.Making.{vectors_of, NameBelow, signed, IsValueOf}
 
 -- ---- the first line of a text
 
@@ -162,8 +159,7 @@ module _ (p : Presented) (known : IsPresented p) (gens : List (List Term)) where
       let e : EntryData = record { recipe = recipes.Sum steps; vector = vector } in
       let below : NameBelow (length (vectors_of es)) steps = subst (λ a. NameBelow (length a) steps) same is.0 in
       let longer : sum_of_steps (vectors_of (es ++ e ∷ [])) steps ≡ sum_of_steps (vectors_of es) steps =
-      ap (λ a. sum_of_steps a steps) (vectors-more es e) ∙ sum_longer (vectors_of es) vector steps below in
-      (
+      ap (λ a. sum_of_steps a steps) (vectors-more es e) ∙ sum_longer (vectors_of es) vector steps below in (
         line,
         names_rise (length (vectors_of es)) (length es) steps (omega (arith, length-vectors es)) below,
         λ x. (let sum : coefficient_at vector x ≡ pos 0 +ℤ steps_at b steps x = adding_adds_up b zero_vector (coefficient_at vector) steps is.1 x in
@@ -218,8 +214,7 @@ module _ (p : Presented) (known : IsPresented p) (gens : List (List Term)) where
   proof_taken es words shown steps [] last new all = (tt, last)
   proof_taken es words shown steps (r ∷ []) last new all =
       let some : 0 < length (asked r.question r.verdict) = omega (arith, new.0, ap length last.0) in
-      let are : words ≡ subjects r.question = last.0 ∙ subjects_of r.question r.verdict some in
-      (
+      let are : words ≡ subjects r.question = last.0 ∙ subjects_of r.question r.verdict some in (
         (
           shows_more es r steps all.0 (subst (λ k. NextShown es (subjects r.question) k steps) last.1 (subst (λ ws. NextShown es ws shown steps) are new)),
           tt,

@@ -1,10 +1,9 @@
 -- The row of an entry, read off the pairs in their order.
-use Rattle.std.proofs.Common.{◌≡◌, ◌≢◌, ◌⊎◌, inl, inr, ◌∙◌, ℕ, suc, ◌+◌, ◌<◌, ◌≤◌, Bool, true, false, cond, not, ◌&&◌, nat_lt, nat_le, ◌==◌, ℤ, pos, ◌+ℤ◌, List, []}
-use Rattle.std.proofs.Common.{◌∷◌, ◌++◌, length, map, reverse, refl, sym, ap, subst, arith}
+use Rattle.std.proofs.Common.{◌≡◌, ◌≢◌, ◌⊎◌, inl, inr, ◌∙◌, ℕ, ◌+◌, Bool, true, false, cond, not, ◌&&◌, nat_lt, nat_le, ◌==◌, pos, List, []}
+use Rattle.std.proofs.Common.{◌∷◌, ◌++◌, reverse, refl, sym, ap, subst, arith}
 use Rattle.std.proofs.lemmas.List.{map-append, reverse-append}
-use Rattle.std.proofs.lemmas.List.Sorted.{IsPermutation-reverse}
-use Rattle.std.specs.Prelude.{Option, Some, None, unsigned_abs}
-use Rattle.std.specs.List.{AllByRecursion, filter}
+use Rattle.std.specs.Prelude.{Some, None}
+use Rattle.std.specs.List.{AllByRecursion}
 use Rattle.std.specs.List.Sorted.{IsStrictlySortedBy}
 use Rattle.std.specs.BTreeMap.Range.{range_contains}
 use Rattle.std.specs.Map.{keys_of}
@@ -13,7 +12,7 @@ use Rattle.std.specs.declared.cmp.Ordering.{Ordering}
 use Rattle.std.specs.declared.cmp.Ordering.TheVariants.{Less, Equal, Greater}
 use Rattle.std.specs.declared.ops.Bound.TheVariants.{Included, Excluded}
 use borrow.Author.Differences.{ints}
-use Rattle.formal_sums.specs.FormalSum.{FormalSum, coefficient, Falling, NonZero, AllAbove}
+use Rattle.formal_sums.specs.FormalSum.{coefficient, Falling, NonZero, AllAbove}
 use Rattle.formal_sums.proofs.Coefficients.{Same-permutation}
 use Rattle.formal_sums.proofs.Falling.{Falling-push}
 use Rattle.formal_sums.proofs.Keys.{int_test, eq-apart}
@@ -31,7 +30,7 @@ use Rattle.flat_making.specs.declared.handed.Pair.{Pair}
 use Rattle.flat_making.specs.declared.handed.Share.{Share}
 use Rattle.flat_making.specs.Handing.{IsRow}
 use Rattle.flat_making.specs.Pairs.{pair_cmp, place_of, places_of, row_of, IsShare, between_entry, shares_of}
-use Rattle.flat_making.proofs.Pairs.{Pairs, pair_eq, sorted_apart}
+use Rattle.flat_making.proofs.Pairs.{Pairs, sorted_apart}
 
 -- ---- which pairs lie between
 
@@ -240,9 +239,15 @@ row_turned_same : (n : ℕ) (ss : List Share) (x : Place) → coefficient same_p
 row_turned_same n [] x = refl
 row_turned_same n (s ∷ ss) x =
     let split : coefficient same_place (row_of n (reverse (s ∷ ss))) x
-        ≡ coefficient same_place (row_of n (reverse ss) ++ (s.k, record { m = s.t; c = n }) ∷ []) x = ap (λ v. coefficient same_place v x) (row_turned n s ss) in
-    omega (arith, ints, split, Rattle.formal_sums.proofs.Coefficients.coefficient-append same_place (row_of n (reverse ss))
-    ((s.k, record { m = s.t; c = n }) ∷ []) x, row_turned_same n ss x)
+    ≡ coefficient same_place (row_of n (reverse ss) ++ (s.k, record { m = s.t; c = n }) ∷ []) x = ap (λ v. coefficient same_place v x) (row_turned n s ss) in
+    omega (
+      arith,
+      ints,
+      split,
+      Rattle.formal_sums.proofs.Coefficients.coefficient-append same_place (row_of n (reverse ss))
+          ((s.k, record { m = s.t; c = n }) ∷ []) x,
+      row_turned_same n ss x,
+    )
 
 module _ (n : ℕ) (es : Pairs) (all : AllByRecursion IsTotal (places_of es)) (sorted : IsStrictlySortedBy pair_cmp (keys_of es)) where
   abbrev kept : List Share

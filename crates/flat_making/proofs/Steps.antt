@@ -1,6 +1,6 @@
 -- Steps that are handed on one after another, and rows likewise.
 use Rattle.std.proofs.Common.{◌≡◌, ◌≢◌, ◌∙◌, ℕ, ◌<◌, Bool, cond, ℤ, pos, neg_ℤ, ◌*ℤ◌, List, [], ◌∷◌, ◌++◌, map, refl, sym, ap, subst}
-use Rattle.std.specs.Prelude.{Some, Err, Ok, unsigned_abs}
+use Rattle.std.specs.Prelude.{Some, Err, unsigned_abs}
 use Rattle.std.specs.List.{AllByRecursion}
 use Rattle.formal_sums.specs.FormalSum.{FormalSum, rename}
 use Rattle.formal_sums.specs.Span.{multiple}

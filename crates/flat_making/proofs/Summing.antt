@@ -1,5 +1,5 @@
 -- Handing down keeps what stands at entries that have yet to hand it on, and at entries of generators.
-use Rattle.std.proofs.Common.{◌≡◌, ◌≢◌, ◌∙◌, ℕ, zero, suc, ◌+◌, ◌<◌, ◌≤◌, nat_lt, nat_eq, Bool, true, false, cond, ℤ, pos, ◌+ℤ◌, List, [], ◌∷◌, ◌++◌, length}
+use Rattle.std.proofs.Common.{◌≡◌, ◌≢◌, ◌∙◌, ℕ, zero, suc, ◌<◌, ◌≤◌, nat_lt, Bool, true, false, cond, ℤ, pos, ◌+ℤ◌, List, [], ◌∷◌, ◌++◌, length}
 use Rattle.std.proofs.Common.{refl, sym, ap, subst, arith, append-nil}
 use Rattle.std.specs.List.{AllByRecursion}
 use borrow.Author.Differences.{ints}
@@ -13,16 +13,16 @@ use Rattle.laurent_terms.specs.declared.TheConstants.{VARIABLES}
 use Rattle.module_vec.specs.declared.places.Place.{Place}
 use Rattle.module_vec.specs.declared.places.Term.{Term}
 use Rattle.module_vec.specs.declared.steps.Step.{Step}
-use Rattle.module_vec.specs.Modules.{vector_at, steps_at, sum_of_steps}
+use Rattle.module_vec.specs.Modules.{vector_at, sum_of_steps}
 use Rattle.module_vec.specs.Places.{same_place, moved, IsBelow}
-use Rattle.module_vec.specs.Vectors.{sum_of, coefficient_at}
+use Rattle.module_vec.specs.Vectors.{sum_of}
 use Rattle.module_vec.proofs.FallingTerms.{all_join}
 use Rattle.module_vec.proofs.Order.{test, order}
 use Rattle.fox_calculus.specs.Module.{HasVariables}
 use Rattle.basis_entry.specs.declared.recipes.Recipe.{Recipe}
 use Rattle.basis_entry.specs.declared.recipes.Recipe.TheVariants.{Gen, Sum}
 use Rattle.report_reading.specs.declared.entry.EntryData.{EntryData}
-use Rattle.flat_cert.specs.Images.{flat_place, flat_image, cancelled}
+use Rattle.flat_cert.specs.Images.{flat_image}
 use Rattle.flat_making.specs.Handing.{steps_sum, IsRow, hands_on, recipe_at, HandDown}
 use Rattle.flat_making.specs.Making.{NameBelow}
 use Rattle.flat_making.proofs.Handings.{elsewhere}
@@ -235,8 +235,7 @@ module _ (es : List EntryData) (b : List (List Term)) (long : (i : ℕ) → AreL
   pub live_all : (h all : FormalSum Place) → AreKeys (length es) h → HandDown es (length es) h all
       → Same same_place (value b h) (value b (part (live 0) all)) × AreKeys (length es) all
   live_all h all keys down =
-      let rest = live_down (length es) h all (omega arith) keys down in
-      (
+      let rest = live_down (length es) h all (omega arith) keys down in (
         (λ x. ap (λ v. coefficient same_place (value b v) x) (sym (part_all (live (length es)) h (live_below (length es) h keys))) ∙ rest.0 x),
         rest.1,
       )

@@ -1,16 +1,14 @@
 -- What sums of pairs are worth: each pair of an entry and a monomial is that multiple of the entry's vector, with x_g·y_g
 -- cancelled.
-use Rattle.std.proofs.Common.{◌≡◌, ◌∙◌, ℕ, ◌+◌, ◌<◌, Bool, true, false, cond, ℤ, pos, ◌+ℤ◌, ◌*ℤ◌, List, [], ◌∷◌, ◌++◌, length, refl, sym, ap, subst, arith}
+use Rattle.std.proofs.Common.{◌≡◌, ◌∙◌, ℕ, ℤ, ◌*ℤ◌, List, [], ◌∷◌, ◌++◌, refl, sym, ap}
 use Rattle.std.specs.List.{AllByRecursion}
-use borrow.Author.Differences.{ints}
 use Rattle.formal_sums.specs.Evaluation.{evaluate, sum_addition}
-use Rattle.formal_sums.specs.FormalSum.{FormalSum, Same, coefficient, scale, rename}
+use Rattle.formal_sums.specs.FormalSum.{FormalSum, Same, scale, rename}
 use Rattle.formal_sums.specs.Span.{multiple}
-use Rattle.formal_sums.proofs.Coefficients.{Same-append, Same-scale, scale-append, rename-append, scale-scale, rename-scale, rename-rename}
+use Rattle.formal_sums.proofs.Coefficients.{Same-scale, scale-append, rename-append, scale-scale, rename-scale, rename-rename}
 use Rattle.formal_sums.proofs.Evaluation.{sums_additive, evaluate-append, evaluate-same, Same-rename}
 use Rattle.laurent_terms.specs.Monomials.{product}
 use Rattle.laurent_terms.proofs.Division.{product_assoc}
-use Rattle.magnus_laws.proofs.Monomials.{length-product}
 use Rattle.module_vec.specs.declared.places.Place.{Place}
 use Rattle.module_vec.specs.declared.places.Term.{Term}
 use Rattle.module_vec.specs.declared.steps.Step.{Step}
@@ -21,7 +19,7 @@ use Rattle.module_vec.proofs.Order.{test}
 use Rattle.fox_calculus.specs.Module.{HasVariables}
 use Rattle.flat_cert.specs.Images.{flat_place, flat_image, cancelled}
 use Rattle.flat_making.specs.Handing.{steps_sum}
-use Rattle.flat_making.proofs.Monomials.{cancelled_first, length-cancelled}
+use Rattle.flat_making.proofs.Monomials.{cancelled_first}
 
 -- each monomial has an exponent for each variable
 abbrev pub AreLong : FormalSum Place → Type 0

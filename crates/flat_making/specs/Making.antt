@@ -1,6 +1,6 @@
 -- The flat certificate of a proof, and where there is none.
 use Rattle.std.specs.List.{AllByRecursion}
-use Rattle.std.specs.Prelude.{◌≡◌, ℕ, ◌<◌, ℤ, neg_ℤ, Bool, if◌then◌else◌, List, [], length, map, Option, Some, slice_get}
+use Rattle.std.specs.Prelude.{◌≡◌, ℕ, ◌<◌, neg_ℤ, Bool, if◌then◌else◌, List, length, map, Option, Some, slice_get}
 use Rattle.std.specs.Prelude.{Result, Ok, Err, Vec}
 use Rattle.std.specs.declared.alloc.Global.{Global}
 use Rattle.presentation.specs.Presented.{Presented}

@@ -16,11 +16,7 @@ use report_reading::EntryData;
 use std::alloc::Global;
 
 /// From the last entry to the first, what stands at an entry is handed on by its recipe.
-pub fn hand_down(
-    alloc: Global,
-    entries: &[EntryData],
-    handed: &mut Handed,
-) -> Result<(), FlatFault>
+pub fn hand_down(alloc: Global, entries: &[EntryData], handed: &mut Handed) -> Result<(), FlatFault>
     requires { HaveFactors entries.now }
     ensures { HandsDown entries.now handed.old handed.new result }
 {

@@ -17,10 +17,7 @@ use presentation::Presentation;
 use std::alloc::{AllocError, Global};
 
 /// What a line names each generator of the presentation's module, in their order. Unit binomials are named by none.
-pub fn generator_kinds(
-    alloc: Global,
-    p: &Presentation,
-) -> Result<Vec<Option<FlatKind>>, AllocError>
+pub fn generator_kinds(alloc: Global, p: &Presentation) -> Result<Vec<Option<FlatKind>>, AllocError>
     ensures { IfOk result (λ made. AreKinds p.now made.items) }
 {
     let mut made = Vec::new(alloc);

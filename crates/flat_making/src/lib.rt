@@ -9,8 +9,8 @@
 mod handed;
 mod handing;
 mod kinds;
-mod lines;
 pub mod laws;
+mod lines;
 mod making;
 
 pub use making::flatten;

@@ -1,4 +1,4 @@
-use Rattle.std.proofs.Common.{◌≡◌, ◌≤◌, ℕ, List, Option, Result, drop}
+use Rattle.std.proofs.Common.{◌≤◌, ℕ, List, Option, Result, drop}
 use Rattle.flat_cert.specs.declared.faults.WriteFault.{WriteFault}
 use Rattle.flat_cert.specs.Texts.{lines_text}
 use Rattle.flat_cert.specs.Writing.{Puts}

@@ -1,9 +1,7 @@
-use Rattle.std.proofs.Common.{◌≡◌, ◌∙◌, ◌-◌, suc, ap, sym, subst, refl, length, [], arith, Ok, Err}
+use Rattle.std.proofs.Common.{◌≡◌, ◌∙◌, ◌-◌, suc, ap, sym, subst, arith, Ok, Err}
 use Rattle.std.proofs.lemmas.Result.{err_from_is_err_and}
-use Rattle.basis_entry.specs.declared.recipes.Recipe.TheVariants.{Sum}
-use Rattle.report_reading.specs.declared.entry.EntryData.{EntryData}
-use Rattle.flat_making.specs.Handing.{HandsDown, recipe_at}
-use Rattle.flat_making.proofs.Handings.{Reached, EntryAdds, reached_first, reached_next, same_item, down_fails, recipe_adds}
+use Rattle.flat_making.specs.Handing.{HandsDown}
+use Rattle.flat_making.proofs.Handings.{Reached, EntryAdds, reached_first, reached_next, down_fails, recipe_adds}
 use Rattle.flat_making.proofs.handing.hand_down.Goals as goal
 
 pub loop-left-init : goal.loop-left-init

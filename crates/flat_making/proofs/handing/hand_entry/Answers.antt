@@ -1,4 +1,4 @@
-use Rattle.std.proofs.Common.{◌≡◌, ◌∙◌, ap, sym, subst, List}
+use Rattle.std.proofs.Common.{◌≡◌, sym, subst, List}
 use Rattle.formal_sums.specs.FormalSum.{FormalSum}
 use Rattle.module_vec.specs.declared.places.Place.{Place}
 use Rattle.module_vec.specs.declared.steps.Step.{Step}
@@ -6,7 +6,7 @@ use Rattle.basis_entry.specs.declared.recipes.Recipe.{Recipe}
 use Rattle.basis_entry.specs.declared.recipes.Recipe.TheVariants.{Sum}
 use Rattle.flat_cert.specs.Adding.{sum_at, Adds}
 use Rattle.flat_making.specs.declared.handed.Share.{Share}
-use Rattle.flat_making.specs.Handing.{IsRow, hands_on}
+use Rattle.flat_making.specs.Handing.{hands_on}
 use Rattle.flat_making.specs.Pairs.{row_of, shares_hand}
 use Rattle.flat_making.proofs.Handings.{one_row}
 use Rattle.flat_making.proofs.Steps.{shares_are}

@@ -1,14 +1,13 @@
-use Rattle.std.proofs.Common.{rules, ◌≡◌, ◌≢◌, ◌∙◌, ap, sym, subst, drop, ◌∷◌, [], ◌+◌, pos, List, Ok, Err, FitsSigned, to_z, of_z}
+use Rattle.std.proofs.Common.{rules, ◌≡◌, ◌∙◌, ap, sym, subst, drop, ◌∷◌, [], ◌+◌, List, Ok, Err, FitsSigned, to_z, of_z}
 use mir.Syntax.{w128}
 use Rattle.std.proofs.lemmas.Int.{to_z-of_z}
 use Rattle.std.proofs.lemmas.List.{drop_all}
 use Rattle.std.proofs.lemmas.Result.{err_from_is_err_and}
-use Rattle.std.specs.List.{AllByRecursion}
-use Rattle.module_vec.proofs.FallingTerms.{all_drop, drop_read}
+use Rattle.module_vec.proofs.FallingTerms.{drop_read}
 use Rattle.flat_cert.specs.Adding.{Adds}
 use Rattle.flat_cert.proofs.Adding.{adds_on, adds_fails, adds_nothing}
 use Rattle.flat_making.specs.declared.handed.Share.{Share}
-use Rattle.flat_making.specs.Pairs.{IsShare, shares_hand}
+use Rattle.flat_making.specs.Pairs.{shares_hand}
 use Rattle.flat_making.proofs.Steps.{handed_by, shares_split}
 use Rattle.flat_making.proofs.handing.hand_shares.Goals as goal
 

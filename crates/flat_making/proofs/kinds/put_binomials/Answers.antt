@@ -1,6 +1,5 @@
-use Rattle.std.proofs.Common.{rules, ◌≡◌, map, true, false, sym, ◌∙◌}
+use Rattle.std.proofs.Common.{rules, ◌≡◌}
 use Rattle.std.specs.Prelude.{Some, ◌↔◌, IsTrue}
-use Rattle.std.specs.List.{range_with_len}
 use Rattle.laurent_terms.specs.Monomials.{one}
 use Rattle.fox_calculus.specs.Generators.{binomial}
 use Rattle.flat_cert.specs.declared.lines.FlatKind.TheVariants.{Bin}

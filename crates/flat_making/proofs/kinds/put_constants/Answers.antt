@@ -1,4 +1,4 @@
-use Rattle.std.proofs.Common.{map, false, true, sym, ◌∙◌}
+use Rattle.std.proofs.Common.{map}
 use Rattle.std.specs.Prelude.{Some}
 use Rattle.std.specs.List.{range_with_len}
 use Rattle.fox_calculus.specs.Generators.{constant}

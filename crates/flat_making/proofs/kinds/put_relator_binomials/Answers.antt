@@ -1,11 +1,10 @@
-use Rattle.std.proofs.Common.{◌≡◌, ◌∙◌, ◌+◌, map, ap, sym, length, List, arith}
+use Rattle.std.proofs.Common.{◌+◌, map, List, arith}
 use Rattle.std.specs.Prelude.{Some}
-use Rattle.std.specs.List.{flat_map, range_with_len}
 use Rattle.free_words.specs.declared.letter.Letter.{Letter}
 use Rattle.fox_calculus.specs.Fox.{image}
 use Rattle.fox_calculus.specs.Generators.{binomial, components}
 use Rattle.flat_cert.specs.declared.lines.FlatKind.TheVariants.{Bin}
-use Rattle.flat_making.proofs.Naming.{names_relators, names_list, binomials_as}
+use Rattle.flat_making.proofs.Naming.{names_relators, binomials_as}
 use Rattle.flat_making.proofs.kinds.put_relator_binomials.Goals as goal
 
 pub loop-r-preserved : goal.loop-r-preserved

@@ -1,9 +1,8 @@
-use Rattle.std.proofs.Common.{◌≡◌, ◌∙◌, ◌+◌, ◌==◌, map, ap, sym, length, arith}
+use Rattle.std.proofs.Common.{◌∙◌, ◌+◌, ◌==◌, ap, length, arith}
 use Rattle.std.specs.Prelude.{Some}
 use Rattle.fox_calculus.specs.Fox.{fox}
 use Rattle.flat_cert.specs.declared.lines.FlatKind.TheVariants.{Rel}
-use Rattle.std.specs.List.{range_with_len}
-use Rattle.flat_making.proofs.Naming.{names_relator, names_list, empty_is_zero}
+use Rattle.flat_making.proofs.Naming.{names_relator, empty_is_zero}
 use Rattle.flat_making.proofs.kinds.put_relators.Goals as goal
 
 pub loop-r-preserved : goal.loop-r-preserved

@@ -1,4 +1,4 @@
-use Rattle.std.proofs.Common.{map, sym, ◌∙◌, arith, ◌<◌, ◌*◌}
+use Rattle.std.proofs.Common.{map, arith}
 use Rattle.std.specs.Prelude.{None}
 use Rattle.std.specs.List.{range_with_len}
 use Rattle.fox_calculus.specs.Generators.{binomial, unit_monomial}

@@ -1,12 +1,6 @@
-use Rattle.std.proofs.Common.{◌≡◌, ◌∙◌, ◌+◌, ◌∷◌, [], ◌++◌, drop, ap, sym, subst, List}
 use Rattle.std.proofs.lemmas.List.{drop_all}
-use Rattle.formal_sums.specs.FormalSum.{FormalSum}
-use Rattle.module_vec.specs.declared.places.Place.{Place}
 use Rattle.module_vec.proofs.FallingTerms.{drop_read}
 use Rattle.report_reading.specs.declared.entry.EntryData.{EntryData}
-use Rattle.flat_cert.specs.Adding.{sum_at}
-use Rattle.flat_making.specs.Handing.{IsRow}
-use Rattle.flat_making.specs.Lines.{entry_lines}
 use Rattle.flat_making.proofs.Handings.{lines_next, lines_last}
 use Rattle.flat_making.proofs.lines.certificate_lines.Goals as goal
 

@@ -1,13 +1,11 @@
-use Rattle.std.proofs.Common.{◌≡◌, ◌∙◌, ◌++◌, ap, sym, subst, List}
-use Rattle.std.specs.Prelude.{Some, None, Option, OnOk, slice_index_or}
+use Rattle.std.proofs.Common.{◌≡◌, ◌∙◌, ◌++◌, ap, sym, List}
+use Rattle.std.specs.Prelude.{Some, None, Option, slice_index_or}
 use Rattle.formal_sums.specs.FormalSum.{FormalSum}
 use Rattle.module_vec.specs.declared.places.Place.{Place}
 use Rattle.basis_entry.specs.declared.recipes.Recipe.{Recipe}
-use Rattle.basis_entry.specs.declared.recipes.Recipe.TheVariants.{Gen}
 use Rattle.flat_cert.specs.Adding.{sum_at}
 use Rattle.flat_cert.specs.declared.lines.FlatKind.{FlatKind}
 use Rattle.flat_making.specs.declared.handed.Share.{Share}
-use Rattle.flat_making.specs.Handing.{IsRow}
 use Rattle.flat_making.specs.Lines.{lines_of, entry_lines}
 use Rattle.flat_making.specs.Pairs.{row_of, share_lines}
 use Rattle.flat_making.proofs.Handings.{one_row, on_ok}

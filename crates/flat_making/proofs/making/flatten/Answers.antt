@@ -1,4 +1,4 @@
-use Rattle.std.proofs.Common.{◌≡◌, ◌∙◌, ap, sym, subst, pos, [], Ok, Err}
+use Rattle.std.proofs.Common.{◌∙◌, ap, sym, subst, pos, [], Ok, Err}
 use Rattle.std.proofs.lemmas.Result.{err_from_is_err_and}
 use Rattle.laurent_terms.specs.Monomials.{one}
 use Rattle.flat_cert.specs.Adding.{Adds, AreTotals}
@@ -49,8 +49,8 @@ returns-clause-exact c =
     let known : AreTotals totals = subst AreTotals c.handed-2.view_is c.handed-2.invariant in
     let reached = c.in_ok-hand_down.ensures _ held in
     let lines : (all : FormalSum Place) → Holds totals all → AreLinesFrom c.in_ok-kinds.kinds.items (coefficient same_place all) 0 c.args.entries.now
-        c.in_ok-list.list.items = subst (λ ks. (all : FormalSum Place) → Holds totals all → AreLinesFrom ks (coefficient same_place all) 0 c.args.entries.now
-        c.in_ok-list.list.items) c.deref.ensures.value c.in_ok-list.ensures in
+    c.in_ok-list.list.items = subst (λ ks. (all : FormalSum Place) → Holds totals all → AreLinesFrom ks (coefficient same_place all) 0 c.args.entries.now
+    c.in_ok-list.list.items) c.deref.ensures.value c.in_ok-list.ensures in
     flatten_exact c.args.p.now c.known.ensures c.args.entries.now c.requires.log c.vectors_known.ensures c.args.proof.now c.requires.proof
     totals known reached c.in_ok-kinds.kinds.items c.in_ok-kinds.ensures c.in_ok-list.list.items lines
 
@@ -65,8 +65,8 @@ returns-clause-certificate c =
     let known : AreTotals totals = subst AreTotals c.handed-2.view_is c.handed-2.invariant in
     let reached = c.in_ok-hand_down.ensures _ held in
     let lines : (all : FormalSum Place) → Holds totals all → AreLinesFrom c.in_ok-kinds.kinds.items (coefficient same_place all) 0 c.args.entries.now
-        c.in_ok-list.list.items = subst (λ ks. (all : FormalSum Place) → Holds totals all → AreLinesFrom ks (coefficient same_place all) 0 c.args.entries.now
-        c.in_ok-list.list.items) c.deref.ensures.value c.in_ok-list.ensures in
+    c.in_ok-list.list.items = subst (λ ks. (all : FormalSum Place) → Holds totals all → AreLinesFrom ks (coefficient same_place all) 0 c.args.entries.now
+    c.in_ok-list.list.items) c.deref.ensures.value c.in_ok-list.ensures in
     flatten_certificate c.args.p.now c.known.ensures c.args.entries.now c.requires.log c.vectors_known.ensures c.args.proof.now c.requires.proof
     totals known reached c.in_ok-kinds.kinds.items c.in_ok-kinds.ensures c.in_ok-list.list.items lines
 
@@ -81,7 +81,7 @@ returns-clause-sum c =
     let known : AreTotals totals = subst AreTotals c.handed-2.view_is c.handed-2.invariant in
     let reached = c.in_ok-hand_down.ensures _ held in
     let lines : (all : FormalSum Place) → Holds totals all → AreLinesFrom c.in_ok-kinds.kinds.items (coefficient same_place all) 0 c.args.entries.now
-        c.in_ok-list.list.items = subst (λ ks. (all : FormalSum Place) → Holds totals all → AreLinesFrom ks (coefficient same_place all) 0 c.args.entries.now
-        c.in_ok-list.list.items) c.deref.ensures.value c.in_ok-list.ensures in
+    c.in_ok-list.list.items = subst (λ ks. (all : FormalSum Place) → Holds totals all → AreLinesFrom ks (coefficient same_place all) 0 c.args.entries.now
+    c.in_ok-list.list.items) c.deref.ensures.value c.in_ok-list.ensures in
     flatten_sum c.args.p.now c.known.ensures c.args.entries.now c.requires.log c.vectors_known.ensures c.args.proof.now c.requires.proof
     totals known reached c.in_ok-kinds.kinds.items c.in_ok-kinds.ensures c.in_ok-list.list.items lines

@@ -1,20 +1,16 @@
-use Rattle.std.proofs.Common.{rules, ◌≡◌, ◌∙◌, ap, sym, subst, cond, arith, inl, inr, ◌∷◌, [], ◌+◌, ◌<◌, ◌≤◌, length, false, true, ℤ, Ok, FitsSigned}
+use Rattle.std.proofs.Common.{rules, ◌≡◌, ◌∙◌, ap, sym, subst, cond, arith, inl, inr, ◌∷◌, [], ◌+◌, ◌<◌, length, false, true, Ok, FitsSigned}
 use mir.Syntax.{w128}
 use Rattle.std.proofs.lemmas.Int.{to_z-of_z}
-use Rattle.std.specs.Prelude.{Some}
 use Rattle.std.specs.Option.{is_some}
 use Rattle.std.specs.List.{AllByRecursion}
-use Rattle.std.specs.Ordering.{is_eq}
-use Rattle.module_vec.specs.declared.places.Place.{Place}
-use Rattle.module_vec.specs.Places.{place_cmp}
 use Rattle.flat_cert.specs.Weights.{weight, IsBeyond}
 use Rattle.flat_cert.specs.Adding.{found, weight_at, weight_in, IsSmall, IsWith, IsTotal, Adds}
 use Rattle.flat_cert.proofs.Weights.{weight_own, abs_some}
 use Rattle.flat_cert.proofs.Entries.{small_found, too_many}
 use Rattle.flat_cert.proofs.Adding.{added_sum, added_weight, none_is, few_inserted}
 use Rattle.flat_making.specs.declared.handed.Pair.{Pair}
-use Rattle.flat_making.specs.Pairs.{pair_cmp, place_of, places_of}
-use Rattle.flat_making.proofs.Pairs.{pair_of, found_at, pair_eq, length_places, all_inserted, sorted_apart, updated}
+use Rattle.flat_making.specs.Pairs.{place_of, places_of}
+use Rattle.flat_making.proofs.Pairs.{found_at, length_places, all_inserted, sorted_apart, updated}
 use Rattle.flat_making.proofs.handed.Handed.hand.Goals as goal
 use Rattle.flat_making.proofs.handed.Handed.hand.Goals.{else-is_none-via-then-is_none+else-len, else-is_none-via-else-is_none}
 
@@ -66,8 +62,13 @@ invariant_of-self-2 c =
       | else-is_none-via-else-is_none w ↦ let wrong : true ≡ false = sym w.if-is_none.ensures ∙ none in absurd cc
     ] in
     let count : length (places_of c.insert.new.self.entries) ≡ length (places_of es) + cond (is_some c.copied-before.result) 0 1 =
-    omega (arith, length_places c.insert.new.self.entries, length_places es, c.in_ok-insert.ensures.len
-    ∙ ap (λ o. length es + cond (is_some o) 0 1) (c.in_ok-insert.ensures.old ∙ sym c.get.ensures.value ∙ sym c.copied-before.ensures)) in
+    omega (
+      arith,
+      length_places c.insert.new.self.entries,
+      length_places es,
+      c.in_ok-insert.ensures.len
+          ∙ ap (λ o. length es + cond (is_some o) 0 1) (c.in_ok-insert.ensures.old ∙ sym c.get.ensures.value ∙ sym c.copied-before.ensures),
+    ) in
     record {
       all = subst (λ ts. AllByRecursion IsTotal (places_of ts)) (sym c.in_ok-insert.ensures.entries)
           (all_inserted es x c.in-Some.after c.self.invariant.all total);
