@@ -18,6 +18,7 @@ mod writing;
 
 pub use check::check_flat;
 pub use faults::{FlatFault, FlatSumFault, FlatTextFault, WriteFault};
+pub use line_text::put_line;
 pub use lines::{Flat, FlatKind};
 pub use products::flat_product;
 pub use reading::read_flat;

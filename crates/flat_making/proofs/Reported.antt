@@ -44,10 +44,10 @@ use Rattle.cert_checker.specs.declared.checked.Checked.{Checked}
 use Rattle.cert_checker.specs.declared.phase.Phase.{Phase}
 use Rattle.cert_checker.specs.declared.phase.Phase.TheVariants.{Title, Presentation, Entries, Sealed, Closing, Finished}
 use Rattle.cert_checker.specs.declared.faults.CertFault.{CertFault}
-use Rattle.cert_checker.specs.States.{State, start, MayFollow, IsInTurn, asked, next}
+use Rattle.cert_checker.specs.States.{State, start, IsSettled, MayFollow, IsInTurn, asked, next}
 use Rattle.cert_checker.specs.Checking.{Agrees, IsMadeOf, due, fox_at}
 use Rattle.cert_checker.specs.Texts.{BodyHolds, HoldsIn, BytesHold, Tells, Answers}
-use Rattle.flat_making.specs.Checked.{IsShownBy, ShowsSubjects, IsChecked}
+use Rattle.flat_making.specs.Checked.{IsShownBy, ShowsSubjects, HasProofs, IsChecked}
 use Rattle.flat_making.specs.Making.{vectors_of, NameBelow, signed, IsValueOf}
 
 -- ---- the first line of a text
@@ -120,6 +120,33 @@ last_new [] r none = (refl, sym (ap length none))
 last_new (q ∷ []) r none = (refl, sym (ap length none))
 last_new (q ∷ s ∷ rs) r none = last_new (s ∷ rs) r none
 
+-- each reply but the last has all its proofs
+abbrev FullButLast : List ReplyData → Type 0
+FullButLast [] = Unit {0}
+FullButLast (r ∷ []) = Unit {0}
+FullButLast (r ∷ q ∷ rs) = HasProofs r × FullButLast (q ∷ rs)
+
+full_more : (words : List (List Letter)) (shown : ℕ) (rs : List ReplyData) (r : ReplyData) → LastIs words shown rs → shown ≡ length words → FullButLast rs
+    → FullButLast (rs ++ r ∷ [])
+full_more words shown [] r last all full = tt
+full_more words shown (q ∷ []) r last all full = (sym last.1 ∙ all ∙ ap length last.0, tt)
+full_more words shown (q ∷ s ∷ rs) r last all full = (full.0, full_more words shown (s ∷ rs) r last all full.1)
+
+full_proof : (steps : List Step) (rs : List ReplyData) → FullButLast rs → FullButLast (with_proof steps rs)
+full_proof steps [] full = tt
+full_proof steps (r ∷ []) full = tt
+full_proof steps (r ∷ q ∷ rs) full = by rs (full_proof steps (q ∷ rs) full.1)
+  where
+    by : (rs : List ReplyData) → FullButLast (with_proof steps (q ∷ rs)) → FullButLast (r ∷ with_proof steps (q ∷ rs))
+    by [] rest = (full.0, rest)
+    by (s ∷ ss) rest = (full.0, rest)
+
+all_full : (words : List (List Letter)) (shown : ℕ) (rs : List ReplyData) → LastIs words shown rs → shown ≡ length words → FullButLast rs
+    → AllByRecursion HasProofs rs
+all_full words shown [] last all full = tt
+all_full words shown (r ∷ []) last all full = (sym last.1 ∙ all ∙ ap length last.0, tt)
+all_full words shown (r ∷ q ∷ rs) last all full = (full.0, all_full words shown (q ∷ rs) last all full.1)
+
 subjects_of : (q : Question) (v : Verdict) → 0 < length (asked q v) → asked q v ≡ subjects q
 subjects_of q verdicts.Trivial some = refl
 subjects_of q verdicts.NotTrivial some = absurd (omega (arith, some))
@@ -136,6 +163,8 @@ module _ (p : Presented) (known : IsPresented p) (gens : List (List Term)) where
         → IsValueOf p gens (vectors_of t.entries) i e.recipe (coefficient_at e.vector)
     proofs : AllByRecursion (ShowsSubjects p t.entries) t.replies
     last : LastIs s.subjects s.shown t.replies
+    most : s.shown ≤ length s.subjects
+    full : FullButLast t.replies
 
   -- ---- an entry
 
@@ -243,6 +272,8 @@ module _ (p : Presented) (known : IsPresented p) (gens : List (List Term)) where
         values = λ i d is. by i d (at_end t.entries e i d is);
         proofs = all_shown_stay t.entries e t.replies linked.proofs;
         last = linked.last;
+        most = linked.most;
+        full = linked.full;
       }
     where
       new : IsValueOf p gens (vectors_of (t.entries ++ record { recipe = recipe_of number made; vector = vector } ∷ [])) (length t.entries)
@@ -261,16 +292,32 @@ module _ (p : Presented) (known : IsPresented p) (gens : List (List Term)) where
           (subst (λ (c : EntryData). IsValueOf p gens (vectors_of (t.entries ++ record { recipe = recipe_of number made; vector = vector } ∷ []))
           (length t.entries) c.recipe (coefficient_at c.vector)) f.1 new)
   line_linked s t lines.Seal linked valid tells follows agrees =
-      record { entries = linked.entries; values = linked.values; proofs = linked.proofs; last = linked.last }
+      record {
+        entries = linked.entries;
+        values = linked.values;
+        proofs = linked.proofs;
+        last = linked.last;
+        most = linked.most;
+        full = linked.full;
+      }
   line_linked s t (lines.Live session number front question verdict) linked valid tells follows agrees = record {
     entries = linked.entries;
     values = linked.values;
     proofs = all_join (ShowsSubjects p t.entries) t.replies _ linked.proofs ((λ j steps is. absurd cc), tt);
     last = last_new t.replies _ refl;
+    most = omega arith;
+    full = full_more s.subjects s.shown t.replies _ linked.last (omega (arith, linked.most, follows.1)) linked.full;
   }
   line_linked s t (lines.Proof subject steps) linked valid tells follows agrees =
       let taken = proof_taken t.entries s.subjects s.shown steps t.replies linked.last new linked.proofs in
-      record { entries = linked.entries; values = linked.values; proofs = taken.0; last = taken.1 }
+      record {
+        entries = linked.entries;
+        values = linked.values;
+        proofs = taken.0;
+        last = taken.1;
+        most = omega (arith, follows.0);
+        full = full_proof steps t.replies linked.full;
+      }
     where
       new : NextShown t.entries s.subjects s.shown steps
       new = (
@@ -285,15 +332,31 @@ module _ (p : Presented) (known : IsPresented p) (gens : List (List Term)) where
         },
       )
   line_linked s t (lines.End end) linked valid tells follows agrees =
-      record { entries = linked.entries; values = linked.values; proofs = linked.proofs; last = linked.last }
+      record {
+        entries = linked.entries;
+        values = linked.values;
+        proofs = linked.proofs;
+        last = linked.last;
+        most = linked.most;
+        full = linked.full;
+      }
   line_linked s t (lines.Close session number question verdict) linked valid tells follows agrees = record {
     entries = linked.entries;
     values = linked.values;
     proofs = all_join (ShowsSubjects p t.entries) t.replies _ linked.proofs ((λ j steps is. absurd cc), tt);
     last = last_new t.replies _ refl;
+    most = omega arith;
+    full = full_more s.subjects s.shown t.replies _ linked.last (omega (arith, linked.most, follows.1)) linked.full;
   }
   line_linked s t lines.Done linked valid tells follows agrees =
-      record { entries = linked.entries; values = linked.values; proofs = linked.proofs; last = linked.last }
+      record {
+        entries = linked.entries;
+        values = linked.values;
+        proofs = linked.proofs;
+        last = linked.last;
+        most = linked.most;
+        full = linked.full;
+      }
 
   -- ---- all lines
 
@@ -324,8 +387,8 @@ module _ (p : Presented) (known : IsPresented p) (gens : List (List Term)) where
 
   all_linked : (n : ℕ) (s : State) (text : List ℕ) (r : Result Checked CertFault) (c : Checked) → Tells p gens n s text r → r ≡ Ok c
       → IsBehindHead s.phase → (t u : Told) (ls : List Line) → AllByRecursion (IsLineOf p) ls → Tell t ls u → text ≡ lines_text p ls ++ []
-      → Linked s t → (last : State) × Linked last u
-  all_linked n s text _ c (Tells.complete _ _ _ none whole) e behind t u [] valid tells is linked = (s, subst (Linked s) tells linked)
+      → Linked s t → (last : State) × Linked last u × IsSettled last
+  all_linked n s text _ c (Tells.complete _ _ _ none whole) e behind t u [] valid tells is linked = (s, subst (Linked s) tells linked, whole.settled)
   all_linked n s text _ c (Tells.complete _ _ _ none whole) e behind t u (l ∷ ls) valid tells is linked =
       absurd (none_some (sym none ∙ first_cut p known text l ls [] valid.0 is))
   all_linked n s text _ c (Tells.missing _ _ _ none not) e behind t u ls valid tells is linked = absurd cc
@@ -346,7 +409,7 @@ module _ (p : Presented) (known : IsPresented p) (gens : List (List Term)) where
 
   second_linked : (n : ℕ) (s : State) (text : List ℕ) (r : Result Checked CertFault) (c : Checked) → Tells p gens n s text r → r ≡ Ok c
       → s ≡ record start { phase = Presentation } → (u : Told) (ls : List Line) → AllByRecursion (IsLineOf p) ls → Tell nothing ls u
-      → text ≡ pres_line p ++ 10 ∷ lines_text p ls → (last : State) × Linked last u
+      → text ≡ pres_line p ++ 10 ∷ lines_text p ls → (last : State) × Linked last u × IsSettled last
   second_linked n s text _ c (Tells.complete _ _ _ none whole) e is u ls valid tells spelled = let wrong : Presentation ≡ Finished =
       ap (λ (t : State). t.phase) (sym is) ∙ whole.finished in absurd cc
   second_linked n s text _ c (Tells.missing _ _ _ none not) e is u ls valid tells spelled = absurd cc
@@ -356,11 +419,11 @@ module _ (p : Presented) (known : IsPresented p) (gens : List (List Term)) where
       let same = some_same (sym cuts ∙ ap (cut 10) spelled ∙ cut_here 10 (pres_line p) (lines_text p ls) (head_line p known)) in
       all_linked (capped (n + 1)) (record start { phase = Entries }) others r c (subst (λ (t : State). Tells p gens (capped (n + 1)) t others r) h.1 later) e tt
       nothing u ls valid tells (ap (λ x. x.1) same ∙ append_nothing (lines_text p ls))
-      (record { entries = refl; values = λ i d is. absurd cc; proofs = tt; last = refl })
+      (record { entries = refl; values = λ i d is. absurd cc; proofs = tt; last = refl; most = omega arith; full = tt })
 
   first_linked : (n : ℕ) (s : State) (text : List ℕ) (r : Result Checked CertFault) (c : Checked) → Tells p gens n s text r → r ≡ Ok c → s ≡ start
       → (u : Told) (ls : List Line) → AllByRecursion (IsLineOf p) ls → Tell nothing ls u
-      → text ≡ title ++ 10 ∷ (pres_line p ++ 10 ∷ lines_text p ls) → (last : State) × Linked last u
+      → text ≡ title ++ 10 ∷ (pres_line p ++ 10 ∷ lines_text p ls) → (last : State) × Linked last u × IsSettled last
   first_linked n s text _ c (Tells.complete _ _ _ none whole) e is u ls valid tells spelled = let wrong : Title ≡ Finished =
       ap (λ (t : State). t.phase) (sym is) ∙ whole.finished in absurd cc
   first_linked n s text _ c (Tells.missing _ _ _ none not) e is u ls valid tells spelled = absurd cc
@@ -373,7 +436,7 @@ module _ (p : Presented) (known : IsPresented p) (gens : List (List Term)) where
 -- WHAT IS READ HOLDS
 pub is_checked : (p : Presented) (text : List ℕ) (c : Checked) (d : ReportData) → IsPresented p → Answers p text (Ok c) → IsRead p text (Ok d) → IsChecked p d
 is_checked p text c d known told report =
-    let (last, linked) = first_linked p known told.generators 1 start text (Ok c) c told.tells refl refl report.told report.ls report.begins.valid
+    let (last, linked, settled) = first_linked p known told.generators 1 start text (Ok c) c told.tells refl refl report.told report.ls report.begins.valid
     report.begins.tells report.spelled in
     record {
       log = record {
@@ -384,4 +447,6 @@ is_checked p text c d known told report =
       };
       proofs = subst (λ (es : List EntryData). AllByRecursion (ShowsSubjects p es) d.replies) (sym report.says.entries)
           (subst (λ (rs : List ReplyData). AllByRecursion (ShowsSubjects p report.told.entries) rs) (sym report.says.replies) linked.proofs);
+      complete = subst (AllByRecursion HasProofs) (sym report.says.replies)
+          (all_full last.subjects last.shown report.told.replies linked.last (omega (arith, linked.most, settled)) linked.full);
     }

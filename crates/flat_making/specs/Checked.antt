@@ -9,6 +9,7 @@ use Rattle.module_vec.specs.Modules.{sum_of_steps}
 use Rattle.module_vec.specs.Places.{same_place}
 use Rattle.session_text.specs.Questions.{subjects}
 use Rattle.fox_calculus.specs.Fox.{fox}
+use Rattle.cert_checker.specs.States.{asked}
 use Rattle.report_reading.specs.declared.data.ReportData.{ReportData}
 use Rattle.report_reading.specs.declared.entry.EntryData.{EntryData}
 use Rattle.report_reading.specs.declared.replies.ReplyData.{ReplyData}
@@ -26,9 +27,15 @@ abbrev pub ShowsSubjects : Presented → List EntryData → ReplyData → Type 0
 ShowsSubjects p es r = (j : ℕ) (steps : List Step) → slice_get r.proofs j ≡ Some steps
     → (j < length (subjects r.question)) × IsShownBy p es (slice_index_or (subjects r.question) j []) steps
 
+-- there is a proof for each subject that the verdict asks one for
+abbrev pub HasProofs : ReplyData → Type 0
+HasProofs r = length r.proofs ≡ length (asked r.question r.verdict)
+
+-- what is read of a report that holds: a log, and a proof of each subject of a yes
 pub record IsChecked (p : Presented) (d : ReportData) : Type 0 where
   pub log : IsLog p d.entries
   pub proofs : AllByRecursion (ShowsSubjects p d.entries) d.replies
+  pub complete : AllByRecursion HasProofs d.replies
 
 -- a check of a certificate finds no difference
 abbrev pub FindsNone : Result (Unit {0}) FlatSumFault → Type 0

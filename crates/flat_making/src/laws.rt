@@ -23,8 +23,8 @@ ghost use Rattle.flat_making.specs.Checked.{IsShownBy, IsChecked, FindsNone};
 ghost use Rattle.flat_making.specs.Handing.{IsHanded};
 ghost use Rattle.flat_making.specs.Making.{vectors_of};
 
-/// What is read of a report that the checker accepts: the vectors of its entries are the values of their recipes, and
-/// each proof adds up to the Fox vector of its subject.
+/// What is read of a report that the checker accepts: the vectors of its entries are the values of their recipes, a yes
+/// has a proof for each of its subjects, and each proof adds up to the Fox vector of its subject.
 pub fn accepted_reports_hold()
     ensures { (p : Presented) (text : List ℕ) (c : Checked) (d : ReportData) → IsPresented p
         → IsCheckedText p text (Ok c) → IsRead p text (Ok d) → IsChecked p d }
