@@ -21,8 +21,8 @@ use Rattle.module_vec.specs.declared.places.Term.{Term}
 use Rattle.module_vec.specs.Places.{place_cmp, same_place, moved}
 use Rattle.module_vec.specs.Vectors.{sum_of}
 use Rattle.module_vec.proofs.Order.{test, place_exact}
-use Rattle.flat_cert.specs.declared.faults.AddFault.{AddFault}
-use Rattle.flat_cert.specs.declared.faults.AddFault.TheVariants.{Beyond, NoMemory}
+use Rattle.flat_cert.specs.declared.faults.FlatFault.{FlatFault}
+use Rattle.flat_cert.specs.declared.faults.FlatFault.TheVariants.{Beyond, NoMemory}
 use Rattle.flat_cert.specs.declared.totals.Total.{Total}
 use Rattle.flat_cert.specs.declared.TheConstants.{PLACES}
 use Rattle.flat_cert.specs.Images.{cancelled, flat_place, flat_image}
@@ -71,7 +71,7 @@ all_inserted (e ∷ es) p t all is = by (place_cmp p e.0) refl (all_inserted es 
 -- ---- one after another
 
 abbrev pub Answer : Type 0
-Answer = Result (Unit {0}) AddFault
+Answer = Result (Unit {0}) FlatFault
 
 -- after v comes w
 pub adds_on : (old mid new : Entries) (v w : FormalSum Place) (r : Answer) → Adds old v mid (Ok tt) → Adds mid w new r → Adds old (v ++ w) new r
@@ -82,7 +82,7 @@ adds_on old mid new v w (Err Beyond) h g =
 adds_on old mid new v w (Err NoMemory) h g = tt
 
 -- what is passed stays passed
-pub adds_fails : (old new later : Entries) (v w : FormalSum Place) (e : AddFault) → Adds old v new (Err e) → Adds old (v ++ w) later (Err e)
+pub adds_fails : (old new later : Entries) (v w : FormalSum Place) (e : FlatFault) → Adds old v new (Err e) → Adds old (v ++ w) later (Err e)
 adds_fails old new later v w Beyond h =
     beyond_more (λ x. weight_at old x + weight v x) (λ x. weight_at old x + weight (v ++ w) x) (λ x. omega (arith, weight-append v w x)) h
 adds_fails old new later v w NoMemory h = tt

@@ -17,8 +17,8 @@ use Rattle.module_vec.specs.Vectors.{sum_of, IsTerm}
 use Rattle.module_vec.specs.Results.{IsGreatest}
 use Rattle.fox_calculus.specs.Fox.{fox}
 use Rattle.fox_calculus.specs.Generators.{IsWritten}
-use Rattle.flat_cert.specs.declared.faults.AddFault.{AddFault}
-use Rattle.flat_cert.specs.declared.faults.AddFault.TheVariants.{Beyond, NoMemory}
+use Rattle.flat_cert.specs.declared.faults.FlatFault.{FlatFault}
+use Rattle.flat_cert.specs.declared.faults.FlatFault.TheVariants.{Beyond, NoMemory}
 use Rattle.flat_cert.specs.declared.faults.FlatSumFault.TheVariants.{NotZero}
 use Rattle.flat_cert.specs.declared.lines.Flat.{Flat}
 use Rattle.flat_cert.specs.Images.{flat_image}
@@ -47,13 +47,13 @@ module _ (p : Presented) (w : List Letter) (ls : List Flat) (v : List Term) (is 
   own : (vs : Vectors) → AreVectors p w vs → (x : Place) → weight (flat_image (sum_of v)) x ≡ weight (flat_image (sum_of vs.word)) x
   own vs are x = ap (λ g. weight (flat_image (sum_of g)) x) (written_same (fox w) v vs.word is are.word)
 
-  pub begin_fails : (new : Entries) (e : AddFault) → Adds [] start new (Err e) → Answers p w ls (Err (sum_fault e))
+  pub begin_fails : (new : Entries) (e : FlatFault) → Adds [] start new (Err e) → Answers p w ls (Err (sum_fault e))
   begin_fails new Beyond h = λ vs are.
       beyond_more (λ x. weight_at [] x + weight start x) (whole_weight vs ls) (λ x. omega (arith, begun x, own vs are x)) h
   begin_fails new NoMemory h = tt
 
   module _ (first : Entries) (begins : Adds [] start first (Ok tt)) where
-    pub lines_fail : (new : Entries) (e : AddFault) → TakesLines p first ls new (Err e) → Answers p w ls (Err (sum_fault e))
+    pub lines_fail : (new : Entries) (e : FlatFault) → TakesLines p first ls new (Err e) → Answers p w ls (Err (sum_fault e))
     lines_fail new Beyond h = λ vs are.
         beyond_more (λ x. weight_at first x + lines_weight vs ls x) (whole_weight vs ls) (λ x. omega (arith, begins.1 x, begun x, own vs are x))
         (h.weights vs are.of)

@@ -121,7 +121,7 @@ above_apart : (p : Place) (xs : List Place) → AllByRecursion (λ y. place_cmp 
 above_apart p [] all = tt
 above_apart p (x ∷ xs) all = (λ e. order.irreflexive p (subst (IsBelow p) e all.0), above_apart p xs all.1)
 
-sorted_distinct : (xs : List Place) → IsStrictlySortedBy place_cmp xs → AreDistinct xs
+pub sorted_distinct : (xs : List Place) → IsStrictlySortedBy place_cmp xs → AreDistinct xs
 unfolding IsStrictlySortedBy
 sorted_distinct [] sorted = tt
 sorted_distinct (x ∷ xs) sorted = (above_apart x xs sorted.0, sorted_distinct xs sorted.1)
@@ -140,12 +140,12 @@ length_keys [] = refl
 length_keys (d ∷ es) = omega (arith, length_keys es)
 
 -- the entries fill all places, and one more stands elsewhere
-pub too_many : (es : Entries) (x : Place) (W : Place → ℕ) → AreTotals es → IsStrictlySortedBy place_cmp (keys_of es) → found es x ≡ None → PLACES ≤ length es
+pub too_many : (es : Entries) (x : Place) (W : Place → ℕ) → AreTotals es → AreDistinct (keys_of es) → found es x ≡ None → PLACES ≤ length es
     → 0 < W x → ((y : Place) → weight_at es y ≤ W y) → IsBeyond W
-too_many es x W are sorted new full some more =
+too_many es x W are distinct new full some more =
     inr (inr (
       x ∷ keys_of es,
-      (not_found_apart es x new, sorted_distinct (keys_of es) sorted),
+      (not_found_apart es x new, distinct),
       (some, all_more (λ y. 0 < weight_at es y) (λ y. 0 < W y) (keys_of es) (λ y h. omega (arith, h, more y)) (keys_stand es are.all)),
       omega (arith, full, length_keys es),
     ))

@@ -9,3 +9,5 @@ pub mod Answering
 pub mod Named
 pub mod LineTexts
 pub mod Texts
+pub mod Written
+pub mod ReadingBack

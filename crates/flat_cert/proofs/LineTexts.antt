@@ -52,7 +52,7 @@ unfolding is_name_byte is_letter is_digit
 space = record { name = refl; digit = inl (omega arith); tick = λ e. omega (arith, e); hat = λ e. omega (arith, e) }
 
 -- words are told apart by their first bytes
-abbrev first_byte : List ℕ → ℕ
+abbrev pub first_byte : List ℕ → ℕ
 first_byte [] = 0
 first_byte (b ∷ t) = b
 
@@ -114,7 +114,7 @@ module _ (p : Presented) (known : IsPresented p) where
 
   -- ---- kinds
 
-  small_relator : (j : ℕ) → IsRelator p j → IsSmall j
+  pub small_relator : (j : ℕ) → IsRelator p j → IsSmall j
   small_relator j is = omega (arith, is.1, known.few_relators)
 
   pub no_relator_number : (text : List ℕ) → IsRead decimal IsSmall text None → IsRead decimal (IsRelator p) text None
@@ -127,28 +127,28 @@ module _ (p : Presented) (known : IsPresented p) where
       by i is same (inl z) = absurd (omega (arith, z, same, is.0))
       by i is same (inr z) = absurd (omega (arith, z, same, is.1))
 
-  number_cut : (j c : ℕ) → IsRelator p j → cut 32 (decimal j ++ 32 ∷ name_of p.names c) ≡ Some (decimal j, name_of p.names c)
+  pub number_cut : (j c : ℕ) → IsRelator p j → cut 32 (decimal j ++ 32 ∷ name_of p.names c) ≡ Some (decimal j, name_of p.names c)
   number_cut j c is = cut_here 32 (decimal j) (name_of p.names c) (decimal_lacks 32 j (inl (omega arith)) (omega (arith, small_relator j is)))
 
-  found : (c : ℕ) → c < length p.names → finding p.names (name_of p.names c) ≡ Some c
+  pub found : (c : ℕ) → c < length p.names → finding p.names (name_of p.names c) ≡ Some c
   found c below = name_found p.names c known.distinct below
 
-  abbrev word_of : FlatKind → List ℕ
+  abbrev pub word_of : FlatKind → List ℕ
   word_of (Rel j) = codes "rel"
   word_of (Bin j c) = codes "bin"
   word_of (Mod c) = codes "mod"
 
-  abbrev rest_of : FlatKind → List ℕ
+  abbrev pub rest_of : FlatKind → List ℕ
   rest_of (Rel j) = decimal j
   rest_of (Bin j c) = decimal j ++ 32 ∷ name_of p.names c
   rest_of (Mod c) = name_of p.names c
 
-  word_cut : (what : FlatKind) → cut 32 (kind_text p.names what) ≡ Some (word_of what, rest_of what)
+  pub word_cut : (what : FlatKind) → cut 32 (kind_text p.names what) ≡ Some (word_of what, rest_of what)
   word_cut (Rel j) = refl
   word_cut (Bin j c) = refl
   word_cut (Mod c) = refl
 
-  words : (text word rest : List ℕ) (what : FlatKind) → cut 32 text ≡ Some (word, rest) → text ≡ kind_text p.names what
+  pub words : (text word rest : List ℕ) (what : FlatKind) → cut 32 text ≡ Some (word, rest) → text ≡ kind_text p.names what
       → (word ≡ word_of what) × (rest ≡ rest_of what)
   words text word rest what k e = some_pair (word, rest) (word_of what, rest_of what) (sym k ∙ ap (cut 32) e ∙ word_cut what)
 
@@ -219,26 +219,26 @@ module _ (p : Presented) (known : IsPresented p) where
 
   -- ---- lines
 
-  abbrev behind : Flat → List ℕ
+  abbrev pub behind : Flat → List ℕ
   behind l = monomial_text p.names l.t ++ 32 ∷ kind_text p.names l.what
 
-  factor : (l : Flat) → IsFlat p l → IsCoefficient l.k
+  pub factor : (l : Flat) → IsFlat p l → IsCoefficient l.k
   factor l is = spelled_coefficient l.k is.nonzero is.range
 
-  star_cut : (l : Flat) → IsFlat p l → cut 42 (line_text p.names l) ≡ Some (coefficient l.k, behind l)
+  pub star_cut : (l : Flat) → IsFlat p l → cut 42 (line_text p.names l) ≡ Some (coefficient l.k, behind l)
   star_cut l is =
       cut_here 42 (coefficient l.k) (behind l) (coefficient_lacks 42 l.k (inl (omega arith)) (λ e. omega (arith, e)) (λ e. omega (arith, e)) (factor l is))
 
-  space_cut : (l : Flat) → IsFlat p l → cut 32 (behind l) ≡ Some (monomial_text p.names l.t, kind_text p.names l.what)
+  pub space_cut : (l : Flat) → IsFlat p l → cut 32 (behind l) ≡ Some (monomial_text p.names l.t, kind_text p.names l.what)
   space_cut l is =
       cut_here 32 (monomial_text p.names l.t) (kind_text p.names l.what) (monomial_lacks 32 p.names l.t space (λ e. omega (arith, e))
       (names_of p known) is.mono)
 
-  fronts : (text front rest : List ℕ) (l : Flat) → cut 42 text ≡ Some (front, rest) → IsFlat p l → text ≡ line_text p.names l
+  pub fronts : (text front rest : List ℕ) (l : Flat) → cut 42 text ≡ Some (front, rest) → IsFlat p l → text ≡ line_text p.names l
       → (front ≡ coefficient l.k) × (rest ≡ behind l)
   fronts text front rest l k is e = some_pair (front, rest) (coefficient l.k, behind l) (sym k ∙ ap (cut 42) e ∙ star_cut l is)
 
-  lasts : (rest middle last : List ℕ) (l : Flat) → cut 32 rest ≡ Some (middle, last) → IsFlat p l → rest ≡ behind l
+  pub lasts : (rest middle last : List ℕ) (l : Flat) → cut 32 rest ≡ Some (middle, last) → IsFlat p l → rest ≡ behind l
       → (middle ≡ monomial_text p.names l.t) × (last ≡ kind_text p.names l.what)
   lasts rest middle last l k is e = some_pair (middle, last) (monomial_text p.names l.t, kind_text p.names l.what) (sym k ∙ ap (cut 32) e ∙ space_cut l is)
 

@@ -18,8 +18,8 @@ use Rattle.module_vec.proofs.Determined.{same_vector}
 use Rattle.module_vec.proofs.Order.{test}
 use Rattle.fox_calculus.specs.Fox.{fox, image}
 use Rattle.fox_calculus.specs.Generators.{IsWritten}
-use Rattle.flat_cert.specs.declared.faults.AddFault.{AddFault}
-use Rattle.flat_cert.specs.declared.faults.AddFault.TheVariants.{Beyond, NoMemory}
+use Rattle.flat_cert.specs.declared.faults.FlatFault.{FlatFault}
+use Rattle.flat_cert.specs.declared.faults.FlatFault.TheVariants.{Beyond, NoMemory}
 use Rattle.flat_cert.specs.declared.lines.Flat.{Flat}
 use Rattle.flat_cert.specs.declared.relators.RelatorVector.{RelatorVector}
 use Rattle.flat_cert.specs.Images.{flat_place, flat_image}
@@ -108,11 +108,11 @@ module _ (p : Presented) where
           beyond_more (λ x. weight_at mid x + lines_weight vs ls x) (λ x. weight_at old x + lines_weight vs (l ∷ ls) x) (λ x. omega (arith, first x)) h
       weights vs first (Err NoMemory) h = tt
 
-  pub takes_fails : (old new : Entries) (l : Flat) (ls : List Flat) (e : AddFault) → IsFlat p l
+  pub takes_fails : (old new : Entries) (l : Flat) (ls : List Flat) (e : FlatFault) → IsFlat p l
       → TakesAway old l.k l.t (generator_of p l.what) new (Err e) → TakesLines p old (l ∷ ls) new (Err e)
   takes_fails old new l ls e is one = record { sums = tt; weights = λ vs are. weights vs e (one.weights (vs.of l.what) (are l.what is.kind)) }
     where
-      weights : (vs : Vectors) (e : AddFault) → Weighs old (weight (flat_image (multiple moved l.k l.t (sum_of (vs.of l.what))))) new (Err e)
+      weights : (vs : Vectors) (e : FlatFault) → Weighs old (weight (flat_image (multiple moved l.k l.t (sum_of (vs.of l.what))))) new (Err e)
           → Weighs old (lines_weight vs (l ∷ ls)) new (Err e)
       weights vs Beyond h =
           beyond_more (λ x. weight_at old x + weight (flat_image (multiple moved l.k l.t (sum_of (vs.of l.what)))) x)

@@ -16,8 +16,8 @@ use Rattle.module_vec.specs.Vectors.{sum_of}
 use Rattle.fox_calculus.specs.Fox.{fox, image}
 use Rattle.fox_calculus.specs.Generators.{IsWritten}
 use Rattle.flat_cert.specs.declared.TheConstants.{PLACES}
-use Rattle.flat_cert.specs.declared.faults.AddFault.{AddFault}
-use Rattle.flat_cert.specs.declared.faults.AddFault.TheVariants.{Beyond, NoMemory}
+use Rattle.flat_cert.specs.declared.faults.FlatFault.{FlatFault}
+use Rattle.flat_cert.specs.declared.faults.FlatFault.TheVariants.{Beyond, NoMemory}
 use Rattle.flat_cert.specs.declared.totals.Total.{Total}
 use Rattle.flat_cert.specs.declared.relators.RelatorVector.{RelatorVector}
 use Rattle.flat_cert.specs.declared.lines.Flat.{Flat}
@@ -71,14 +71,14 @@ pub record AreTotals (es : List (Place × Total)) : Type 0 where
   pub few : length es ≤ PLACES
 
 -- what comes of adding v: the limits are kept, or else one is passed
-abbrev pub Adds : List (Place × Total) → FormalSum Place → List (Place × Total) → Result (Unit {0}) AddFault → Type 0
+abbrev pub Adds : List (Place × Total) → FormalSum Place → List (Place × Total) → Result (Unit {0}) FlatFault → Type 0
 Adds old v new (Ok _) = ((x : Place) → sum_at new x ≡ sum_at old x +ℤ coefficient same_place v x)
     × ((x : Place) → weight_at new x ≡ weight_at old x + weight v x)
 Adds old v new (Err Beyond) = IsBeyond (λ x. weight_at old x + weight v x)
 Adds old v new (Err NoMemory) = Unit {0}
 
 -- the limits are kept where W is added, or else one is passed
-abbrev pub Weighs : List (Place × Total) → (Place → ℕ) → List (Place × Total) → Result (Unit {0}) AddFault → Type 0
+abbrev pub Weighs : List (Place × Total) → (Place → ℕ) → List (Place × Total) → Result (Unit {0}) FlatFault → Type 0
 Weighs old W new (Ok _) = (x : Place) → weight_at new x ≡ weight_at old x + W x
 Weighs old W new (Err Beyond) = IsBeyond (λ x. weight_at old x + W x)
 Weighs old W new (Err NoMemory) = Unit {0}
@@ -90,13 +90,13 @@ Loses old v new = (x : Place) → sum_at new x ≡ sum_at old x -ℤ coefficient
 -- what comes of taking k·t·f away
 pub record TakesAway (old : List (Place × Total)) (k : ℤ) (t : List ℕ) (f : FormalSum Place)
     (new : List (Place × Total))
-    (r : Result (Unit {0}) AddFault) : Type 0 where
+    (r : Result (Unit {0}) FlatFault) : Type 0 where
   pub sums : IfOk r (λ _. Loses old (flat_image (multiple moved k t f)) new)
   pub weights : (g : List Term) → IsWritten f g → Weighs old (weight (flat_image (multiple moved k t (sum_of g)))) new r
 
 -- what comes of taking the values of the lines away
 pub record TakesLines (p : Presented) (old : List (Place × Total)) (ls : List Flat) (new : List (Place × Total))
-    (r : Result (Unit {0}) AddFault) : Type 0 where
+    (r : Result (Unit {0}) FlatFault) : Type 0 where
   pub sums : IfOk r (λ _. Loses old (flat_image (certificate_sum p ls)) new)
   pub weights : (vs : Vectors) → ((what : FlatKind) → IsKind p what → IsWritten (generator_of p what) (vs.of what))
       → Weighs old (lines_weight vs ls) new r

@@ -14,8 +14,8 @@ use Rattle.fox_calculus.specs.Fox.{fox}
 use Rattle.fox_calculus.specs.Generators.{IsWritten}
 use Rattle.flat_cert.specs.declared.lines.Flat.{Flat}
 use Rattle.flat_cert.specs.declared.lines.FlatKind.{FlatKind}
-use Rattle.flat_cert.specs.declared.faults.AddFault.{AddFault}
-use Rattle.flat_cert.specs.declared.faults.AddFault.TheVariants as added
+use Rattle.flat_cert.specs.declared.faults.FlatFault.{FlatFault}
+use Rattle.flat_cert.specs.declared.faults.FlatFault.TheVariants as added
 use Rattle.flat_cert.specs.declared.faults.FlatSumFault.{FlatSumFault}
 use Rattle.flat_cert.specs.declared.faults.FlatSumFault.TheVariants.{Beyond, NotZero, NoMemory}
 use Rattle.flat_cert.specs.Images.{flat_image}
@@ -57,7 +57,7 @@ Answers p w ls (Err Beyond) = (vs : Vectors) → AreVectors p w vs → IsBeyond 
 Answers p w ls (Err NoMemory) = Unit {0}
 
 -- a term that can't be added
-abbrev pub sum_fault : AddFault → FlatSumFault
+abbrev pub sum_fault : FlatFault → FlatSumFault
 sum_fault added.Beyond = Beyond
 sum_fault added.NoMemory = NoMemory
 

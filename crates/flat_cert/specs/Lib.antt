@@ -4,3 +4,4 @@ pub mod Weights
 pub mod Checking
 pub mod Adding
 pub mod Texts
+pub mod Writing

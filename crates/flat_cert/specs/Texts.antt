@@ -74,3 +74,9 @@ abbrev pub ReadsText : Presented → List ℕ → Result (Vec Flat Global) FlatT
 ReadsText p text (Ok ls) = IsCertificate p ls.items × (text ≡ certificate_text p.names ls.items)
 ReadsText p text (Err (Line n)) = IsFirstFault p text n
 ReadsText p text (Err NoMemory) = Unit {0}
+
+-- what is answered to the text of this certificate: it is read, unless memory runs out
+abbrev pub IsReadBack : List Flat → Result (Vec Flat Global) FlatTextFault → Type 0
+IsReadBack ls (Ok read) = read.items ≡ ls
+IsReadBack ls (Err (Line n)) = ⊥
+IsReadBack ls (Err NoMemory) = Unit {0}

@@ -15,7 +15,7 @@ ghost use Rattle.flat_cert.specs.Certificates.{IsFlat, AreFlat, generator_of, ce
 ghost use Rattle.flat_cert.specs.Checking.{Answers, FaultIsOver};
 ghost use Rattle.flat_cert.specs.Adding.{AreRelators, TakesAway, TakesLines};
 
-use crate::faults::AddFault;
+use crate::faults::FlatFault;
 use crate::relators::{RelatorVector, relator_vectors};
 use crate::totals::Totals;
 use crate::{Flat, FlatKind, FlatSumFault};
@@ -78,7 +78,7 @@ fn take_lines(
     p: &Presentation,
     relators: &[RelatorVector],
     list: &[Flat],
-) -> Result<(), AddFault>
+) -> Result<(), FlatFault>
     requires relators { AreRelators p.now.relators relators.now }
     requires lines { AreFlat p.now list.now }
     ensures { TakesLines p.now totals.old list.now totals.new result }
@@ -96,7 +96,7 @@ fn take_line(
     p: &Presentation,
     relators: &[RelatorVector],
     line: &Flat,
-) -> Result<(), AddFault>
+) -> Result<(), FlatFault>
     requires relators { AreRelators p.now.relators relators.now }
     requires line { IsFlat p.now line.now }
     ensures { TakesAway totals.old line.now.k line.now.t (generator_of p.now line.now.what) totals.new result }
@@ -119,7 +119,7 @@ fn take_line(
 }
 
 /// Takes `k·t` times a vector away.
-fn take(totals: &mut Totals, k: i128, t: &Mono, vector: &ModVec) -> Result<(), AddFault>
+fn take(totals: &mut Totals, k: i128, t: &Mono, vector: &ModVec) -> Result<(), FlatFault>
     requires range { InRange k }
     requires nonzero { k ≢ pos 0 }
     ensures { (f : FormalSum Place) → IsWritten f vector.now → TakesAway totals.old k t.now f totals.new result }

@@ -1,11 +1,13 @@
 //! Why a certificate doesn't hold.
 
 ghost use Rattle.std.specs.Prelude.{◌≡◌};
-ghost use Rattle.flat_cert.specs.declared.faults.AddFault.TheVariants as added;
+ghost use Rattle.flat_cert.specs.declared.faults.FlatFault.TheVariants as added;
 ghost use Rattle.flat_cert.specs.declared.faults.FlatSumFault.TheVariants.{NoMemory};
 ghost use Rattle.flat_cert.specs.declared.faults.FlatTextFault.TheVariants as texts;
+ghost use Rattle.flat_cert.specs.declared.faults.WriteFault.TheVariants as writing;
 ghost use Rattle.flat_cert.specs.Checking.{sum_fault};
 
+use mb_io::Failed;
 use module_vec::Place;
 use std::alloc::{AllocError, AllocFailed};
 
@@ -20,37 +22,39 @@ pub enum FlatSumFault {
     NoMemory,
 }
 
-/// Why a term can't be added.
-#[derive(Clone, Copy, PartialEq, Eq)]
-pub enum AddFault {
-    /// One of the limits of [`FlatSumFault::Beyond`] would be passed.
+/// Why what stands at flat places can't be added up.
+#[derive(Clone, Copy, Debug, PartialEq, Eq)]
+pub enum FlatFault {
+    /// Something would stand at a place of a degree above [`DEGREE`](laurent_terms::DEGREE), the absolute values at one
+    /// place would add up past [`COEFFICIENT`](module_vec::COEFFICIENT), or something would stand at more than
+    /// [`PLACES`](crate::PLACES).
     Beyond,
     NoMemory,
 }
 
-impl From<AllocError> for AddFault {
+impl From<AllocError> for FlatFault {
     ghost from_gives = { λ _ e. e ≡ added.NoMemory };
 
-    fn from(_: AllocError) -> AddFault {
-        AddFault::NoMemory
+    fn from(_: AllocError) -> FlatFault {
+        FlatFault::NoMemory
     }
 }
 
-impl<T: Drop> From<AllocFailed<T>> for AddFault {
+impl<T: Drop> From<AllocFailed<T>> for FlatFault {
     ghost from_gives = { λ _ e. e ≡ added.NoMemory };
 
-    fn from(_: AllocFailed<T>) -> AddFault {
-        AddFault::NoMemory
+    fn from(_: AllocFailed<T>) -> FlatFault {
+        FlatFault::NoMemory
     }
 }
 
-impl From<AddFault> for FlatSumFault {
+impl From<FlatFault> for FlatSumFault {
     ghost from_gives = { λ fault e. e ≡ sum_fault fault };
 
-    fn from(fault: AddFault) -> FlatSumFault {
+    fn from(fault: FlatFault) -> FlatSumFault {
         match fault {
-            AddFault::Beyond => FlatSumFault::Beyond,
-            AddFault::NoMemory => FlatSumFault::NoMemory,
+            FlatFault::Beyond => FlatSumFault::Beyond,
+            FlatFault::NoMemory => FlatSumFault::NoMemory,
         }
     }
 }
@@ -85,5 +89,37 @@ impl<T: Drop> From<AllocFailed<T>> for FlatTextFault {
 
     fn from(_: AllocFailed<T>) -> FlatTextFault {
         FlatTextFault::NoMemory
+    }
+}
+
+/// Why a certificate isn't written whole. A front of its text was.
+#[derive(Clone, Copy, Debug, PartialEq, Eq)]
+pub enum WriteFault {
+    /// The sink has failed, and has counted that.
+    Failed,
+    NoMemory,
+}
+
+impl From<Failed> for WriteFault {
+    ghost from_gives = { λ _ e. e ≡ writing.Failed };
+
+    fn from(_: Failed) -> WriteFault {
+        WriteFault::Failed
+    }
+}
+
+impl From<AllocError> for WriteFault {
+    ghost from_gives = { λ _ e. e ≡ writing.NoMemory };
+
+    fn from(_: AllocError) -> WriteFault {
+        WriteFault::NoMemory
+    }
+}
+
+impl<T: Drop> From<AllocFailed<T>> for WriteFault {
+    ghost from_gives = { λ _ e. e ≡ writing.NoMemory };
+
+    fn from(_: AllocFailed<T>) -> WriteFault {
+        WriteFault::NoMemory
     }
 }

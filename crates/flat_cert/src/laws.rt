@@ -1,6 +1,7 @@
 //! Laws. Each function does nothing: its contract is the law.
 
-ghost use Rattle.std.specs.Prelude.{negsuc, List, length, ◌++◌};
+ghost use Rattle.std.specs.Prelude.{negsuc, List, length, ◌++◌, Result, Vec};
+ghost use Rattle.std.specs.declared.alloc.Global.{Global};
 ghost use Rattle.free_words.specs.declared.letter.Letter.{Letter};
 ghost use Rattle.presentation.specs.Presented.{Presented, IsPresented};
 ghost use Rattle.derivation.specs.Moves.{IsWordOver, Trivial};
@@ -11,6 +12,8 @@ ghost use Rattle.fox_calculus.specs.Fox.{fox};
 ghost use Rattle.flat_cert.specs.declared.lines.Flat.{Flat};
 ghost use Rattle.flat_cert.specs.Images.{flat_image, IsSumOver, IsSumOfUnits};
 ghost use Rattle.flat_cert.specs.Certificates.{AreFlat, certificate_sum};
+ghost use Rattle.flat_cert.specs.declared.faults.FlatTextFault.{FlatTextFault};
+ghost use Rattle.flat_cert.specs.Texts.{certificate_text, IsCertificate, ReadsText, IsReadBack};
 
 /// Vectors with one flat image differ by a sum of multiples of unit binomials.
 #[tactic(auto, using(crate::proofs::Images::images_determine))]
@@ -25,4 +28,12 @@ pub fn images_determine()
 pub fn certified_is_trivial()
     ensures { (p : Presented) (w : List Letter) (ls : List Flat) → IsPresented p → IsWordOver p w → AreFlat p ls
         → Same same_place (flat_image (fox w)) (flat_image (certificate_sum p ls)) → Trivial p w }
+{}
+
+/// What is written of a certificate is read back: to its text the reader answers the certificate, unless memory runs
+/// out.
+#[tactic(auto, using(crate::proofs::ReadingBack::is_read_back))]
+pub fn written_certificates_are_read_back()
+    ensures { (p : Presented) (ls : List Flat) (r : Result (Vec Flat Global) FlatTextFault) → IsPresented p
+        → IsCertificate p ls → ReadsText p (certificate_text p.names ls) r → IsReadBack ls r }
 {}

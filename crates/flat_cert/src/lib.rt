@@ -14,12 +14,16 @@ mod products;
 mod reading;
 mod relators;
 mod totals;
+mod writing;
 
 pub use check::check_flat;
-pub use faults::{FlatSumFault, FlatTextFault};
+pub use faults::{FlatFault, FlatSumFault, FlatTextFault, WriteFault};
 pub use line_text::put_line;
 pub use lines::{Flat, FlatKind};
+pub use products::flat_product;
 pub use reading::read_flat;
+pub use totals::{Total, total_with};
+pub use writing::write_flat;
 
 /// A certificate has at most so many lines.
 pub const LINES: u32 = 1_000_000;

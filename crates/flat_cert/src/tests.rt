@@ -1,6 +1,7 @@
 //! Certificates worked out by hand.
 
-use crate::{FlatSumFault, FlatTextFault, check_flat, read_flat};
+use crate::{FlatSumFault, FlatTextFault, WriteFault, check_flat, read_flat, write_flat};
+use mb_io::MemSink;
 use presentation::{read_presentation, read_word};
 use std::alloc::Global;
 use std::rt::HostRuntime;
@@ -88,5 +89,39 @@ fn first_lines_that_cannot_stand(rt: HostRuntime) {
         ("metab flat 1\ndone", 2),
     ] {
         assert_eq!(rt; first_fault(alloc, SOLITAR, text), Some(want), "{text}");
+    }
+}
+
+/// How many bytes of the certificate's text are written to a sink with so much room, 1000 where all are.
+fn written(alloc: Global, text: &str, room: u32) -> Option<usize> {
+    let p = read_presentation(alloc, SOLITAR.as_bytes()).ok()?;
+    let list = read_flat(alloc, &p, text.as_bytes()).ok()?;
+    let mut sink = MemSink::new(alloc, room, Vec::new(alloc)).ok()?;
+    let answer = write_flat(alloc, &p, &list, &mut sink);
+    if !text.as_bytes().starts_with(sink.taken()) {
+        return None;
+    }
+    match answer {
+        Ok(()) if sink.taken().len() == text.len() => Some(1000),
+        Err(WriteFault::Failed) => Some(sink.taken().len()),
+        _ => None,
+    }
+}
+
+#[test]
+fn certificates_are_written_as_they_are_read(rt: HostRuntime) {
+    let alloc = rt.alloc();
+    for (text, room, want) in [
+        ("metab flat 1\ndone\n", 100, 1000),
+        (FAR, 100, 1000),
+        (
+            "metab flat 1\n-1*a.t'^2 bin 1 t\n+12*1 rel 1\ndone\n",
+            100,
+            1000,
+        ),
+        (FAR, 30, 30),
+        (FAR, 0, 0),
+    ] {
+        assert_eq!(rt; written(alloc, text, room), Some(want), "{text}");
     }
 }

@@ -12,7 +12,7 @@ ghost use Rattle.flat_cert.specs.Images.{flat_image};
 ghost use Rattle.flat_cert.specs.Adding.{sum_at, weight_in, Adds, IsSmall, IsWith};
 
 use crate::PLACES;
-use crate::faults::AddFault;
+use crate::faults::FlatFault;
 use crate::products::flat_product;
 use laurent_terms::Mono;
 use module_vec::{COEFFICIENT, Place, Term, checked_product};
@@ -22,10 +22,10 @@ use std::marker::Model;
 
 /// What was added at one place.
 #[derive(Clone, Copy)]
-struct Total {
-    sum: i128,
+pub struct Total {
+    pub sum: i128,
     /// What the absolute values add up to.
-    weight: u128,
+    pub weight: u128,
 }
 
 /// Coefficients, added up at each place, that stay within the limits of
@@ -59,7 +59,7 @@ impl Totals {
     }
 
     /// Adds `k·t·g`, where x_g·y_g is 1. The numbers in `g` aren't 0.
-    pub fn add_multiple(&mut self, k: i128, t: &Mono, g: &[Term]) -> Result<(), AddFault>
+    pub fn add_multiple(&mut self, k: i128, t: &Mono, g: &[Term]) -> Result<(), FlatFault>
         requires range { InRange k }
         requires nonzero { k ≢ pos 0 }
         requires terms { AllByRecursion IsTerm g.now }
@@ -67,10 +67,10 @@ impl Totals {
     {
         for term in g {
             let Some(m) = flat_product(t, &term.at.m) else {
-                return Err(AddFault::Beyond);
+                return Err(FlatFault::Beyond);
             };
             let Some(product) = checked_product(k, term.k) else {
-                return Err(AddFault::Beyond);
+                return Err(FlatFault::Beyond);
             };
             self.add(Place { m, c: term.at.c }, product)?;
         }
@@ -78,17 +78,17 @@ impl Totals {
     }
 
     /// Adds one term.
-    fn add(&mut self, at: Place, k: i128) -> Result<(), AddFault>
+    fn add(&mut self, at: Place, k: i128) -> Result<(), FlatFault>
         requires place { IsPlace at }
         requires nonzero { k ≢ pos 0 }
         ensures { Adds self.old ((k, at) ∷ []) self.new result }
     {
         let before = self.places.get(&at).copied();
         if before.is_none() && self.places.len() >= PLACES as usize {
-            return Err(AddFault::Beyond);
+            return Err(FlatFault::Beyond);
         }
-        let Some(after) = with(before, k) else {
-            return Err(AddFault::Beyond);
+        let Some(after) = total_with(before, k) else {
+            return Err(FlatFault::Beyond);
         };
         self.places.insert(at, after)?;
         Ok(())
@@ -110,7 +110,7 @@ impl Totals {
 }
 
 /// What stands at a place where `k` is added, or `None` where the absolute values add up past [`COEFFICIENT`].
-fn with(before: Option<Total>, k: i128) -> Option<Total>
+pub fn total_with(before: Option<Total>, k: i128) -> Option<Total>
     requires small { IsSmall before }
     ensures { MatchOption result (COEFFICIENT < weight_in before + unsigned_abs k) (IsWith before k) }
 {

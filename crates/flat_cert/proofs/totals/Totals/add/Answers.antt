@@ -6,7 +6,7 @@ use Rattle.std.specs.List.{AllByRecursion}
 use Rattle.flat_cert.specs.Weights.{weight, IsBeyond}
 use Rattle.flat_cert.specs.Adding.{found, weight_at, weight_in, IsSmall, IsWith, IsTotal, Adds}
 use Rattle.flat_cert.proofs.Weights.{weight_own, abs_some}
-use Rattle.flat_cert.proofs.Entries.{small_found, too_many}
+use Rattle.flat_cert.proofs.Entries.{small_found, sorted_distinct, too_many}
 use Rattle.flat_cert.proofs.Adding.{added_sum, added_weight, none_is, few_inserted, all_inserted}
 use Rattle.flat_cert.proofs.totals.Totals.add.Goals as goal
 use Rattle.flat_cert.proofs.totals.Totals.add.Goals.{else-is_none-via-then-is_none+else-len, else-is_none-via-else-is_none}
@@ -18,12 +18,12 @@ returns-then-len c =
     let before : c.copied-before.result ≡ found es c.args.at = c.copied-before.ensures ∙ c.get.ensures.value in
     let none = sym before ∙ none_is c.copied-before.result c.if-is_none.ensures in
     subst (λ es. IsBeyond (λ x. weight_at es x + weight ((c.args.k, c.args.at) ∷ []) x)) c.self.view_is
-    (too_many es c.args.at (λ x. weight_at es x + weight ((c.args.k, c.args.at) ∷ []) x) c.self.invariant c.len.ensures.ordered none
+    (too_many es c.args.at (λ x. weight_at es x + weight ((c.args.k, c.args.at) ∷ []) x) c.self.invariant (sorted_distinct (Rattle.std.specs.Map.keys_of es) c.len.ensures.ordered) none
     (omega (arith, c.if-len.true, c.len.ensures.len))
     (omega (arith, weight_own c.args.k c.args.at, abs_some c.args.k c.requires.nonzero)) (λ y. omega arith))
 
-pub with-requires : goal.with-requires
-with-requires c =
+pub total_with-requires : goal.total_with-requires
+total_with-requires c =
     let before : c.copied-before.result ≡ found c.self.inside.places.entries c.args.at = c.copied-before.ensures ∙ c.get.ensures.value in
     record { small = subst IsSmall (sym before) (small_found c.self.inside.places.entries c.args.at c.self.invariant.all) }
 

@@ -8,7 +8,7 @@ use Rattle.module_vec.specs.declared.places.Term.{Term}
 use Rattle.module_vec.specs.Vectors.{IsTerm}
 use Rattle.module_vec.proofs.FallingTerms.{all_drop, drop_read}
 use Rattle.std.specs.List.{AllByRecursion}
-use Rattle.flat_cert.specs.declared.faults.AddFault.TheVariants.{Beyond}
+use Rattle.flat_cert.specs.declared.faults.FlatFault.TheVariants.{Beyond}
 use Rattle.flat_cert.specs.Adding.{Adds}
 use Rattle.flat_cert.proofs.Adding.{terms_of, terms_split, product_some, first_is_far, first_is_heavy, adds_on, adds_fails, adds_nothing}
 use Rattle.flat_cert.proofs.totals.Totals.add_multiple.Goals as goal

@@ -1,0 +1,15 @@
+pub mod Pairs
+pub mod Rows
+pub mod Handings
+pub mod Monomials
+pub mod Values
+pub mod Parts
+pub mod Summing
+pub mod Naming
+pub mod Candidates
+pub mod Listing
+pub mod Bounds
+pub mod Flattening
+pub mod Steps
+pub mod Accepted
+pub mod Reported
