@@ -12,7 +12,7 @@ use Rattle.saved_basis.specs.declared.faults.LineKind.TheVariants as kinds
 use Rattle.saved_basis.specs.declared.faults.BasisFault.{BasisFault}
 use Rattle.saved_basis.specs.declared.faults.BasisFault.TheVariants.{Line, Open, Stopped, NoMemory}
 use Rattle.saved_basis.specs.Files.{IsSaved, basis_text}
-use Rattle.saved_basis.specs.Lines.{FailsAt}
+use Rattle.saved_basis.specs.Lines.{IsFirstFault, FailsAt}
 use Rattle.saved_basis.specs.Tasks.{AllPass, IsAny, IsOpenTask, IsStoppedTask}
 
 -- the text is the file of these entries
@@ -39,6 +39,22 @@ ReadsBasis p text (Err (Open i j kind)) =
 ReadsBasis p text (Err (Stopped i j kind stop)) =
     FailsAtTask p text (λ b. IsStoppedTask IsAny b (record { i = i; j = j; kind = kind }) stop)
 ReadsBasis p text (Err NoMemory) = Unit {0}
+
+-- ---- how a text is read
+
+-- the fault tells the first line that can't stand
+abbrev pub TellsLine : Presented → List ℕ → BasisFault → Type 0
+TellsLine p text (Line n k) = FailsAt p text n k
+TellsLine p text (Open i j kind) = ⊥
+TellsLine p text (Stopped i j kind stop) = ⊥
+TellsLine p text NoMemory = Unit {0}
+
+-- that is one of the two at the head
+abbrev pub HeadFails : Presented → List ℕ → BasisFault → Type 0
+HeadFails p text (Line n k) = (gens : List (List Term)) → IsFirstFault p gens text n k
+HeadFails p text (Open i j kind) = ⊥
+HeadFails p text (Stopped i j kind stop) = ⊥
+HeadFails p text NoMemory = Unit {0}
 
 -- ---- the places that are named
 

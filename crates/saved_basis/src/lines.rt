@@ -1,20 +1,20 @@
 //! Whether an entry is what it is made to be.
 
-ghost use Rattle.std.specs.Prelude.{◌≡◌, ◌↔◌, ℕ, Bool, IsTrue, IfOk, List, length};
+ghost use Rattle.std.specs.Prelude.{◌≡◌, ◌↔◌, ℕ, Bool, IsTrue, IfOk, MatchBool, negsuc, List, length};
 ghost use Rattle.std.specs.List.{AllByRecursion};
 ghost use Rattle.presentation.specs.Presented.{Presented};
-ghost use Rattle.module_vec.specs.declared.places.Place.{Place};
+ghost use Rattle.formal_sums.specs.FormalSum.{scale};
 ghost use Rattle.module_vec.specs.declared.places.Term.{Term};
 ghost use Rattle.module_vec.specs.Modules.{vector_at};
 ghost use Rattle.module_vec.specs.Reducers.{IsEntry};
-ghost use Rattle.module_vec.specs.Vectors.{InRange, coefficient_at};
+ghost use Rattle.module_vec.specs.Vectors.{InRange, coefficient_at, sum_of};
 ghost use Rattle.step_lists.specs.declared.way.Way.TheVariants.{Add};
 ghost use Rattle.step_lists.specs.Sums.{zero_vector};
 ghost use Rattle.report_lines.specs.declared.lines.Made.TheVariants as made;
 ghost use Rattle.basis_entry.specs.Base.{IsOfGenerator};
 ghost use Rattle.basis_entry.specs.declared.recipes.Recipe.TheVariants.{Gen};
 ghost use Rattle.cert_checker.specs.States.{IsNear, AreNear};
-ghost use Rattle.cert_checker.specs.Checking.{StepsLead, StepsFail, EntryFails, signed};
+ghost use Rattle.cert_checker.specs.Checking.{StepsLead, StepsFail, EntryFails};
 ghost use Rattle.saved_basis.specs.Lines.{Outcome, as_checked};
 
 use crate::LineKind;
@@ -94,7 +94,11 @@ pub fn generator_agrees(
         Outcome (λ _. (vector.now ≡ generator.now.vector) × (generator.now.recipe ≡ Gen (length b) negated))
         (λ k. EntryFails gens b (made.Gen negated) vector.now (as_checked k)) result }
 {
-    let turned = negated != is_negated(generator.recipe());
+    let turned = if is_negated(generator.recipe()) {
+        !negated
+    } else {
+        negated
+    };
     let wanted = signed(alloc, generator.vector(), turned)?;
     match Sum::of(alloc, &wanted).difference(vector) {
         Some(at) => Err(LineFault::Fails(LineKind::NotEqual { at })),
@@ -114,7 +118,7 @@ fn is_negated(recipe: &Recipe) -> bool
 
 /// The vector, or its negative.
 fn signed(alloc: Global, vector: &ModVec, negated: bool) -> Result<ModVec, AllocError>
-    ensures { IfOk result (λ v. (x : Place) → coefficient_at v x ≡ signed negated vector.now x) }
+    ensures { IfOk result (λ v. MatchBool negated (sum_of v ≡ scale (negsuc 0) (sum_of vector.now)) (v ≡ vector.now)) }
 {
     let mut made = copied(alloc, vector)?;
     if !negated {

@@ -1,13 +1,18 @@
 //! `Reader`: what was read of a file behind its head.
 
-ghost use Rattle.std.specs.Prelude.{◌≡◌, ◌↔◌, ◌+◌, ◌≤◌, ◌++◌, ◌∷◌, [], List, length, map, IsTrue, IfOk};
+ghost use Rattle.std.specs.Prelude.{◌≡◌, ◌↔◌, ◌+◌, ◌<◌, ◌≤◌, ◌++◌, ◌∷◌, [], List, length, map, IsTrue, IfOk};
 ghost use Rattle.std.specs.Arc.{arc_value};
 ghost use Rattle.module_vec.specs.declared.places.Term.{Term};
-ghost use Rattle.basis_entry.specs.Entries.{BasisEntry};
+ghost use Rattle.module_vec.specs.Reducers.{IsEntry};
 ghost use Rattle.fox_calculus.specs.Generators.{AreGenerators};
-ghost use Rattle.saved_basis.specs.Files.{last_line};
-ghost use Rattle.saved_basis.specs.Lines.{IsEntryLine, MadeFails, LineFails, Outcome};
-ghost use Rattle.saved_basis.specs.Readers.{IsReading, IsNextEntry, TakesEntry, IsEnd};
+ghost use Rattle.step_text.specs.Over.{AreStepsOf};
+ghost use Rattle.report_lines.specs.declared.lines.Made.TheVariants as made;
+ghost use Rattle.cert_checker.specs.States.{AreNear};
+ghost use Rattle.basis_entry.specs.Entries.{vectors_of};
+ghost use Rattle.pair_work.specs.Outcomes.{recipe_steps};
+ghost use Rattle.saved_basis.specs.declared.TheConstants.{LOG_STEPS};
+ghost use Rattle.saved_basis.specs.Lines.{MadeFails, LineFails, Outcome};
+ghost use Rattle.saved_basis.specs.Readers.{IsReading, CanBeNext, IsNextEntry, FitsIn, TakesEntry, IsEnd};
 
 use crate::faults::LineFault;
 use crate::lines::{generator_agrees, recipe_agrees};
@@ -69,23 +74,18 @@ impl<'a> Reader<'a> {
         })
     }
 
-    /// What holds of every reader. The call does nothing.
-    pub fn known(&self)
-        ensures { IsReading self.now }
-    {
-        let _terms = self.terms;
-    }
-
     /// The number of the line behind those that were read.
     pub fn line(&self) -> u32
-        ensures { result ≡ length self.now.entries + 3 }
+        ensures is { result ≡ length self.now.entries + 3 }
+        ensures reading { IsReading self.now }
     {
         self.entries.len() as u32 + 3
     }
 
     /// Whether this is the last line, and every generator has its entry.
     pub fn is_last(&self, bytes: &[u8]) -> bool
-        ensures { IsTrue result ↔ IsEnd self.now bytes.now }
+        ensures is { IsTrue result ↔ IsEnd self.now bytes.now }
+        ensures reading { IsReading self.now }
     {
         bytes == b"done".as_slice() && self.generators.len() <= self.entries.len()
     }
@@ -111,31 +111,60 @@ impl<'a> Reader<'a> {
 
     /// The entry of a line that may be the next one.
     fn entry(&self, alloc: Global, line: EntryLine) -> Result<Arc<Entry>, LineFault>
+        requires { CanBeNext self.now line.made line.vector }
+        ensures { (gens : List (List Term)) → AreGenerators self.now.source gens →
+            Outcome (λ e. IsNextEntry self.now gens line.made line.vector (arc_value e))
+            (MadeFails gens self.now.entries line.made line.vector) result }
     {
-        match line.made {
-            Made::Gen { negated } => self.generator(alloc, negated, &line.vector),
-            Made::Sum { steps } => self.sum(alloc, steps, line.vector),
+        let EntryLine { made, vector, .. } = line;
+        match made {
+            Made::Gen { negated } => self.generator(alloc, negated, &vector),
+            Made::Sum { steps } => self.sum(alloc, steps, vector),
         }
     }
 
     /// The entry of the next generator, which has this vector.
-    fn generator(&self, alloc: Global, negated: bool, vector: &ModVec) -> Result<Arc<Entry>, LineFault>
+    fn generator(
+        &self,
+        alloc: Global,
+        negated: bool,
+        vector: &ModVec,
+    ) -> Result<Arc<Entry>, LineFault>
+        requires turn { length self.now.entries < length self.now.generators }
+        requires entry { IsEntry vector.now }
+        ensures { (gens : List (List Term)) → AreGenerators self.now.source gens →
+            Outcome (λ e. IsNextEntry self.now gens (made.Gen negated) vector.now (arc_value e))
+            (MadeFails gens self.now.entries (made.Gen negated) vector.now) result }
     {
         let entry = &self.generators[self.entries.len()];
+        entry.known();
         generator_agrees(alloc, entry, negated, vector)?;
         Ok(Arc::try_clone(entry)?)
     }
 
     /// The entry that is the sum of the steps, and has this vector.
     fn sum(&self, alloc: Global, steps: Steps, vector: ModVec) -> Result<Arc<Entry>, LineFault>
+        requires turn { length self.now.generators ≤ length self.now.entries }
+        requires near { AreNear (vectors_of self.now.entries) steps }
+        requires over { AreStepsOf (length self.now.source.names) steps }
+        requires entry { IsEntry vector }
+        ensures { (gens : List (List Term)) → AreGenerators self.now.source gens →
+            Outcome (λ e. IsNextEntry self.now gens (made.Sum steps) vector (arc_value e))
+            (MadeFails gens self.now.entries (made.Sum steps) vector) result }
     {
         let list = Items::of(&self.entries, None);
         recipe_agrees(alloc, &list, steps.steps(), &vector)?;
-        Ok(Entry::sum(alloc, self.p, &list, vector, steps)?)
+        let entry = Entry::sum(alloc, self.p, &list, vector, steps)?;
+        entry.known();
+        Ok(entry)
     }
 
     /// What was read with the entry.
     fn with(self, entry: Arc<Entry>) -> Result<Reader<'a>, AllocError>
+        requires { FitsIn self (arc_value entry) }
+        ensures { IfOk result (λ taken. taken ≡ record self.entry {
+          entries = self.entry.entries ++ arc_value entry ∷ [];
+        }) }
     {
         let mut reader = self;
         let terms = entry.vector().terms().len() as u32;
@@ -149,6 +178,8 @@ impl<'a> Reader<'a> {
 
 /// How many steps a recipe has; a generator has none.
 fn recipe_steps(recipe: &Recipe) -> u32
+    requires { recipe_steps recipe.now ≤ LOG_STEPS }
+    ensures { result ≡ recipe_steps recipe.now }
 {
     match recipe {
         Recipe::Gen { .. } => 0,

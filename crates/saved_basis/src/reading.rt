@@ -1,10 +1,13 @@
 //! Reading a file.
 
-ghost use Rattle.std.specs.Prelude.{◌≡◌, ◌++◌, ◌∷◌, length, map, IfOk, IfErr};
+ghost use Rattle.std.specs.Prelude.{◌≡◌, ◌≢◌, ◌+◌, ◌++◌, ◌∷◌, [], length, map, IfOk, IfErr, MatchResult};
 ghost use Rattle.std.specs.Arc.{arc_value};
 ghost use Rattle.report_lines.specs.Texts.{pres_line};
+ghost use Rattle.saved_basis.specs.declared.faults.LineKind.TheVariants.{Text};
+ghost use Rattle.saved_basis.specs.declared.faults.BasisFault.TheVariants.{Line};
+ghost use Rattle.saved_basis.specs.Faults.{of_line};
 ghost use Rattle.saved_basis.specs.Files.{title};
-ghost use Rattle.saved_basis.specs.Reading.{ReadsBasis, FaultIsOver};
+ghost use Rattle.saved_basis.specs.Reading.{IsFileOf, TellsLine, HeadFails, ReadsBasis, FaultIsOver};
 
 use crate::faults::LineFault;
 use crate::reader::Reader;
@@ -46,6 +49,8 @@ fn read_entries(
     p: &Arc<Presentation>,
     text: &[u8],
 ) -> Result<Vec<Arc<Entry>>, BasisFault>
+    ensures { MatchResult result (λ es. IsFileOf (arc_value p.now) text.now (map arc_value es.items))
+        (TellsLine (arc_value p.now) text.now) }
 {
     let mut rest = behind_head(alloc, p, text)?;
     let mut reader = Reader::new(alloc, p)?;
@@ -69,6 +74,8 @@ fn behind_head<'t>(
     p: &Presentation,
     text: &'t [u8],
 ) -> Result<&'t [u8], BasisFault>
+    ensures body { IfOk result (λ body. text.now ≡ title ++ 10 ∷ (pres_line p.now ++ 10 ∷ body.now)) }
+    ensures fault { IfErr result (HeadFails p.now text.now) }
 {
     let Some((first, others)) = cut(text, b'\n') else {
         return Err(no_text(1));
@@ -87,6 +94,8 @@ fn behind_head<'t>(
 
 /// The entries that were read, where nothing stands behind the last line.
 fn ended(reader: Reader<'_>, behind: &[u8]) -> Result<Vec<Arc<Entry>>, BasisFault>
+    ensures { MatchResult result (λ es. (behind.now ≡ []) × (map arc_value es.items ≡ reader.entry.entries))
+        (λ fault. (behind.now ≢ []) × (fault ≡ Line (length reader.entry.entries + 4) Text)) }
 {
     if !behind.is_empty() {
         return Err(no_text(reader.line() + 1));
@@ -96,6 +105,7 @@ fn ended(reader: Reader<'_>, behind: &[u8]) -> Result<Vec<Arc<Entry>>, BasisFaul
 
 /// The line with this number can't stand there.
 fn no_text(line: u32) -> BasisFault
+    ensures { result ≡ Line line Text }
 {
     BasisFault::Line {
         line,
@@ -105,6 +115,7 @@ fn no_text(line: u32) -> BasisFault
 
 /// The fault of the line with this number.
 fn of_line(line: u32, fault: LineFault) -> BasisFault
+    ensures { result ≡ of_line line fault }
 {
     match fault {
         LineFault::Fails(kind) => BasisFault::Line { line, kind },

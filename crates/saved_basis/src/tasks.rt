@@ -14,7 +14,7 @@ use outcomes::{PairKind, Task};
 use pair_work::WorkFault;
 use reduce_cofactor::reduce;
 use std::alloc::Global;
-use strong_pairs::{covers, is_pair, pair_vector};
+use strong_pairs::{covers, divides, is_pair, lead, pair_vector};
 
 /// Whether no task of the list adds anything to it. The fault tells the first one that fails, by the greater number,
 /// then the lesser, then G before S.
@@ -67,9 +67,9 @@ fn starts_closed<L: VecList>(list: &L, i: u32, j: u32) -> bool
     requires { IsPair (L.vectors list.now) i j }
     ensures { IsTrue result ↔ IsClosedFromStart (L.vectors list.now) kinds.G i j }
 {
-    let first = list.vector(i).terms()[0].k;
-    let second = list.vector(j).terms()[0].k;
-    first % second == 0 || second % first == 0
+    let first = lead(list, i).k;
+    let second = lead(list, j).k;
+    divides(first, second) || divides(second, first)
 }
 
 /// Whether the work of a task by the whole list adds nothing.

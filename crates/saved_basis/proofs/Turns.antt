@@ -1,0 +1,97 @@
+-- Lines that aren't those of a next entry.
+use Rattle.std.proofs.Common.{◌≡◌, ℕ, ◌+◌, ◌<◌, ◌≤◌, List, [], ◌∷◌, ◌++◌, length, None, refl, sym, ap, subst, ◌∙◌, arith}
+use Rattle.std.specs.Prelude.{Result, Ok, Err}
+use Rattle.spelling.specs.Spelling.{IsRead}
+use Rattle.presentation.specs.Presented.{Presented, IsPresented}
+use Rattle.module_vec.specs.declared.places.Term.{Term}
+use Rattle.report_lines.specs.declared.lines.Made.{Made}
+use Rattle.report_lines.specs.declared.lines.Line.{Line}
+use Rattle.report_lines.specs.declared.lines.Line.TheVariants as lines
+use Rattle.report_lines.specs.Lines.{IsLineOf}
+use Rattle.report_lines.specs.Texts.{line_text}
+use Rattle.report_lines.proofs.ReadingBack.{one_line}
+use Rattle.fox_calculus.specs.Generators.{AreGenerators}
+use Rattle.basis_entry.specs.Entries.{BasisEntry}
+use Rattle.report_text.specs.Histories.{made_by}
+use Rattle.saved_basis.specs.declared.TheConstants.{ENTRIES}
+use Rattle.saved_basis.specs.declared.faults.LineKind.{LineKind}
+use Rattle.saved_basis.specs.declared.faults.LineKind.TheVariants.{Text, NoEntry, NotEqual, Wide, Long}
+use Rattle.saved_basis.specs.declared.faults.LineFault.{LineFault}
+use Rattle.saved_basis.specs.declared.faults.LineFault.TheVariants as faults
+use Rattle.saved_basis.specs.Files.{IsBeginning}
+use Rattle.saved_basis.specs.Lines.{MayStand, IsEntryLine, IsLastLine, MadeFails, LineFails, Outcome}
+use Rattle.saved_basis.specs.Readers.{ReadSoFar, IsReading, IsEnd, IsTextFault, CanBeNext, IsNextEntry, FitsIn, TakesEntry}
+use Rattle.saved_basis.proofs.Beginning.{one_more}
+use Rattle.saved_basis.proofs.Making.{same_count}
+
+module _ (r : ReadSoFar) (gens : List (List Term)) (bytes : List ℕ) (open : IsEnd r bytes → ⊥) (same : length r.generators ≡ length gens) where
+  not_last : IsLastLine gens r.entries bytes → ⊥
+  not_last h = open (h.1, omega (arith, same, h.0))
+
+  pub full : ENTRIES ≤ length r.entries → IsTextFault r.source gens r.entries bytes Text
+  full le = (refl, (λ made v l. absurd (let m = l.may.entries in omega (arith, m, le)), not_last))
+
+  pub unread : IsRead (line_text r.source) (IsLineOf r.source) bytes None → IsTextFault r.source gens r.entries bytes Text
+  unread none = (refl, (λ made v l. none (lines.Entry (length r.entries) made v) l.valid l.spelled, not_last))
+
+  -- another line than that of an entry which may be the next one
+  pub other_line : (l : Line) → IsPresented r.source → IsLineOf r.source l → bytes ≡ line_text r.source l
+      → ((made : Made) (v : List Term) → l ≡ lines.Entry (length r.entries) made v → MayStand gens r.entries made v → ⊥)
+      → IsTextFault r.source gens r.entries bytes Text
+  other_line l known valid spelled none = (
+    refl,
+    (
+      λ made v x. none made v (one_line r.source l (lines.Entry (length r.entries) made v) known valid x.valid (sym spelled ∙ x.spelled)) x.may,
+      not_last,
+    ),
+  )
+
+-- the fault of a line that isn't one of a next entry
+pub text_fails : (r : ReadSoFar) (gens : List (List Term)) (bytes : List ℕ) (taken : ReadSoFar → Type 0) (e : LineFault)
+    → Outcome {X = Unit {0}} (λ _. Unit {0}) (IsTextFault r.source gens r.entries bytes) (Err e)
+    → Outcome taken (LineFails r.source gens r.entries bytes) (Err e)
+text_fails r gens bytes taken (faults.Fails k) h = subst (LineFails r.source gens r.entries bytes) (sym h.0) h.1
+text_fails r gens bytes taken faults.NoMemory h = tt
+
+-- the fault of an entry that isn't what it is made to be
+pub made_fails : (r : ReadSoFar) (gens : List (List Term)) (bytes : List ℕ) (taken : ReadSoFar → Type 0) (made : Made) (v : List Term) (e : LineFault)
+    → IsEntryLine r.source gens r.entries bytes made v
+    → Outcome {X = Unit {0}} (λ _. Unit {0}) (MadeFails gens r.entries made v) (Err e)
+    → Outcome taken (LineFails r.source gens r.entries bytes) (Err e)
+made_fails r gens bytes taken made v (faults.Fails Text) line h = absurd h
+made_fails r gens bytes taken made v (faults.Fails NoEntry) line h = (made, v, line, h)
+made_fails r gens bytes taken made v (faults.Fails (NotEqual at)) line h = (made, v, line, h)
+made_fails r gens bytes taken made v (faults.Fails Wide) line h = (made, v, line, h)
+made_fails r gens bytes taken made v (faults.Fails Long) line h = (made, v, line, h)
+made_fails r gens bytes taken made v faults.NoMemory line h = tt
+
+-- what kind of result it was doesn't matter to its faults
+pub only_fault : {X Y : Type 0} (A : X → Type 0) (B : Y → Type 0) (F : LineKind → Type 0) (e : LineFault) → Outcome A F (Err e) → Outcome B F (Err e)
+only_fault A B F (faults.Fails k) h = h
+only_fault A B F faults.NoMemory h = tt
+
+pub can_be_next : (r : ReadSoFar) (reading : IsReading r) (bytes : List ℕ) (made : Made) (v : List Term)
+    → IsEntryLine r.source reading.base.gens r.entries bytes made v → CanBeNext r made v
+can_be_next r reading bytes made v line = record {
+  made = line.valid.1.0;
+  gens = reading.base.gens;
+  generators = reading.base.generators;
+  may = line.may;
+}
+
+pub fits_in : (r : ReadSoFar) (reading : IsReading r) (made : Made) (v : List Term) (e : BasisEntry)
+    → MayStand reading.base.gens r.entries made v → IsNextEntry r reading.base.gens made v e → FitsIn r e
+fits_in r reading made v e may next = (
+  reading.base.gens,
+  reading.base.generators,
+  one_more r reading.base.gens made v e reading.beginning next may,
+)
+
+pub taken : (r : ReadSoFar) (gens : List (List Term)) (bytes : List ℕ) (made : Made) (v : List Term) (e : BasisEntry) (t : ReadSoFar)
+    → IsEntryLine r.source gens r.entries bytes made v → IsNextEntry r gens made v e → t ≡ record r { entries = r.entries ++ e ∷ [] } → TakesEntry r bytes t
+taken r gens bytes made v e t line next is = record {
+  entry = e;
+  is = is;
+  spelled = line.spelled
+      ∙ (λ i. line_text r.source (lines.Entry (length r.entries) (sym next.made i) (sym next.vector i)));
+}
