@@ -101,6 +101,7 @@ module _ (s : Seal) (base : ℕ) (known : IsPresented s.source) (seal : IsSeal s
   saved = record { base = base; log = log; entries = seal.entries; over = record_over s.source base s.entries seal.entries log; within = within }
 
   same_list : (fs : List BasisEntry) → IsFileOf s.source (basis_text s.source s.entries) fs → fs ≡ s.entries
+  unfolding saved
   same_list fs file =
       let same : file.saved.log.begins.gens ≡ log.begins.gens =
       one_generating s.source file.saved.log.begins.gens log.begins.gens file.saved.log.begins.generators log.begins.generators in
@@ -108,14 +109,15 @@ module _ (s : Seal) (base : ℕ) (known : IsPresented s.source) (seal : IsSeal s
       (subst (λ g. IsBeginning s.source g fs) same (beginning s.source fs file.saved)) (sym file.spelled)
 
   no_line : (n : ℕ) (k : LineKind) → FailsAt s.source (basis_text s.source s.entries) n k → ⊥
+  unfolding saved
   no_line n k f =
       let same : f.generators ≡ log.begins.gens = one_generating s.source f.generators log.begins.gens f.are log.begins.generators in
       no_fault s.source log.begins.gens known s.entries (beginning s.source s.entries saved) (whole s.source s.entries saved)
       (basis_text s.source s.entries) n k refl (subst (λ g. IsFirstFault s.source g (basis_text s.source s.entries) n k) same f.fault)
 
   no_open : (fs : List BasisEntry) (t : Task) → IsFileOf s.source (basis_text s.source s.entries) fs → IsOpenTask IsAny (vectors_of fs) t → ⊥
-  no_open fs t file open =
-      let o : IsOpenTask IsAny (vectors_of s.entries) t = subst (λ (xs : List BasisEntry). IsOpenTask IsAny (vectors_of xs) t) (same_list fs file) open in
+  no_open fs t file leaves =
+      let o : IsOpenTask IsAny (vectors_of s.entries) t = subst (λ (xs : List BasisEntry). IsOpenTask IsAny (vectors_of xs) t) (same_list fs file) leaves in
       no_rest seal.strong.gens (vectors_of s.entries) (are_entries s.entries seal.entries) seal.strong.strong t o.0.pair o.1
 
   pub is_read_back : (r : Result Seal BasisFault) → ReadsBasis s.source (basis_text s.source s.entries) r → IsReadBack s r

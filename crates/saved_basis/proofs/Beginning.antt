@@ -23,7 +23,8 @@ use Rattle.report_text.specs.Reports.{IsSumOver, EntryIsOver}
 use Rattle.report_text.proofs.Lists.{same_item}
 use Rattle.saved_basis.specs.Files.{IsBeginning, IsSaved}
 use Rattle.saved_basis.specs.Lines.{made_steps, MayStand}
-use Rattle.saved_basis.specs.Readers.{ReadSoFar, IsNextEntry}
+use Rattle.report_acceptance.proofs.Generating.{one_generating}
+use Rattle.saved_basis.specs.Readers.{ReadSoFar, IsReading, IsNextEntry, FitsIn}
 
 pub nothing : (p : Presented) (gens : List (List Term)) → IsBeginning p gens []
 nothing p gens = record {
@@ -71,7 +72,7 @@ module _ (r : ReadSoFar) (gens : List (List Term)) (made : Made) (v : List Term)
       let t = sum_by_push (λ (x : BasisEntry). length x.vector) r.entries e in
       let s = sum_by_push (λ (x : BasisEntry). recipe_steps x.recipe) r.entries e in
       let long : length e.vector ≡ length v = ap length next.vector in
-      let many : recipe_steps e.recipe ≡ made_steps made = same_steps e.recipe ∙ ap made_steps next.made in
+      let many : recipe_steps e.recipe ≡ made_steps made = same_steps e.recipe ∙ ap made_steps next.recipe in
       record {
         source = all_push (λ (x : BasisEntry). x.source ≡ r.source) r.entries e old.source next.source;
         entries = all_push IsBasisEntry r.entries e old.entries next.entry;
@@ -107,4 +108,12 @@ saved p gens es known are b all = record {
   entries = b.entries;
   over = b.over;
   within = b.within;
+}
+
+-- what is read stays so with an entry that fits in
+pub with_reading : (r : ReadSoFar) (e : BasisEntry) → IsReading r → FitsIn r e → IsReading (record r { entries = r.entries ++ e ∷ [] })
+with_reading r e reading fits = record {
+  base = reading.base;
+  beginning = subst (λ g. IsBeginning r.source g (r.entries ++ e ∷ []))
+      (one_generating r.source fits.0 reading.base.gens fits.1 reading.base.generators) fits.2;
 }

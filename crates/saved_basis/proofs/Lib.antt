@@ -5,9 +5,11 @@ pub mod Strength
 -- what comes of lines
 pub mod Passing
 pub mod Making
-pub mod Turns
+pub mod NextLines
 pub mod Texts
+pub mod Reads
 -- what comes of tasks
+pub mod Named
 pub mod Testing
 -- texts that are written
 pub mod Written

@@ -81,7 +81,7 @@ pub next_generator : (r : ReadSoFar) (gens : List (List Term)) (negated : Bool) 
 next_generator r gens negated v e turn of known is = record {
   source = of.source;
   vector = sym is.0;
-  made = ap made_by is.1;
+  recipe = ap made_by is.1;
   entry = known;
   over = generator_over r.source (length r.entries) (vector_at gens (length r.entries)) e known of;
   begins = λ lt. of;
@@ -141,7 +141,7 @@ next_sum r gens ss v e turn over value known is =
     record {
       source = source;
       vector = vector;
-      made = ap made_by recipe;
+      recipe = ap made_by recipe;
       entry = known;
       over = record {
         vector = subst (λ (q : Presented). VectorIsOver (length q.names) e.vector) source known.over;
@@ -150,3 +150,11 @@ next_sum r gens ss v e turn over value known is =
       begins = λ lt. absurd (omega (arith, lt, turn));
       later = λ le. record { steps = ss; recipe = recipe; value = subst (IsValue (vectors_of r.entries) ss) (sym vector) value };
     }
+
+pub turned_then : (r m n t : Bool) → r ≡ m → r ≡ true → t ≡ not n → t ≡ (if m then not n else n)
+turned_then r true n t e on is = is
+turned_then r false n t e on is = absurd cc
+
+pub turned_else : (r m n t : Bool) → r ≡ m → r ≡ false → t ≡ n → t ≡ (if m then not n else n)
+turned_else r true n t e off is = absurd cc
+turned_else r false n t e off is = is

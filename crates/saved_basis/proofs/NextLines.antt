@@ -1,17 +1,22 @@
 -- Lines that aren't those of a next entry.
 use Rattle.std.proofs.Common.{◌≡◌, ℕ, ◌+◌, ◌<◌, ◌≤◌, List, [], ◌∷◌, ◌++◌, length, None, refl, sym, ap, subst, ◌∙◌, arith}
-use Rattle.std.specs.Prelude.{Result, Ok, Err}
+use Rattle.std.proofs.Common.{Bool, true, false, not, inl, inr}
+use Rattle.std.proofs.lemmas.List.{length-map}
+use Rattle.std.specs.Prelude.{Result, Ok, Err, ◌↔◌, IsTrue}
 use Rattle.spelling.specs.Spelling.{IsRead}
 use Rattle.presentation.specs.Presented.{Presented, IsPresented}
 use Rattle.module_vec.specs.declared.places.Term.{Term}
+use Rattle.module_vec.specs.declared.steps.Step.{Step}
 use Rattle.report_lines.specs.declared.lines.Made.{Made}
+use Rattle.report_lines.specs.declared.lines.Made.TheVariants.{Gen, Sum}
+use Rattle.cert_checker.specs.States.{AreNear, IsInTurn}
 use Rattle.report_lines.specs.declared.lines.Line.{Line}
 use Rattle.report_lines.specs.declared.lines.Line.TheVariants as lines
 use Rattle.report_lines.specs.Lines.{IsLineOf}
 use Rattle.report_lines.specs.Texts.{line_text}
 use Rattle.report_lines.proofs.ReadingBack.{one_line}
 use Rattle.fox_calculus.specs.Generators.{AreGenerators}
-use Rattle.basis_entry.specs.Entries.{BasisEntry}
+use Rattle.basis_entry.specs.Entries.{BasisEntry, vectors_of}
 use Rattle.report_text.specs.Histories.{made_by}
 use Rattle.saved_basis.specs.declared.TheConstants.{ENTRIES}
 use Rattle.saved_basis.specs.declared.faults.LineKind.{LineKind}
@@ -23,10 +28,11 @@ use Rattle.saved_basis.specs.Lines.{MayStand, IsEntryLine, IsLastLine, MadeFails
 use Rattle.saved_basis.specs.Readers.{ReadSoFar, IsReading, IsEnd, IsTextFault, CanBeNext, IsNextEntry, FitsIn, TakesEntry}
 use Rattle.saved_basis.proofs.Beginning.{one_more}
 use Rattle.saved_basis.proofs.Making.{same_count}
+use Rattle.saved_basis.proofs.Ranges.{le_or_less}
 
-module _ (r : ReadSoFar) (gens : List (List Term)) (bytes : List ℕ) (open : IsEnd r bytes → ⊥) (same : length r.generators ≡ length gens) where
+module _ (r : ReadSoFar) (gens : List (List Term)) (bytes : List ℕ) (unended : IsEnd r bytes → ⊥) (same : length r.generators ≡ length gens) where
   not_last : IsLastLine gens r.entries bytes → ⊥
-  not_last h = open (h.1, omega (arith, same, h.0))
+  not_last h = unended (h.1, omega (arith, same, h.0))
 
   pub full : ENTRIES ≤ length r.entries → IsTextFault r.source gens r.entries bytes Text
   full le = (refl, (λ made v l. absurd (let m = l.may.entries in omega (arith, m, le)), not_last))
@@ -73,7 +79,7 @@ only_fault A B F faults.NoMemory h = tt
 pub can_be_next : (r : ReadSoFar) (reading : IsReading r) (bytes : List ℕ) (made : Made) (v : List Term)
     → IsEntryLine r.source reading.base.gens r.entries bytes made v → CanBeNext r made v
 can_be_next r reading bytes made v line = record {
-  made = line.valid.1.0;
+  written = line.valid.1.0;
   gens = reading.base.gens;
   generators = reading.base.generators;
   may = line.may;
@@ -93,5 +99,61 @@ taken r gens bytes made v e t line next is = record {
   entry = e;
   is = is;
   spelled = line.spelled
-      ∙ (λ i. line_text r.source (lines.Entry (length r.entries) (sym next.made i) (sym next.vector i)));
+      ∙ (λ i. line_text r.source (lines.Entry (length r.entries) (sym next.recipe i) (sym next.vector i)));
 }
+
+-- ---- whose turn it is
+
+not_both : (g e : ℕ) → g ≤ e → e < g → ⊥
+not_both g e le lt = omega (arith, le, lt)
+
+pub gen_turn : (r : ReadSoFar) → IsReading r → (h : Bool) (made : Made) (n : Bool) → made ≡ Gen n → IsTrue h ↔ (length r.generators ≤ length r.entries)
+    → (gens : List (List Term)) → AreGenerators r.source gens → IsTrue (not h) ↔ IsInTurn gens (vectors_of r.entries) made
+gen_turn r reading h made n is has gens are =
+    let long = length-map r.entries (λ (e : BasisEntry). e.vector) in
+    let same = same_count r.source r.generators reading.base gens are in
+    subst (λ (m : Made). IsTrue (not h) ↔ IsInTurn gens (vectors_of r.entries) m) (sym is) (by h has)
+  where
+    by : (h : Bool) → IsTrue h ↔ (length r.generators ≤ length r.entries) → IsTrue (not h) ↔ IsInTurn gens (vectors_of r.entries) (Gen n)
+    by true has = (
+      λ no. absurd (let wrong : false ≡ true = no in cc),
+      λ turn. absurd (let le = has.0 refl in
+          omega (arith, le, turn, length-map r.entries (λ (e : BasisEntry). e.vector), same_count r.source r.generators reading.base gens are)),
+    )
+    by false has = (
+      λ yes. elim (le_or_less (length r.generators) (length r.entries)) [
+        | inl le ↦ absurd (let wrong : false ≡ true = has.1 le in cc)
+        | inr lt ↦ omega (arith, lt, length-map r.entries (λ (e : BasisEntry). e.vector), same_count r.source r.generators reading.base gens are)
+      ],
+      λ turn. refl,
+    )
+
+pub sum_turn : (r : ReadSoFar) → IsReading r → (a : Bool) (made : Made) (steps : List Step) → made ≡ Sum steps → length r.generators ≤ length r.entries
+    → IsTrue a ↔ AreNear (vectors_of r.entries) steps
+    → (gens : List (List Term)) → AreGenerators r.source gens → IsTrue a ↔ IsInTurn gens (vectors_of r.entries) made
+sum_turn r reading a made steps is le near gens are =
+    let long = length-map r.entries (λ (e : BasisEntry). e.vector) in
+    let same = same_count r.source r.generators reading.base gens are in
+    subst (λ (m : Made). IsTrue a ↔ IsInTurn gens (vectors_of r.entries) m) (sym is)
+    ((λ yes. (omega (arith, le, long, same), near.0 yes)), λ turn. near.1 turn.1)
+
+pub no_turn : (r : ReadSoFar) → IsReading r → (h : Bool) (made : Made) (steps : List Step) → made ≡ Sum steps → h ≡ false
+    → IsTrue h ↔ (length r.generators ≤ length r.entries)
+    → (gens : List (List Term)) → AreGenerators r.source gens → IsTrue h ↔ IsInTurn gens (vectors_of r.entries) made
+no_turn r reading h made steps is off has gens are =
+    let long = length-map r.entries (λ (e : BasisEntry). e.vector) in
+    let same = same_count r.source r.generators reading.base gens are in
+    subst (λ (m : Made). IsTrue h ↔ IsInTurn gens (vectors_of r.entries) m) (sym is)
+    ((λ yes. absurd (let wrong : false ≡ true = sym off ∙ yes in cc)), λ turn. let t = turn.0 in has.1 (omega (arith, t, long, same)))
+
+-- an entry that isn't the next one
+pub cant_stand : (gens : List (List Term)) (es : List BasisEntry) (number : ℕ) (made : Made) (v : List Term) (l : Line) → l ≡ lines.Entry number made v
+    → (b : Bool) → IsTrue b ↔ ((number ≡ length es) × MayStand gens es made v) → b ≡ false
+    → (m : Made) (w : List Term) → l ≡ lines.Entry (length es) m w → MayStand gens es m w → ⊥
+cant_stand gens es number made v l is b test off m w other may =
+    let parts = same_parts number (length es) made m v w (sym is ∙ other) in
+    let yes = test.1 (parts.0, subst (λ (x : Made). MayStand gens es x v) (sym parts.1) (subst (λ (x : List Term). MayStand gens es m x) (sym parts.2) may)) in
+    let wrong : false ≡ true = sym off ∙ yes in cc
+  where
+    same_parts : (i j : ℕ) (m n : Made) (v w : List Term) → lines.Entry i m v ≡ lines.Entry j n w → (i ≡ j) × (m ≡ n) × (v ≡ w)
+    same_parts i j m n v w e = (cc, cc, cc)

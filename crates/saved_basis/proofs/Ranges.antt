@@ -90,7 +90,7 @@ sum_over p b e entries source known is =
 
 -- ---- all entries
 
-le_or_less : (m k : ℕ) → (m ≤ k) ⊎ (k < m)
+pub le_or_less : (m k : ℕ) → (m ≤ k) ⊎ (k < m)
 le_or_less zero k = inl (omega arith)
 le_or_less (suc m) zero = inr (omega arith)
 le_or_less (suc m) (suc k) = elim (le_or_less m k) [

@@ -1,13 +1,13 @@
 -- How the test of tasks goes on, and what its faults tell.
 use Rattle.std.proofs.Common.{◌≡◌, ◌≢◌, ℕ, ◌+◌, ◌<◌, ◌≤◌, ◌⊎◌, inl, inr, Bool, true, false, List, [], length, ◌==◌, refl, sym, ap, subst, ◌∙◌, arith}
-use Rattle.std.specs.Prelude.{Option, Some, None, IsTrue, Result, Ok, Err, MatchResult}
+use Rattle.std.specs.Prelude.{IsTrue, ◌↔◌, ℤ, Result, Ok, Err, MatchResult}
 use Rattle.module_vec.specs.declared.places.Term.{Term}
 use Rattle.module_vec.specs.Vectors.{coefficient_at}
 use Rattle.outcomes.specs.declared.kinds.PairKind.{PairKind}
 use Rattle.outcomes.specs.declared.kinds.PairKind.TheVariants.{S, G}
 use Rattle.outcomes.specs.declared.tasks.Task.{Task}
 use Rattle.reduce_cofactor.specs.Answers.{IsRest}
-use Rattle.strong_pairs.specs.Covering.{FindsCover}
+use Rattle.strong_pairs.specs.Covering.{Divides}
 use Rattle.strong_pairs.specs.Pairs.{IsPair}
 use Rattle.strong_pairs.specs.Tasks.{IsClosedFromStart}
 use Rattle.strong_pairs.proofs.Coverage.{order_of}
@@ -74,10 +74,10 @@ not_twice e = cc
 module _ (b : List (List Term)) (i j : ℕ) (pair : IsPair b i j) where
   pub first_fails : (IsClosedFromStart b G i j → ⊥) → (fault : BasisFault) → TellsTask b (record { i = i; j = j; kind = G }) fault
       → TellsFirst (IsOfPair i j) b fault
-  first_fails open fault h = tells_first b (IsOfPair i j) (record { i = i; j = j; kind = G }) fault (record {
+  first_fails unsettled fault h = tells_first b (IsOfPair i j) (record { i = i; j = j; kind = G }) fault (record {
     pair = pair;
     of = (refl, refl);
-    needed = open;
+    needed = unsettled;
     before = λ u other of before. absurd (by u of before);
   }) h
     where
@@ -106,6 +106,19 @@ module _ (b : List (List Term)) (i j : ℕ) (pair : IsPair b i j) where
       by : (kind : PairKind) → t.kind ≡ kind → Passes b t
       by G e = subst (Passes b) (sym (same_task t i j G of.1 of.0 e)) one
       by S e = subst (Passes b) (sym (same_task t i j S of.1 of.0 e)) (inr two)
+
+  -- what is answered of the one task and of the other
+  pub first_result : (IsClosedFromStart b G i j → ⊥) → (r : Result (Unit {0}) BasisFault)
+      → MatchResult r (λ _. AddsNothing b (record { i = i; j = j; kind = G })) (TellsTask b (record { i = i; j = j; kind = G }))
+      → MatchResult r (λ _. Passes b (record { i = i; j = j; kind = G })) (TellsFirst (IsOfPair i j) b)
+  first_result unsettled (Ok u) h = inr h
+  first_result unsettled (Err e) h = first_fails unsettled e h
+
+  pub second_result : Passes b (record { i = i; j = j; kind = G }) → (r : Result (Unit {0}) BasisFault)
+      → MatchResult r (λ _. AddsNothing b (record { i = i; j = j; kind = S })) (TellsTask b (record { i = i; j = j; kind = S }))
+      → MatchResult r (λ _. PassWhere (IsOfPair i j) b) (TellsFirst (IsOfPair i j) b)
+  second_result passes (Ok u) h = pair_passes passes h
+  second_result passes (Err e) h = second_fails passes e h
 
 -- ---- a row, and all rows
 
@@ -163,3 +176,15 @@ module _ (b : List (List Term)) where
 
   pub rows_pass : (j : ℕ) → length b ≤ j → PassWhere (IsInRows j) b → AllPass b
   rows_pass j all before t pair = before t pair (let w = pair.within in omega (arith, w, all))
+
+-- ---- divisors
+
+pub settled : (k l x y : ℤ) → k ≡ x → l ≡ y → (b d : Bool) → IsTrue b ↔ Divides k l → b ≡ false → IsTrue d ↔ Divides l k
+    → IsTrue d ↔ (Divides x y ⊎ Divides y x)
+settled k l x y e f b d one off two =
+    subst (λ (u : ℤ). IsTrue d ↔ (Divides u y ⊎ Divides y u)) e (subst (λ (v : ℤ). IsTrue d ↔ (Divides k v ⊎ Divides v k)) f
+    ((λ yes. inr (two.0 yes)), by))
+  where
+    by : Divides k l ⊎ Divides l k → IsTrue d
+    by (inl h) = absurd (let wrong : false ≡ true = sym off ∙ one.1 h in cc)
+    by (inr h) = two.1 h

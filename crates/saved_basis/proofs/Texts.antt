@@ -6,7 +6,7 @@ use Rattle.spelling.proofs.Cuts.{cut_joins}
 use Rattle.presentation.specs.Presented.{Presented}
 use Rattle.module_vec.specs.declared.places.Term.{Term}
 use Rattle.fox_calculus.specs.Generators.{AreGenerators}
-use Rattle.report_lines.specs.declared.lines.Line.{Line}
+use Rattle.report_lines.specs.declared.lines.Line.{Line as ALine}
 use Rattle.report_lines.specs.declared.lines.Line.TheVariants as lines
 use Rattle.report_lines.specs.Texts.{pres_line, line_text, lines_text}
 use Rattle.basis_entry.specs.Entries.{BasisEntry}
@@ -14,8 +14,11 @@ use Rattle.report_text.specs.Histories.{entry_lines, made_by}
 use Rattle.report_text.proofs.Written.{lines_append}
 use Rattle.saved_basis.specs.declared.faults.LineKind.{LineKind}
 use Rattle.saved_basis.specs.declared.faults.LineKind.TheVariants.{Text}
+use Rattle.saved_basis.specs.declared.faults.BasisFault.{BasisFault}
+use Rattle.saved_basis.specs.declared.faults.BasisFault.TheVariants.{Line}
 use Rattle.saved_basis.specs.Files.{IsBeginning, title, last_line, begun_text, basis_text}
 use Rattle.saved_basis.specs.Lines.{LineFails, IsOther, CantFollow, IsFirstFault, FailsAt}
+use Rattle.saved_basis.specs.Reading.{HeadFails}
 
 -- ---- the head
 
@@ -68,7 +71,7 @@ lines_more : (p : Presented) (es : List BasisEntry) (e : BasisEntry) (others : L
     → lines_text p (entry_lines 0 es) ++ (line_text p (lines.Entry (length es) (made_by e.recipe) e.vector) ++ 10 ∷ others)
     ≡ lines_text p (entry_lines 0 (es ++ e ∷ [])) ++ others
 lines_more p es e others =
-    let l : Line = lines.Entry (length es) (made_by e.recipe) e.vector in
+    let l : ALine = lines.Entry (length es) (made_by e.recipe) e.vector in
     let number : 0 + length es ≡ length es = omega arith in
     let more : entry_lines 0 (es ++ e ∷ []) ≡ entry_lines 0 es ++ l ∷ [] =
     entry_lines_push 0 es e ∙ ap (λ n. entry_lines 0 es ++ lines.Entry n (made_by e.recipe) e.vector ∷ []) number in
@@ -121,3 +124,8 @@ module _ (p : Presented) (gens : List (List Term)) (text : List ℕ) (are : AreG
       are = are;
       fault = subst (λ m. IsFirstFault p gens text m Text) (sym e) (IsFirstFault.after_last es others b all (ended last) some);
     }
+
+-- the fault of the head
+pub head_at : (p : Presented) (text : List ℕ) (n : ℕ) (fault : BasisFault) → fault ≡ Line n Text → ((gens : List (List Term)) → IsFirstFault p gens text n Text)
+    → HeadFails p text fault
+head_at p text n fault e h = subst (HeadFails p text) (sym e) h

@@ -42,7 +42,7 @@ IsTextFault p gens es bytes k = (k ≡ Text) × LineFails p gens es bytes Text
 
 -- an entry of this making may be the next one
 pub record CanBeNext (r : ReadSoFar) (made : Made) (v : List Term) : Type 0 where
-  pub made : IsMadeOf (length r.source.names) made
+  pub written : IsMadeOf (length r.source.names) made
   pub gens : List (List Term)
   pub generators : AreGenerators r.source gens
   pub may : MayStand gens r.entries made v
@@ -52,7 +52,7 @@ pub record IsNextEntry (r : ReadSoFar) (gens : List (List Term)) (made : Made) (
     (e : BasisEntry) : Type 0 where
   pub source : e.source ≡ r.source
   pub vector : e.vector ≡ v
-  pub made : made_by e.recipe ≡ made
+  pub recipe : made_by e.recipe ≡ made
   pub entry : IsBasisEntry e
   pub over : EntryIsOver (length r.source.names) e
   pub begins : length r.entries < length gens

@@ -7,6 +7,7 @@
 #![tactic(auto)]
 
 mod faults;
+mod heads;
 pub mod laws;
 mod lines;
 mod reader;

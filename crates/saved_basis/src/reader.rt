@@ -15,6 +15,7 @@ ghost use Rattle.saved_basis.specs.Lines.{MadeFails, LineFails, Outcome};
 ghost use Rattle.saved_basis.specs.Readers.{IsReading, CanBeNext, IsNextEntry, FitsIn, TakesEntry, IsEnd};
 
 use crate::faults::LineFault;
+use crate::heads::is_last_line;
 use crate::lines::{generator_agrees, recipe_agrees};
 use crate::turns::EntryLine;
 use basis_entry::{Entry, Items, Recipe};
@@ -61,7 +62,7 @@ impl<'a> Model for Reader<'a> {
 impl<'a> Reader<'a> {
     /// Before the first entry.
     pub fn new(alloc: Global, p: &'a Arc<Presentation>) -> Result<Reader<'a>, AllocError>
-        ensures { IfOk result (λ r. (r.source ≡ arc_value p.entry.now) × (r.entries ≡ [])) }
+        ensures { IfOk result (λ r. (r.source ≡ arc_value p.entry.now) × (r.entries ≡ []) × IsReading r) }
     {
         p.known();
         let generators = Entry::base(alloc, p)?;
@@ -82,12 +83,27 @@ impl<'a> Reader<'a> {
         self.entries.len() as u32 + 3
     }
 
+    /// What holds of every reader. The call does nothing.
+    pub fn known(&self)
+        ensures { IsReading self.now }
+    {
+        let _terms = self.terms;
+    }
+
+    /// Whether every generator has its entry.
+    pub fn has_generators(&self) -> bool
+        ensures { IsTrue result ↔ (length self.now.generators ≤ length self.now.entries) }
+    {
+        self.generators.len() <= self.entries.len()
+    }
+
     /// Whether this is the last line, and every generator has its entry.
     pub fn is_last(&self, bytes: &[u8]) -> bool
         ensures is { IsTrue result ↔ IsEnd self.now bytes.now }
         ensures reading { IsReading self.now }
     {
-        bytes == b"done".as_slice() && self.generators.len() <= self.entries.len()
+        self.known();
+        is_last_line(bytes) && self.has_generators()
     }
 
     /// The entries that were read.
@@ -99,7 +115,7 @@ impl<'a> Reader<'a> {
 
     /// Takes the bytes of a line, which has to be that of an entry.
     pub fn take(self, alloc: Global, bytes: &[u8]) -> Result<Reader<'a>, LineFault>
-        requires { IsEnd self.entry bytes.now → ⊥ }
+        requires { IsEnd self bytes.now → ⊥ }
         ensures { (gens : List (List Term)) → AreGenerators self.entry.source gens →
             Outcome (TakesEntry self.entry bytes.now)
             (LineFails self.entry.source gens self.entry.entries bytes.now) result }
@@ -116,6 +132,7 @@ impl<'a> Reader<'a> {
             Outcome (λ e. IsNextEntry self.now gens line.made line.vector (arc_value e))
             (MadeFails gens self.now.entries line.made line.vector) result }
     {
+        self.known();
         let EntryLine { made, vector, .. } = line;
         match made {
             Made::Gen { negated } => self.generator(alloc, negated, &vector),
@@ -136,6 +153,7 @@ impl<'a> Reader<'a> {
             Outcome (λ e. IsNextEntry self.now gens (made.Gen negated) vector.now (arc_value e))
             (MadeFails gens self.now.entries (made.Gen negated) vector.now) result }
     {
+        self.known();
         let entry = &self.generators[self.entries.len()];
         entry.known();
         generator_agrees(alloc, entry, negated, vector)?;
@@ -152,6 +170,7 @@ impl<'a> Reader<'a> {
             Outcome (λ e. IsNextEntry self.now gens (made.Sum steps) vector (arc_value e))
             (MadeFails gens self.now.entries (made.Sum steps) vector) result }
     {
+        self.known();
         let list = Items::of(&self.entries, None);
         recipe_agrees(alloc, &list, steps.steps(), &vector)?;
         let entry = Entry::sum(alloc, self.p, &list, vector, steps)?;

@@ -10,6 +10,7 @@ ghost use Rattle.saved_basis.specs.Files.{title};
 ghost use Rattle.saved_basis.specs.Reading.{IsFileOf, TellsLine, HeadFails, ReadsBasis, FaultIsOver};
 
 use crate::faults::LineFault;
+use crate::heads::is_title;
 use crate::reader::Reader;
 use crate::tasks::test_tasks;
 use crate::{BasisFault, LineKind};
@@ -36,6 +37,7 @@ pub fn read_basis(
     // A place that is named is over the presentation's generators, so it can be written.
     ensures over { IfErr result (FaultIsOver (length (arc_value p.now).names)) }
 {
+    p.known();
     let entries = read_entries(alloc, p, text)?;
     let items = Items::of(&entries, None);
     let index = Index::of_list(alloc, &items)?;
@@ -52,8 +54,9 @@ fn read_entries(
     ensures { MatchResult result (λ es. IsFileOf (arc_value p.now) text.now (map arc_value es.items))
         (TellsLine (arc_value p.now) text.now) }
 {
-    let mut rest = behind_head(alloc, p, text)?;
+    p.known();
     let mut reader = Reader::new(alloc, p)?;
+    let mut rest = behind_head(alloc, p, text)?;
     while let Some((line, others)) = cut(rest, b'\n') {
         if reader.is_last(line) {
             return ended(reader, others);
@@ -80,7 +83,7 @@ fn behind_head<'t>(
     let Some((first, others)) = cut(text, b'\n') else {
         return Err(no_text(1));
     };
-    if first != b"metab basis 1".as_slice() {
+    if !is_title(first) {
         return Err(no_text(1));
     }
     let Some((second, body)) = cut(others, b'\n') else {

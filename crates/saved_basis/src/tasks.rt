@@ -5,7 +5,7 @@ ghost use Rattle.strong_pairs.specs.Pairs.{IsPair};
 ghost use Rattle.strong_pairs.specs.Tasks.{IsClosedFromStart};
 ghost use Rattle.outcomes.specs.declared.kinds.PairKind.TheVariants as kinds;
 ghost use Rattle.pair_work.specs.Works.{IsUncovered, HaltsBy};
-ghost use Rattle.saved_basis.specs.Tasks.{AddsNothing, AllPass, IsAny, IsOfRow, IsOfPair, PassWhere, TellsFirst};
+ghost use Rattle.saved_basis.specs.Tasks.{AddsNothing, Passes, AllPass, IsAny, IsOfRow, IsOfPair, PassWhere, TellsFirst};
 ghost use Rattle.saved_basis.specs.Tasks.{TellsTask, EndsIn};
 
 use crate::BasisFault;
@@ -46,20 +46,40 @@ fn test_pair<L: VecList>(alloc: Global, list: &L, i: u32, j: u32) -> Result<(), 
     ensures { let b = L.vectors list.now in
         MatchResult result (λ _. PassWhere (IsOfPair i j) b) (TellsFirst (IsOfPair i j) b) }
 {
-    let first = Task {
+    test_first(alloc, list, i, j)?;
+    test_second(alloc, list, i, j)
+}
+
+/// The G task of a pair, unless it is closed from the start.
+fn test_first<L: VecList>(alloc: Global, list: &L, i: u32, j: u32) -> Result<(), BasisFault>
+    requires { IsPair (L.vectors list.now) i j }
+    ensures { let b = L.vectors list.now in
+        MatchResult result (λ _. Passes b (record { i = i; j = j; kind = kinds.G })) (TellsFirst (IsOfPair i j) b) }
+{
+    if starts_closed(list, i, j) {
+        return Ok(());
+    }
+    let task = Task {
         i,
         j,
         kind: PairKind::G,
     };
-    if !starts_closed(list, i, j) {
-        test_task(alloc, list, first)?;
-    }
-    let second = Task {
+    test_task(alloc, list, task)
+}
+
+/// The S task of a pair, where the G task passes.
+fn test_second<L: VecList>(alloc: Global, list: &L, i: u32, j: u32) -> Result<(), BasisFault>
+    requires pair { IsPair (L.vectors list.now) i j }
+    requires first { Passes (L.vectors list.now) (record { i = i; j = j; kind = kinds.G }) }
+    ensures { let b = L.vectors list.now in
+        MatchResult result (λ _. PassWhere (IsOfPair i j) b) (TellsFirst (IsOfPair i j) b) }
+{
+    let task = Task {
         i,
         j,
         kind: PairKind::S,
     };
-    test_task(alloc, list, second)
+    test_task(alloc, list, task)
 }
 
 /// Whether the G task of a pair is closed from the start: one lead coefficient divides the other.

@@ -59,6 +59,7 @@ impl<'a> Reader<'a> {
             (IsTextFault self.now.source gens self.now.entries bytes.now) result }
     {
         self.p.known();
+        self.known();
         if self.entries.len() >= ENTRIES as usize {
             return Err(LineFault::Fails(LineKind::Text));
         }
@@ -78,8 +79,8 @@ impl<'a> Reader<'a> {
     fn may_stand(&self, line: &EntryLine) -> bool
         requires { length self.now.entries < ENTRIES }
         ensures { (gens : List (List Term)) → AreGenerators self.now.source gens → IsTrue result
-            ↔ (line.now.number ≡ length self.now.entries)
-            × MayStand gens self.now.entries line.now.made line.now.vector }
+            ↔ ((line.now.number ≡ length self.now.entries)
+            × MayStand gens self.now.entries line.now.made line.now.vector) }
     {
         line.number as usize == self.entries.len()
             && self.is_in_turn(&line.made)
@@ -92,19 +93,19 @@ impl<'a> Reader<'a> {
         ensures { (gens : List (List Term)) → AreGenerators self.now.source gens → IsTrue result
             ↔ IsInTurn gens (vectors_of self.now.entries) made.now }
     {
+        self.known();
         match made {
-            Made::Gen { .. } => self.entries.len() < self.generators.len(),
+            Made::Gen { .. } => !self.has_generators(),
             Made::Sum { steps } => {
-                self.generators.len() <= self.entries.len()
-                    && are_near(&Items::of(&self.entries, None), steps.steps())
+                self.has_generators() && are_near(&Items::of(&self.entries, None), steps.steps())
             }
         }
     }
 
     /// Whether the limits are kept with it.
     fn has_room(&self, made: &Made, vector: &ModVec) -> bool
-        ensures { IsTrue result ↔ (terms_of self.now.entries + length vector.now ≤ LOG_TERMS)
-            × (steps_of self.now.entries + made_steps made.now ≤ LOG_STEPS) }
+        ensures { IsTrue result ↔ ((terms_of self.now.entries + length vector.now ≤ LOG_TERMS)
+            × (steps_of self.now.entries + made_steps made.now ≤ LOG_STEPS)) }
     {
         vector.terms().len() <= (LOG_TERMS - self.terms) as usize
             && made_steps(made) <= (LOG_STEPS - self.steps) as usize
