@@ -7,7 +7,7 @@ pub mod Passing
 pub mod Making
 pub mod NextLines
 pub mod Texts
-pub mod Reads
+pub mod EachLine
 -- what comes of tasks
 pub mod Named
 pub mod Testing

@@ -1,9 +1,11 @@
 -- Entries that are what they are made to be.
-use Rattle.std.proofs.Common.{◌≡◌, ◌≢◌, ℕ, ◌+◌, ◌<◌, ◌≤◌, Bool, true, false, not, if◌then◌else◌, ℤ, pos, negsuc, neg_ℤ, ◌*ℤ◌, MatchBool, List, [], ◌∷◌, length}
+use Rattle.std.proofs.Common.{◌≡◌, ◌≢◌, ℕ, ◌+◌, ◌<◌, ◌≤◌, Bool, true, false, not, if◌then◌else◌, ℤ, pos, negsuc, neg_ℤ, ◌*ℤ◌, MatchBool, List, [], ◌∷◌, length, map, get_or}
 use Rattle.std.proofs.Common.{refl, sym, ap, subst, ◌∙◌, arith}
 use borrow.Author.Differences.{ints}
 use Rattle.std.specs.Prelude.{◌<ℤ◌, Some}
 use Rattle.std.specs.List.{AllByRecursion, slice_get}
+use Rattle.std.specs.Option.{option_map}
+use Rattle.std.proofs.lemmas.Option.{slice_get-map, slice_get_read}
 use Rattle.formal_sums.specs.FormalSum.{scale}
 use Rattle.laurent_terms.specs.declared.TheConstants.{VARIABLES}
 use Rattle.presentation.specs.Presented.{Presented}
@@ -87,6 +89,10 @@ next_generator r gens negated v e turn of known is = record {
   begins = λ lt. of;
   later = λ le. absurd (omega (arith, turn, le));
 }
+
+-- the item of a list that is read by its number
+pub read_map : {X Y : Type 0} (f : X → Y) (xs : List X) (i : ℕ) (x : X) → i < length xs → x ≡ get_or xs i x → slice_get (map f xs) i ≡ Some (f x)
+read_map f xs i x lt is = slice_get-map f xs i ∙ ap (option_map f) (slice_get_read xs (length xs) i x refl lt is)
 
 -- the entry number k of the generators, by any list of them
 pub of_generator : (p : Presented) (base : List BasisEntry) (are : AreBase p base) (gens : List (List Term)) → AreGenerators p gens → (k : ℕ) (e : BasisEntry)

@@ -7,6 +7,10 @@ use Rattle.spelling.specs.Spelling.{IsRead}
 use Rattle.presentation.specs.Presented.{Presented, IsPresented}
 use Rattle.module_vec.specs.declared.places.Term.{Term}
 use Rattle.module_vec.specs.declared.steps.Step.{Step}
+use Rattle.module_vec.specs.Vectors.{coefficient_at}
+use Rattle.step_lists.specs.declared.way.Way.TheVariants.{Add}
+use Rattle.step_lists.specs.Sums.{zero_vector}
+use Rattle.cert_checker.specs.Checking.{StepsLead}
 use Rattle.report_lines.specs.declared.lines.Made.{Made}
 use Rattle.report_lines.specs.declared.lines.Made.TheVariants.{Gen, Sum}
 use Rattle.cert_checker.specs.States.{AreNear, IsInTurn}
@@ -75,6 +79,29 @@ made_fails r gens bytes taken made v faults.NoMemory line h = tt
 pub only_fault : {X Y : Type 0} (A : X → Type 0) (B : Y → Type 0) (F : LineKind → Type 0) (e : LineFault) → Outcome A F (Err e) → Outcome B F (Err e)
 only_fault A B F (faults.Fails k) h = h
 only_fault A B F faults.NoMemory h = tt
+
+-- the same, where it is told of an equal fault
+pub fault_goes : {X Y : Type 0} (r : Result X LineFault) (A : X → Type 0) (B : Y → Type 0) (F : LineKind → Type 0) (e f : LineFault) → r ≡ Err e → e ≡ f
+    → Outcome B F (Err f) → Outcome A F r
+fault_goes r A B F e f is same h = subst (Outcome A F) (sym is) (only_fault B A F e (subst (λ (x : LineFault). Outcome B F (Err x)) (sym same) h))
+
+pub sum_fails : {X : Type 0} (result : Result X LineFault) (A : X → Type 0) (r : ReadSoFar) (gens : List (List Term)) (steps ss : List Step)
+    (es : List BasisEntry) (v : List Term) (e f : LineFault) → result ≡ Err e → e ≡ f → es ≡ r.entries → ss ≡ steps
+    → Outcome {X = Unit {0}} (λ _. StepsLead Add (vectors_of es) zero_vector ss (coefficient_at v)) (MadeFails gens es (Sum ss) v) (Err f)
+    → Outcome A (MadeFails gens r.entries (Sum steps) v) result
+sum_fails result A r gens steps ss es v e f is same list all h =
+    subst (λ (ts : List Step). Outcome A (MadeFails gens r.entries (Sum ts) v) result) all
+    (subst (λ (xs : List BasisEntry). Outcome A (MadeFails gens xs (Sum ss) v) result) list
+    (fault_goes result A (λ (u : Unit {0}). StepsLead Add (vectors_of es) zero_vector ss (coefficient_at v)) (MadeFails gens es (Sum ss) v) e f is same h))
+
+pub entry_fails : {X : Type 0} (result : Result ReadSoFar LineFault) (r : ReadSoFar) (gens : List (List Term)) (bytes : List ℕ) (made : Made)
+    (v : List Term) (B : X → Type 0) (e f : LineFault) → result ≡ Err e → e ≡ f → IsEntryLine r.source gens r.entries bytes made v
+    → Outcome B (MadeFails gens r.entries made v) (Err f) → Outcome (TakesEntry r bytes) (LineFails r.source gens r.entries bytes) result
+entry_fails result r gens bytes made v B e f is same line h =
+    subst (Outcome (TakesEntry r bytes) (LineFails r.source gens r.entries bytes)) (sym is)
+    (made_fails r gens bytes (TakesEntry r bytes) made v e line
+    (only_fault B (λ (u : Unit {0}). Unit {0}) (MadeFails gens r.entries made v) e
+    (subst (λ (x : LineFault). Outcome B (MadeFails gens r.entries made v) (Err x)) (sym same) h)))
 
 pub can_be_next : (r : ReadSoFar) (reading : IsReading r) (bytes : List ℕ) (made : Made) (v : List Term)
     → IsEntryLine r.source reading.base.gens r.entries bytes made v → CanBeNext r made v

@@ -1,11 +1,11 @@
 -- How the lines of a file are read, one after another.
 use Rattle.std.proofs.Common.{◌≡◌, ◌≢◌, ℕ, ◌+◌, ◌≤◌, List, [], ◌∷◌, ◌++◌, length, Some, None, refl, sym, ap, subst, ◌∙◌, arith}
-use Rattle.std.specs.Prelude.{Result, Ok, Err, MatchResult}
+use Rattle.std.specs.Prelude.{Result, Ok, Err, MatchResult, IfErr}
 use Rattle.spelling.specs.Spelling.{cut}
 use Rattle.presentation.specs.Presented.{Presented, IsPresented}
 use Rattle.module_vec.specs.declared.places.Term.{Term}
 use Rattle.fox_calculus.specs.Generators.{AreGenerators}
-use Rattle.basis_entry.specs.Entries.{BasisEntry}
+use Rattle.basis_entry.specs.Entries.{BasisEntry, vectors_of}
 use Rattle.saved_basis.specs.declared.faults.LineKind.TheVariants.{Text}
 use Rattle.saved_basis.specs.declared.faults.LineFault.{LineFault}
 use Rattle.saved_basis.specs.declared.faults.LineFault.TheVariants as faults
@@ -15,10 +15,18 @@ use Rattle.saved_basis.specs.Faults.{of_line}
 use Rattle.saved_basis.specs.Files.{begun_text, last_line}
 use Rattle.saved_basis.specs.Lines.{LineFails, Outcome}
 use Rattle.saved_basis.specs.Readers.{ReadSoFar, IsReading, IsEnd, TakesEntry}
-use Rattle.saved_basis.specs.Reading.{IsFileOf, TellsLine, HeadFails}
+use Rattle.saved_basis.specs.Reading.{IsFileOf, ReadsBasis, TellsLine, HeadFails}
+use Rattle.saved_basis.specs.Tasks.{IsAny, TellsFirst}
 use Rattle.saved_basis.proofs.Beginning.{saved}
 use Rattle.saved_basis.proofs.Making.{same_count}
 use Rattle.saved_basis.proofs.Texts.{missing, fails, longer, whole, goes_on}
+
+-- a fault that is passed on
+pub of_fault : {X E : Type 0} (r : Result X E) (A : X → Type 0) (F : E → Type 0) (e f : E) → r ≡ Err e → e ≡ f → F f → MatchResult r A F
+of_fault r A F e f is same h = subst (λ x. MatchResult x A F) (sym is) (subst F (sym same) h)
+
+pub if_fault : {X E : Type 0} (r : Result X E) (F : E → Type 0) (e f : E) → r ≡ Err e → e ≡ f → F f → IfErr r F
+if_fault r F e f is same h = subst (λ x. IfErr x F) (sym is) (subst F (sym same) h)
 
 pub head_tells : (p : Presented) (text : List ℕ) (gens : List (List Term)) (fault : BasisFault) → AreGenerators p gens → HeadFails p text fault
     → TellsLine p text fault
@@ -52,13 +60,21 @@ module _ (r : ReadSoFar) (reading : IsReading r) (text rest : List ℕ) (is : te
     all_there end = let le = end.1 in omega (arith, le, same_count r.source r.generators reading.base reading.base.gens reading.base.generators)
 
     -- the last line, and what stands behind it
-    pub ended_result : {V : Type 0} → IsPresented r.source → IsEnd r line → (list : V → List BasisEntry) (result : Result V BasisFault)
+    pub ended_result : {V : Type 0} (result : Result V BasisFault) (list : V → List BasisEntry) → IsPresented r.source → IsEnd r line
         → MatchResult result (λ v. (others ≡ []) × (list v ≡ r.entries)) (λ fault. (others ≢ []) × (fault ≡ Line (length r.entries + 4) Text))
         → MatchResult result (λ v. IsFileOf r.source text (list v)) (TellsLine r.source text)
-    ended_result known end list (Ok v) h = subst (IsFileOf r.source text) (sym h.1) (record {
+    ended_result (Ok v) list known end h = subst (IsFileOf r.source text) (sym h.1) (record {
       saved = saved r.source reading.base.gens r.entries known reading.base.generators reading.beginning (all_there end);
       spelled = whole r.source reading.base.gens text reading.base.generators r.entries rest reading.beginning is line others parts end.0 h.0;
     })
-    ended_result known end list (Err e) h =
+    ended_result (Err e) list known end h =
         subst (TellsLine r.source text) (sym h.1) (goes_on r.source reading.base.gens text reading.base.generators r.entries rest reading.beginning is
         line others parts (length r.entries + 4) refl (all_there end) end.0 h.0)
+
+-- the fault of a task, where all lines stand
+pub tells_reads : (p : Presented) (text : List ℕ) (es : List BasisEntry) → IsFileOf p text es → (fault : BasisFault)
+    → TellsFirst IsAny (vectors_of es) fault → ReadsBasis p text (Err fault)
+tells_reads p text es file (Line n k) h = absurd h
+tells_reads p text es file (Open i j kind) h = (es, file, h)
+tells_reads p text es file (Stopped i j kind stop) h = (es, file, h)
+tells_reads p text es file NoMemory h = tt
