@@ -19,7 +19,9 @@ pub returns-in_err-generator_agrees : goal.returns-in_err-generator_agrees
 returns-in_err-generator_agrees c = λ gens are.
     let es : List BasisEntry = c.args.self.now.entries in
     let base : c.args.self.now.generators ≡ map arc_value c.self.inside.generators.items = search rules in
-    let number : c.len.result ≡ length es = search rules in
+    let list : c.args.self.now.entries ≡ map arc_value c.self.inside.entries.items = search rules in
+    let number : c.len.result ≡ length es =
+    omega (arith, c.len.ensures, c.self.inside.entries.ok, ap length list, length-map c.self.inside.entries.items arc_value) in
     let entry : arc_value c.index-entry.result.now ≡ c.deref-2.result.now = search rules in
     let lt : c.len.result < length c.self.inside.generators.items =
     omega (arith, c.requires.turn, number, ap length base, length-map c.self.inside.generators.items arc_value) in
@@ -40,7 +42,9 @@ pub returns : goal.returns
 returns c = λ gens are.
     let es : List BasisEntry = c.args.self.now.entries in
     let base : c.args.self.now.generators ≡ map arc_value c.self.inside.generators.items = search rules in
-    let number : c.len.result ≡ length es = search rules in
+    let list : c.args.self.now.entries ≡ map arc_value c.self.inside.entries.items = search rules in
+    let number : c.len.result ≡ length es =
+    omega (arith, c.len.ensures, c.self.inside.entries.ok, ap length list, length-map c.self.inside.entries.items arc_value) in
     let entry : arc_value c.index-entry.result.now ≡ c.deref-2.result.now = search rules in
     let lt : c.len.result < length c.self.inside.generators.items =
     omega (arith, c.requires.turn, number, ap length base, length-map c.self.inside.generators.items arc_value) in
