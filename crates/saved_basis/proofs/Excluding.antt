@@ -1,5 +1,6 @@
 -- The file of a saved list has no line that fails.
-use Rattle.std.proofs.Common.{◌≡◌, ◌≢◌, ℕ, zero, suc, ◌+◌, ◌<◌, ◌≤◌, ◌^◌, ◌⊎◌, inl, inr, nat_lt, Bool, true, false, List, [], ◌∷◌, ◌++◌, length, take, Some, None, refl, sym, ap}
+use Rattle.std.proofs.Common.{◌≡◌, ◌≢◌, ℕ, zero, suc, ◌+◌, ◌<◌, ◌≤◌, ◌^◌, ◌⊎◌, inl, inr, nat_lt, Bool, true, false, List, []}
+use Rattle.std.proofs.Common.{◌∷◌, ◌++◌, length, take, Some, None, refl, sym, ap}
 use Rattle.std.proofs.Common.{subst, ◌∙◌, arith, append_assoc, append-nil, length-append}
 use Rattle.std.proofs.lemmas.List.{length-map, length-take-le}
 use Rattle.std.proofs.lemmas.List.Sums.{sum_by-append, sum_by-cons}
@@ -39,7 +40,8 @@ use Rattle.saved_basis.specs.declared.TheConstants.{ENTRIES}
 use Rattle.saved_basis.specs.declared.faults.LineKind.{LineKind}
 use Rattle.saved_basis.specs.declared.faults.LineKind.TheVariants.{Text, NoEntry, NotEqual, Wide, Long}
 use Rattle.saved_basis.specs.Files.{IsBeginning, AreWithin, terms_of, steps_of, title, last_line, begun_text, basis_text}
-use Rattle.saved_basis.specs.Lines.{made_steps, MayStand, IsEntryLine, IsLastLine, as_checked, MadeFails, EntryLineFails, LineFails, IsOther, CantFollow, IsFirstFault}
+use Rattle.saved_basis.specs.Lines.{made_steps, MayStand, IsEntryLine, IsLastLine, as_checked, MadeFails, EntryLineFails}
+use Rattle.saved_basis.specs.Lines.{LineFails, IsOther, CantFollow, IsFirstFault}
 use Rattle.saved_basis.proofs.Beginning.{same_steps}
 use Rattle.saved_basis.proofs.Texts.{behind_head}
 
@@ -332,7 +334,8 @@ module _ (p : Presented) (gens : List (List Term)) (known : IsPresented p) where
 
     pub no_fault : (text : List ℕ) (n : ℕ) (k : LineKind) → text ≡ basis_text p es → IsFirstFault p gens text n k → ⊥
     no_fault text _ _ is (IsFirstFault.at_title other) =
-        subst (IsOther title) (ap (cut 10) (is ∙ headed) ∙ title_cut (pres_line p ++ 10 ∷ (lines_text p (entry_lines 0 es) ++ (last_line ++ 10 ∷ [])))) other refl
+        subst (IsOther title)
+        (ap (cut 10) (is ∙ headed) ∙ title_cut (pres_line p ++ 10 ∷ (lines_text p (entry_lines 0 es) ++ (last_line ++ 10 ∷ [])))) other refl
     no_fault text _ _ is (IsFirstFault.at_presentation rest begins other) =
         let body : List ℕ = lines_text p (entry_lines 0 es) ++ (last_line ++ 10 ∷ []) in
         let parts = one_cut text title rest title (pres_line p ++ 10 ∷ body) (ap (cut 10) begins ∙ title_cut rest)

@@ -37,8 +37,8 @@ module _ (p : Presented) (known : IsPresented p) (gens : List (List Term)) (are 
   line_over es bytes Text over h = tt
   line_over es bytes NoEntry over h = tt
   line_over es bytes (NotEqual at) over h =
-      entry_over p known gens are (record start { phase = Entries; entries = vectors_of es }) h.0 h.1 (checked.NotEqual at) (vectors_over (length p.names) es over)
-      h.2.may.turn h.2.valid.1.0 h.2.valid.1.1.over h.3
+      entry_over p known gens are (record start { phase = Entries; entries = vectors_of es }) h.0 h.1 (checked.NotEqual at)
+      (vectors_over (length p.names) es over) h.2.may.turn h.2.valid.1.0 h.2.valid.1.1.over h.3
   line_over es bytes Wide over h = tt
   line_over es bytes Long over h = tt
 

@@ -1,5 +1,6 @@
 -- The factors of recipes are in the range, so that the entries of a record can be written.
-use Rattle.std.proofs.Common.{◌≡◌, ◌≢◌, ℕ, zero, suc, ◌*◌, ◌<◌, ◌≤◌, ◌⊎◌, inl, inr, ℤ, pos, ◌*ℤ◌, unsigned_abs, List, [], ◌∷◌, length, take, Some, refl, sym, ap, subst, ◌∙◌, arith}
+use Rattle.std.proofs.Common.{◌≡◌, ◌≢◌, ℕ, zero, suc, ◌*◌, ◌<◌, ◌≤◌, ◌⊎◌, inl, inr, ℤ, pos, ◌*ℤ◌, unsigned_abs, List, [], ◌∷◌}
+use Rattle.std.proofs.Common.{length, take, Some, refl, sym, ap, subst, ◌∙◌, arith}
 use Rattle.std.specs.Prelude.{◌<ℤ◌}
 use Rattle.std.proofs.lemmas.Int.{unsigned_abs-mul}
 use borrow.Author.Differences.{ints}
@@ -76,7 +77,8 @@ generator_over p k g e known of = record {
   recipe = subst (λ (r : Recipe). MadeIsOver (length p.names) (made_by r)) (sym of.recipe) tt;
 }
 
-sum_over : (p : Presented) (b : List (List Term)) (e : BasisEntry) → AreEntries b → e.source ≡ p → IsBasisEntry e → IsSumOver b e → EntryIsOver (length p.names) e
+sum_over : (p : Presented) (b : List (List Term)) (e : BasisEntry) → AreEntries b → e.source ≡ p → IsBasisEntry e → IsSumOver b e
+    → EntryIsOver (length p.names) e
 sum_over p b e entries source known is =
     let over : RecipeIsOver (length p.names) e.recipe = subst (λ (q : Presented). RecipeIsOver (length q.names) e.recipe) source known.recipe in
     let monos : HasMonomials (Sum is.steps) = subst HasMonomials is.recipe known.monomials in

@@ -16,18 +16,22 @@ use Rattle.pair_work.specs.declared.faults.WorkFault.TheVariants as works
 use Rattle.pair_work.specs.Works.{IsUncovered, HaltsBy, Stops}
 use Rattle.saved_basis.specs.declared.faults.BasisFault.{BasisFault}
 use Rattle.saved_basis.specs.declared.faults.BasisFault.TheVariants.{Line, Open, Stopped, NoMemory}
-use Rattle.saved_basis.specs.Tasks.{AddsNothing, LeavesRest, Passes, AllPass, IsEarlier, IsFirstToFail, IsAny, IsOfRow, IsOfPair, PassWhere, TellsFirst, TellsTask, EndsIn}
+use Rattle.saved_basis.specs.Tasks.{AddsNothing, LeavesRest, Passes, AllPass, IsEarlier, IsFirstToFail, IsAny, IsOfRow}
+use Rattle.saved_basis.specs.Tasks.{IsOfPair, PassWhere, TellsFirst, TellsTask, EndsIn}
 
 module _ (b : List (List Term)) where
   -- ---- one task
 
   pub adds_nothing : (t : Task) (w : List Term) → IsUncovered b t → EndsIn b t w → w ≡ [] → AddsNothing b t
-  adds_nothing t w uncovered end none = inr (end.2.0, record {
-    uncovered = uncovered;
-    vector = end.0;
-    pair = end.1;
-    rest = subst (λ (z : List Term). IsRest b (coefficient_at end.0) z end.2.0) none end.2.1;
-  })
+  adds_nothing t w uncovered end none = inr (
+    end.2.0,
+    record {
+      uncovered = uncovered;
+      vector = end.0;
+      pair = end.1;
+      rest = subst (λ (z : List Term). IsRest b (coefficient_at end.0) z end.2.0) none end.2.1;
+    },
+  )
 
   pub leaves_rest : (t : Task) (w : List Term) → IsUncovered b t → EndsIn b t w → w ≢ []
       → TellsTask b t (Open t.i t.j t.kind)

@@ -33,8 +33,10 @@ pub record IsBeginning (p : Presented) (gens : List (List Term)) (es : List Basi
   pub source : AreOf p es
   pub entries : AllByRecursion IsBasisEntry es
   pub over : AllByRecursion (EntryIsOver (length p.names)) es
-  pub begins : (k : ℕ) (e : BasisEntry) → k < length gens → slice_get es k ≡ Some e → IsOfGenerator p k (vector_at gens k) e
-  pub later : (k : ℕ) (e : BasisEntry) → length gens ≤ k → slice_get es k ≡ Some e → IsSumOver (vectors_of (take k es)) e
+  pub begins : (k : ℕ) (e : BasisEntry) → k < length gens → slice_get es k ≡ Some e
+      → IsOfGenerator p k (vector_at gens k) e
+  pub later : (k : ℕ) (e : BasisEntry) → length gens ≤ k → slice_get es k ≡ Some e
+      → IsSumOver (vectors_of (take k es)) e
   pub within : AreWithin es
 
 -- The entries of a list that may be saved: those of all generators, and then sums of multiples of entries before

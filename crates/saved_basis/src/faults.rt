@@ -41,9 +41,16 @@ pub enum LineKind {
 #[derive(Clone, Copy, PartialEq, Eq)]
 pub enum BasisFault {
     /// The first line that can't stand, numbered from 1; one more than the last line's number where a line is missing.
-    Line { line: u32, kind: LineKind },
+    Line {
+        line: u32,
+        kind: LineKind,
+    },
     /// The first task that fails: its work leaves a rest, so the list isn't complete.
-    Open { i: u32, j: u32, kind: PairKind },
+    Open {
+        i: u32,
+        j: u32,
+        kind: PairKind,
+    },
     /// The first task that fails: its work stops at a limit.
     Stopped {
         i: u32,

@@ -9,8 +9,8 @@ ghost use Rattle.saved_basis.specs.Files.{AreWithin, basis_text};
 ghost use Rattle.saved_basis.specs.Reading.{ReadsBasis, IsReadBack};
 
 /// The file that is written of a seal whose entries are within the limits is read back as that seal, unless the work of
-/// one of its tasks stops, or memory runs out: no line of it fails, and no task is open. A task can stop though the list
-/// is strong, since a completion may close it through other tasks.
+/// one of its tasks stops, or memory runs out: no line of it fails, and no task is open. A task can stop though the
+/// list is strong, since a completion may close it through other tasks.
 pub fn written_bases_are_read()
     ensures { (s : Seal) (base : ℕ) → IsPresented s.source → IsSeal s → IsRecord s.source base s.entries
         → AreWithin s.entries → (r : Result Seal BasisFault)

@@ -28,11 +28,7 @@ use std::sync::Arc;
 /// over entries before, with a positive lead coefficient, and all of them within the limits. Then the tasks of the list
 /// are tested in their order: each that isn't closed from the start has to add nothing to it. So the list is a strong
 /// basis, whoever wrote the file.
-pub fn read_basis(
-    alloc: Global,
-    p: &Arc<Presentation>,
-    text: &[u8],
-) -> Result<Sealed, BasisFault>
+pub fn read_basis(alloc: Global, p: &Arc<Presentation>, text: &[u8]) -> Result<Sealed, BasisFault>
     ensures exact { ReadsBasis (arc_value p.now) text.now result }
     // A place that is named is over the presentation's generators, so it can be written.
     ensures over { IfErr result (FaultIsOver (length (arc_value p.now).names)) }
@@ -72,11 +68,7 @@ fn read_entries(
 }
 
 /// What stands behind the two lines at the head.
-fn behind_head<'t>(
-    alloc: Global,
-    p: &Presentation,
-    text: &'t [u8],
-) -> Result<&'t [u8], BasisFault>
+fn behind_head<'t>(alloc: Global, p: &Presentation, text: &'t [u8]) -> Result<&'t [u8], BasisFault>
     ensures body { IfOk result (λ body. text.now ≡ title ++ 10 ∷ (pres_line p.now ++ 10 ∷ body.now)) }
     ensures fault { IfErr result (HeadFails p.now text.now) }
 {

@@ -5,7 +5,8 @@ ghost use Rattle.strong_pairs.specs.Pairs.{IsPair};
 ghost use Rattle.strong_pairs.specs.Tasks.{IsClosedFromStart};
 ghost use Rattle.outcomes.specs.declared.kinds.PairKind.TheVariants as kinds;
 ghost use Rattle.pair_work.specs.Works.{IsUncovered, HaltsBy};
-ghost use Rattle.saved_basis.specs.Tasks.{AddsNothing, Passes, AllPass, IsAny, IsOfRow, IsOfPair, PassWhere, TellsFirst};
+ghost use Rattle.saved_basis.specs.Tasks.{AddsNothing, Passes, AllPass, IsAny, IsOfRow};
+ghost use Rattle.saved_basis.specs.Tasks.{IsOfPair, PassWhere, TellsFirst};
 ghost use Rattle.saved_basis.specs.Tasks.{TellsTask, EndsIn};
 
 use crate::BasisFault;

@@ -12,6 +12,8 @@ returns g c =
     let whole : take c.count.result b ≡ b = ap (λ n. take n b) c.count.ensures.is ∙ take_whole b in (
       c.in_ok-vector.vector,
       c.in_ok-vector.ensures,
-      (c.in_ok-rest.field-0-1.items,
-          subst (λ x. IsRest x (coefficient_at c.in_ok-vector.vector) c.in_ok-rest.rest c.in_ok-rest.field-0-1.items) whole c.in_ok-rest.ensures),
+      (
+        c.in_ok-rest.field-0-1.items,
+        subst (λ x. IsRest x (coefficient_at c.in_ok-vector.vector) c.in_ok-rest.rest c.in_ok-rest.field-0-1.items) whole c.in_ok-rest.ensures,
+      ),
     )
