@@ -1,20 +1,15 @@
 -- What was written is read back, or a task stops.
-use Rattle.std.proofs.Common.{◌≡◌, ◌≢◌, ℕ, ◌+◌, ◌<◌, ◌≤◌, ◌+ℤ◌, ℤ, pos, List, [], ◌∷◌, length, take, Some, None, refl, sym, ap, subst, ◌∙◌, arith}
-use borrow.Author.Differences.{ints}
+use Rattle.std.proofs.Common.{◌≡◌, ℕ, ◌≤◌, List, [], ◌∷◌, length, refl, sym, subst, ◌∙◌, arith}
 use Rattle.std.specs.Prelude.{Result, Ok, Err}
-use Rattle.std.specs.List.{slice_get}
-use Rattle.std.proofs.lemmas.List.{length-map}
-use Rattle.std.proofs.lemmas.Option.{slice_get_within}
 use Rattle.presentation.specs.Presented.{Presented, IsPresented}
 use Rattle.module_vec.specs.declared.places.Place.{Place}
 use Rattle.module_vec.specs.declared.places.Term.{Term}
 use Rattle.module_vec.specs.declared.steps.Step.{Step}
-use Rattle.module_vec.specs.Modules.{vector_at, steps_at, AreSteps, InModule, IsStrong}
+use Rattle.module_vec.specs.Modules.{steps_at, AreSteps, InModule, IsStrong}
 use Rattle.module_vec.specs.Places.{IsBelow}
 use Rattle.module_vec.specs.Reducers.{AreEntries}
 use Rattle.module_vec.specs.Vectors.{coefficient_at}
 use Rattle.module_vec.proofs.Determined.{runs_are_chains}
-use Rattle.fox_calculus.specs.Generators.{AreGenerators}
 use Rattle.outcomes.specs.declared.kinds.PairKind.{PairKind}
 use Rattle.outcomes.specs.declared.kinds.PairKind.TheVariants.{S, G}
 use Rattle.outcomes.specs.declared.tasks.Task.{Task}
@@ -26,11 +21,10 @@ use Rattle.strong_pairs.proofs.Determination.{same_steps}
 use Rattle.strong_pairs.proofs.Exactness.{empty_for_members}
 use Rattle.strong_pairs.proofs.Members.{sum_in, module_same}
 use Rattle.basis_entry.specs.Entries.{BasisEntry, vectors_of}
-use Rattle.basis_entry.specs.Seals.{Seal, IsSeal, IsStrongBasis}
+use Rattle.basis_entry.specs.Seals.{Seal, IsSeal}
 use Rattle.basis_entry.proofs.Vectors.{are_entries}
 use Rattle.pair_work.specs.Works.{Reduces}
 use Rattle.report_text.specs.Reports.{IsRecord}
-use Rattle.reduce_cofactor.proofs.Resting.{get_take}
 use Rattle.report_acceptance.proofs.Generating.{one_generating}
 use Rattle.report_acceptance.proofs.Items.{get_first, length_take}
 use Rattle.saved_basis.specs.declared.faults.LineKind.{LineKind}

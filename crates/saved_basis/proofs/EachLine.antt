@@ -1,5 +1,5 @@
 -- How the lines of a file are read, one after another.
-use Rattle.std.proofs.Common.{◌≡◌, ◌≢◌, ℕ, ◌+◌, ◌≤◌, List, [], ◌∷◌, ◌++◌, length, Some, None, refl, sym, ap, subst, ◌∙◌, arith}
+use Rattle.std.proofs.Common.{◌≡◌, ◌≢◌, ℕ, ◌+◌, ◌≤◌, List, [], ◌++◌, length, Some, None, refl, sym, ap, subst, ◌∙◌, arith}
 use Rattle.std.specs.Prelude.{Result, Ok, Err, MatchResult, IfErr}
 use Rattle.spelling.specs.Spelling.{cut}
 use Rattle.presentation.specs.Presented.{Presented, IsPresented}
@@ -12,7 +12,7 @@ use Rattle.saved_basis.specs.declared.faults.LineFault.TheVariants as faults
 use Rattle.saved_basis.specs.declared.faults.BasisFault.{BasisFault}
 use Rattle.saved_basis.specs.declared.faults.BasisFault.TheVariants.{Line, Open, Stopped, NoMemory}
 use Rattle.saved_basis.specs.Faults.{of_line}
-use Rattle.saved_basis.specs.Files.{begun_text, last_line}
+use Rattle.saved_basis.specs.Files.{begun_text}
 use Rattle.saved_basis.specs.Lines.{LineFails, Outcome}
 use Rattle.saved_basis.specs.Readers.{ReadSoFar, IsReading, IsEnd, TakesEntry}
 use Rattle.saved_basis.specs.Reading.{IsFileOf, ReadsBasis, TellsLine, HeadFails}

@@ -1,12 +1,11 @@
 -- The file of a saved list has no line that fails.
-use Rattle.std.proofs.Common.{◌≡◌, ◌≢◌, ℕ, zero, suc, ◌+◌, ◌<◌, ◌≤◌, ◌^◌, ◌⊎◌, inl, inr, nat_lt, Bool, true, false, List, []}
-use Rattle.std.proofs.Common.{◌∷◌, ◌++◌, length, take, Some, None, refl, sym, ap}
+use Rattle.std.proofs.Common.{◌≡◌, ◌≢◌, ℕ, zero, suc, ◌+◌, ◌<◌, ◌≤◌, ◌⊎◌, inl, inr, Bool, List, []}
+use Rattle.std.proofs.Common.{◌∷◌, ◌++◌, length, take, Some, refl, sym, ap}
 use Rattle.std.proofs.Common.{subst, ◌∙◌, arith, append_assoc, append-nil, length-append}
 use Rattle.std.proofs.lemmas.List.{length-map, length-take-le}
 use Rattle.std.proofs.lemmas.List.Sums.{sum_by-append, sum_by-cons}
-use Rattle.std.proofs.lemmas.Option.{slice_get_within, none-some}
-use Rattle.std.specs.Prelude.{Option}
-use Rattle.std.specs.List.{AllByRecursion, slice_get}
+use Rattle.std.proofs.lemmas.Option.{slice_get_within}
+use Rattle.std.specs.List.{slice_get}
 use Rattle.spelling.specs.Spelling.{cut}
 use Rattle.spelling.proofs.Cuts.{cut_here}
 use Rattle.presentation.specs.Presented.{Presented, IsPresented}
@@ -25,22 +24,20 @@ use Rattle.report_reading.proofs.LineBytes.{whole_line, head_line}
 use Rattle.basis_entry.specs.declared.recipes.Recipe.{Recipe}
 use Rattle.basis_entry.specs.declared.recipes.Recipe.TheVariants.{Gen, Sum}
 use Rattle.basis_entry.specs.Base.{IsOfGenerator}
-use Rattle.basis_entry.specs.Entries.{BasisEntry, IsBasisEntry, AreOf, vectors_of}
+use Rattle.basis_entry.specs.Entries.{BasisEntry, IsBasisEntry, vectors_of}
 use Rattle.pair_work.specs.Outcomes.{recipe_steps}
 use Rattle.pair_work.proofs.Reading.{all_get, take_left, take_whole}
 use Rattle.cert_checker.specs.declared.phase.Phase.TheVariants.{Entries}
 use Rattle.cert_checker.specs.States.{State, start, MayFollow, IsInTurn}
-use Rattle.cert_checker.specs.Checking.{IsMadeOf, EntryFails, Agrees}
+use Rattle.cert_checker.specs.Checking.{IsMadeOf, EntryFails}
 use Rattle.report_text.specs.Histories.{entry_lines, made_by}
-use Rattle.report_text.specs.Reports.{IsSumOver, EntryIsOver}
+use Rattle.report_text.specs.Reports.{EntryIsOver}
 use Rattle.report_acceptance.proofs.Entries.{IsNextEntry, generator_next, sum_next, entry_taken}
 use Rattle.report_acceptance.proofs.Exclusion.{never_fails}
-use Rattle.report_acceptance.proofs.Proving.{IsAt}
-use Rattle.saved_basis.specs.declared.TheConstants.{ENTRIES}
 use Rattle.saved_basis.specs.declared.faults.LineKind.{LineKind}
 use Rattle.saved_basis.specs.declared.faults.LineKind.TheVariants.{Text, NoEntry, NotEqual, Wide, Long}
-use Rattle.saved_basis.specs.Files.{IsBeginning, AreWithin, terms_of, steps_of, title, last_line, begun_text, basis_text}
-use Rattle.saved_basis.specs.Lines.{made_steps, MayStand, IsEntryLine, IsLastLine, as_checked, MadeFails, EntryLineFails}
+use Rattle.saved_basis.specs.Files.{IsBeginning, AreWithin, title, last_line, begun_text, basis_text}
+use Rattle.saved_basis.specs.Lines.{MayStand, as_checked, EntryLineFails}
 use Rattle.saved_basis.specs.Lines.{LineFails, IsOther, CantFollow, IsFirstFault}
 use Rattle.saved_basis.proofs.Beginning.{same_steps}
 use Rattle.saved_basis.proofs.Texts.{behind_head}

@@ -1,5 +1,5 @@
 -- Entries that are what they are made to be.
-use Rattle.std.proofs.Common.{◌≡◌, ◌≢◌, ℕ, ◌+◌, ◌<◌, ◌≤◌, Bool, true, false, not, if◌then◌else◌, ℤ, pos, negsuc, neg_ℤ}
+use Rattle.std.proofs.Common.{◌≡◌, ◌≢◌, ℕ, ◌<◌, ◌≤◌, Bool, true, false, not, if◌then◌else◌, ℤ, pos, negsuc, neg_ℤ}
 use Rattle.std.proofs.Common.{◌*ℤ◌, MatchBool, List, [], ◌∷◌, length, map, get_or}
 use Rattle.std.proofs.Common.{refl, sym, ap, subst, ◌∙◌, arith}
 use borrow.Author.Differences.{ints}
@@ -8,7 +8,6 @@ use Rattle.std.specs.List.{AllByRecursion, slice_get}
 use Rattle.std.specs.Option.{option_map}
 use Rattle.std.proofs.lemmas.Option.{slice_get-map, slice_get_read}
 use Rattle.formal_sums.specs.FormalSum.{scale}
-use Rattle.laurent_terms.specs.declared.TheConstants.{VARIABLES}
 use Rattle.presentation.specs.Presented.{Presented}
 use Rattle.module_vec.specs.declared.places.Place.{Place}
 use Rattle.module_vec.specs.declared.places.Term.{Term}
@@ -22,18 +21,16 @@ use Rattle.step_lists.proofs.AddingUp.{values_are_sums}
 use Rattle.step_text.specs.Over.{AreStepsOf, StepsAreOver}
 use Rattle.fox_calculus.specs.Generators.{AreGenerators}
 use Rattle.cert_checker.specs.States.{AreNear}
-use Rattle.cert_checker.specs.Checking.{AreThere, StepsLead, EntryFails, PartAt, signed}
+use Rattle.cert_checker.specs.Checking.{AreThere, StepsLead, signed}
 use Rattle.cert_checker.proofs.Signs.{negative}
-use Rattle.report_lines.specs.declared.lines.Made.{Made}
 use Rattle.report_lines.specs.declared.lines.Made.TheVariants as made
 use Rattle.report_lines.specs.Lines.{MadeIsOver}
 use Rattle.vector_text.specs.Over.{VectorIsOver}
 use Rattle.basis_entry.specs.declared.recipes.Recipe.{Recipe}
 use Rattle.basis_entry.specs.declared.recipes.Recipe.TheVariants.{Gen, Sum}
-use Rattle.basis_entry.specs.Base.{has_negative_lead, IsOfGenerator, AreBase}
+use Rattle.basis_entry.specs.Base.{IsOfGenerator, AreBase}
 use Rattle.basis_entry.specs.Entries.{BasisEntry, IsBasisEntry, MonosAreOver, vectors_of}
 use Rattle.report_text.specs.Histories.{made_by}
-use Rattle.report_text.specs.Reports.{IsSumOver, EntryIsOver}
 use Rattle.report_acceptance.proofs.Generating.{one_generating}
 use Rattle.saved_basis.specs.Readers.{ReadSoFar, IsNextEntry}
 use Rattle.saved_basis.proofs.Ranges.{generator_over}

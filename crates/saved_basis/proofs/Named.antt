@@ -1,5 +1,5 @@
 -- The places that faults name are over the presentation's generators.
-use Rattle.std.proofs.Common.{◌≡◌, ℕ, List, [], ◌∷◌, length, Some, None, sym, subst}
+use Rattle.std.proofs.Common.{ℕ, List, [], ◌∷◌, length, Some, None, sym, subst}
 use Rattle.std.specs.Prelude.{Option}
 use Rattle.spelling.specs.Spelling.{cut}
 use Rattle.std.specs.List.{AllByRecursion}
@@ -23,7 +23,7 @@ use Rattle.saved_basis.specs.declared.faults.LineKind.{LineKind}
 use Rattle.saved_basis.specs.declared.faults.LineKind.TheVariants.{Text, NoEntry, NotEqual, Wide, Long}
 use Rattle.saved_basis.specs.declared.faults.BasisFault.{BasisFault}
 use Rattle.saved_basis.specs.declared.faults.BasisFault.TheVariants.{Line, Open, Stopped, NoMemory}
-use Rattle.saved_basis.specs.Lines.{EntryLineFails, LineFails, CantFollow, IsFirstFault, FailsAt}
+use Rattle.saved_basis.specs.Lines.{LineFails, CantFollow, IsFirstFault}
 use Rattle.saved_basis.specs.Tasks.{IsAny, TellsFirst}
 use Rattle.saved_basis.specs.Reading.{TellsLine, KindIsOver, FaultIsOver}
 

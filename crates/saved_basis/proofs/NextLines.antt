@@ -1,10 +1,10 @@
 -- Lines that aren't those of a next entry.
-use Rattle.std.proofs.Common.{◌≡◌, ℕ, ◌+◌, ◌<◌, ◌≤◌, List, [], ◌∷◌, ◌++◌, length, None, refl, sym, ap, subst, ◌∙◌, arith}
+use Rattle.std.proofs.Common.{◌≡◌, ℕ, ◌<◌, ◌≤◌, List, [], ◌∷◌, ◌++◌, length, None, refl, sym, subst, ◌∙◌, arith}
 use Rattle.std.proofs.Common.{Bool, true, false, not, inl, inr}
 use Rattle.std.proofs.lemmas.List.{length-map}
-use Rattle.std.specs.Prelude.{Result, Ok, Err, ◌↔◌, IsTrue}
+use Rattle.std.specs.Prelude.{Result, Err, ◌↔◌, IsTrue}
 use Rattle.spelling.specs.Spelling.{IsRead}
-use Rattle.presentation.specs.Presented.{Presented, IsPresented}
+use Rattle.presentation.specs.Presented.{IsPresented}
 use Rattle.module_vec.specs.declared.places.Term.{Term}
 use Rattle.module_vec.specs.declared.steps.Step.{Step}
 use Rattle.module_vec.specs.Vectors.{coefficient_at}
@@ -21,13 +21,11 @@ use Rattle.report_lines.specs.Texts.{line_text}
 use Rattle.report_lines.proofs.ReadingBack.{one_line}
 use Rattle.fox_calculus.specs.Generators.{AreGenerators}
 use Rattle.basis_entry.specs.Entries.{BasisEntry, vectors_of}
-use Rattle.report_text.specs.Histories.{made_by}
 use Rattle.saved_basis.specs.declared.TheConstants.{ENTRIES}
 use Rattle.saved_basis.specs.declared.faults.LineKind.{LineKind}
 use Rattle.saved_basis.specs.declared.faults.LineKind.TheVariants.{Text, NoEntry, NotEqual, Wide, Long}
 use Rattle.saved_basis.specs.declared.faults.LineFault.{LineFault}
 use Rattle.saved_basis.specs.declared.faults.LineFault.TheVariants as faults
-use Rattle.saved_basis.specs.Files.{IsBeginning}
 use Rattle.saved_basis.specs.Lines.{MayStand, IsEntryLine, IsLastLine, MadeFails, LineFails, Outcome}
 use Rattle.saved_basis.specs.Readers.{ReadSoFar, IsReading, IsEnd, IsTextFault, CanBeNext, IsNextEntry, FitsIn, TakesEntry}
 use Rattle.saved_basis.proofs.Beginning.{one_more}

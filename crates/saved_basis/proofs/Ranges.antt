@@ -1,11 +1,10 @@
 -- The factors of recipes are in the range, so that the entries of a record can be written.
 use Rattle.std.proofs.Common.{◌≡◌, ◌≢◌, ℕ, zero, suc, ◌*◌, ◌<◌, ◌≤◌, ◌⊎◌, inl, inr, ℤ, pos, ◌*ℤ◌, unsigned_abs, List, [], ◌∷◌}
-use Rattle.std.proofs.Common.{length, take, Some, refl, sym, ap, subst, ◌∙◌, arith}
+use Rattle.std.proofs.Common.{length, take, Some, sym, ap, subst, ◌∙◌, arith}
 use Rattle.std.specs.Prelude.{◌<ℤ◌}
 use Rattle.std.proofs.lemmas.Int.{unsigned_abs-mul}
 use borrow.Author.Differences.{ints}
 use Rattle.std.specs.List.{AllByRecursion, slice_get}
-use Rattle.laurent_terms.specs.declared.TheConstants.{VARIABLES}
 use Rattle.laurent_terms.specs.Monomials.{IsMonomial}
 use Rattle.presentation.specs.Presented.{Presented}
 use Rattle.module_vec.specs.declared.places.Place.{Place}
@@ -17,7 +16,7 @@ use Rattle.module_vec.specs.Places.{moved}
 use Rattle.module_vec.specs.Reducers.{AreEntries}
 use Rattle.module_vec.specs.Vectors.{Coefficients, InRange, IsWide, coefficient_at}
 use Rattle.step_lists.specs.declared.way.Way.TheVariants.{Add}
-use Rattle.step_lists.specs.Sums.{Adds, passed, zero_vector, IsInReach, IsValue}
+use Rattle.step_lists.specs.Sums.{Adds, passed, zero_vector, IsInReach}
 use Rattle.step_text.specs.Over.{StepsAreOver}
 use Rattle.strong_pairs.specs.Pairs.{lead_at}
 use Rattle.strong_pairs.proofs.Entered.{lead_positive}
@@ -25,9 +24,9 @@ use Rattle.strong_pairs.proofs.Shifted.{taken_is, shifted_lead}
 use Rattle.vector_text.specs.Over.{VectorIsOver}
 use Rattle.report_lines.specs.Lines.{MadeIsOver}
 use Rattle.basis_entry.specs.declared.recipes.Recipe.{Recipe}
-use Rattle.basis_entry.specs.declared.recipes.Recipe.TheVariants.{Gen, Sum}
-use Rattle.basis_entry.specs.Base.{IsOfGenerator, has_negative_lead}
-use Rattle.basis_entry.specs.Entries.{BasisEntry, IsBasisEntry, AreOf, HasMonomials, MonosAreOver, RecipeIsOver, vectors_of}
+use Rattle.basis_entry.specs.declared.recipes.Recipe.TheVariants.{Sum}
+use Rattle.basis_entry.specs.Base.{IsOfGenerator}
+use Rattle.basis_entry.specs.Entries.{BasisEntry, IsBasisEntry, HasMonomials, MonosAreOver, RecipeIsOver, vectors_of}
 use Rattle.basis_entry.proofs.Vectors.{are_entries}
 use Rattle.pair_work.proofs.Reading.{all_from, all_get}
 use Rattle.report_text.specs.Histories.{made_by}

@@ -1,5 +1,5 @@
 -- How the test of tasks goes on, and what its faults tell.
-use Rattle.std.proofs.Common.{◌≡◌, ◌≢◌, ℕ, ◌+◌, ◌<◌, ◌≤◌, ◌⊎◌, inl, inr, Bool, true, false, List, [], length, ◌==◌, refl, sym, ap, subst, ◌∙◌, arith}
+use Rattle.std.proofs.Common.{◌≡◌, ◌≢◌, ℕ, ◌+◌, ◌<◌, ◌≤◌, ◌⊎◌, inl, inr, Bool, true, false, List, [], length, refl, sym, subst, ◌∙◌, arith}
 use Rattle.std.specs.Prelude.{IsTrue, ◌↔◌, ℤ, Result, Ok, Err, MatchResult}
 use Rattle.module_vec.specs.declared.places.Term.{Term}
 use Rattle.module_vec.specs.Vectors.{coefficient_at}
@@ -11,9 +11,7 @@ use Rattle.strong_pairs.specs.Covering.{Divides}
 use Rattle.strong_pairs.specs.Pairs.{IsPair}
 use Rattle.strong_pairs.specs.Tasks.{IsClosedFromStart}
 use Rattle.strong_pairs.proofs.Coverage.{order_of}
-use Rattle.pair_work.specs.declared.faults.WorkFault.{WorkFault}
-use Rattle.pair_work.specs.declared.faults.WorkFault.TheVariants as works
-use Rattle.pair_work.specs.Works.{IsUncovered, HaltsBy, Stops}
+use Rattle.pair_work.specs.Works.{IsUncovered, Stops}
 use Rattle.saved_basis.specs.declared.faults.BasisFault.{BasisFault}
 use Rattle.saved_basis.specs.declared.faults.BasisFault.TheVariants.{Line, Open, Stopped, NoMemory}
 use Rattle.saved_basis.specs.Tasks.{AddsNothing, LeavesRest, Passes, AllPass, IsEarlier, IsFirstToFail, IsAny, IsOfRow}

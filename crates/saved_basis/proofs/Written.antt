@@ -1,6 +1,6 @@
 -- A file that is written line by line.
-use Rattle.std.proofs.Common.{◌≡◌, ℕ, zero, suc, ◌+◌, ◌<◌, ◌≤◌, List, [], ◌∷◌, ◌++◌, length, drop, Option, Some, Result}
-use Rattle.std.proofs.Common.{Ok, Err, refl, sym, ap, subst, ◌∙◌, arith}
+use Rattle.std.proofs.Common.{◌≡◌, ℕ, ◌+◌, ◌<◌, ◌≤◌, List, [], ◌∷◌, ◌++◌, length, drop, Option, Some, Result}
+use Rattle.std.proofs.Common.{Ok, Err, sym, ap, subst, ◌∙◌}
 use Rattle.std.proofs.Common.{append_assoc, append-nil}
 use Rattle.std.proofs.lemmas.List.{drop_all}
 use Rattle.std.specs.List.{slice_get}
@@ -14,7 +14,7 @@ use Rattle.report_text.specs.Writing.{Stops}
 use Rattle.report_text.proofs.Lists.{stands_at, same_item}
 use Rattle.report_text.proofs.Written.{Goes, goes_from, goes_more, goes_all, goes_stops, goes_halts}
 use Rattle.saved_basis.specs.declared.faults.WriteFault.{WriteFault}
-use Rattle.saved_basis.specs.Files.{title, last_line, begun_text, basis_text}
+use Rattle.saved_basis.specs.Files.{title, last_line, basis_text}
 use Rattle.saved_basis.specs.Writing.{Puts}
 
 -- what is left is written

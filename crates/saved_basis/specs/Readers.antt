@@ -15,7 +15,7 @@ use Rattle.report_text.specs.Histories.{made_by}
 use Rattle.report_text.specs.Reports.{IsSumOver, EntryIsOver}
 use Rattle.saved_basis.specs.declared.faults.LineKind.{LineKind}
 use Rattle.saved_basis.specs.declared.faults.LineKind.TheVariants.{Text}
-use Rattle.saved_basis.specs.Files.{IsBeginning, AreWithin, last_line}
+use Rattle.saved_basis.specs.Files.{IsBeginning, last_line}
 use Rattle.saved_basis.specs.Lines.{MayStand, LineFails}
 
 -- the entries so far, beside those of the generators of the presentation's module

@@ -2,7 +2,6 @@
 use Rattle.std.specs.Prelude.{◌≡◌, ℕ, List, Result, Ok, Err}
 use Rattle.presentation.specs.Presented.{Presented}
 use Rattle.module_vec.specs.declared.places.Term.{Term}
-use Rattle.outcomes.specs.declared.tasks.Task.{Task}
 use Rattle.vector_text.specs.Over.{PlaceIsOver}
 use Rattle.report_lines.specs.Lines.{StopIsOver}
 use Rattle.basis_entry.specs.Entries.{BasisEntry, vectors_of}

@@ -1,12 +1,11 @@
-use Rattle.std.proofs.Common.{◌≡◌, ◌∙◌, Bool, not, if◌then◌else◌, List, length, sym, subst}
-use Rattle.module_vec.specs.declared.places.Place.{Place}
+use Rattle.std.proofs.Common.{◌≡◌, ◌∙◌, Bool, not, if◌then◌else◌, List, length, subst}
 use Rattle.module_vec.specs.declared.places.Term.{Term}
 use Rattle.module_vec.specs.Modules.{vector_at}
 use Rattle.module_vec.specs.Results.{IsGreatest}
 use Rattle.module_vec.specs.Vectors.{coefficient_at}
 use Rattle.step_lists.specs.Partial.{Differ}
 use Rattle.basis_entry.specs.Base.{has_negative_lead}
-use Rattle.saved_basis.proofs.Making.{Turned, wanted_is, agreed, turned_then, turned_else}
+use Rattle.saved_basis.proofs.Making.{Turned, wanted_is, turned_then, turned_else}
 use Rattle.saved_basis.proofs.lines.generator_agrees.Goals.{then-is_negated, else-is_negated}
 use Rattle.saved_basis.proofs.lines.generator_agrees.Goals as goal
 

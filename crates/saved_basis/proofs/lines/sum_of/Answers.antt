@@ -4,7 +4,6 @@ use Rattle.std.proofs.lemmas.List.{drop_all}
 use Rattle.std.proofs.lemmas.Result.{err_from_is_err_and}
 use Rattle.module_vec.specs.declared.places.Term.{Term}
 use Rattle.module_vec.specs.declared.steps.Step.{Step}
-use Rattle.module_vec.specs.Modules.{vector_at}
 use Rattle.module_vec.specs.Vectors.{coefficient_at, HasRoom}
 use Rattle.module_vec.proofs.FallingTerms.{drop_read}
 use Rattle.step_lists.specs.Sums.{zero_vector}

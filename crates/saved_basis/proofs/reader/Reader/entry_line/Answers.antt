@@ -1,4 +1,4 @@
-use Rattle.std.proofs.Common.{rules, ◌≡◌, Some, None, sym, subst}
+use Rattle.std.proofs.Common.{rules, ◌≡◌, Some, None, subst}
 use Rattle.spelling.specs.Spelling.{IsRead}
 use Rattle.presentation.specs.Presented.{Presented, IsPresented}
 use Rattle.report_lines.specs.Lines.{IsLineOf}

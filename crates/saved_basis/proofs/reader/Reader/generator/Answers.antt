@@ -3,7 +3,6 @@ use Rattle.std.proofs.lemmas.List.{length-map}
 use Rattle.std.proofs.lemmas.Result.{err_from_is_err_and}
 use Rattle.std.specs.Arc.{arc_value}
 use Rattle.std.specs.List.{slice_get}
-use Rattle.module_vec.specs.declared.places.Term.{Term}
 use Rattle.module_vec.specs.Modules.{vector_at}
 use Rattle.report_lines.specs.declared.lines.Made.TheVariants as made
 use Rattle.basis_entry.specs.Base.{IsOfGenerator}

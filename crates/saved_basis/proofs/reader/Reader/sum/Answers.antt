@@ -1,11 +1,8 @@
-use Rattle.std.proofs.Common.{rules, ◌≡◌, ◌≤◌, ℕ, List, length, sym, subst, ◌∙◌, arith}
+use Rattle.std.proofs.Common.{rules, ◌≡◌, ◌≤◌, List, length, sym, subst, ◌∙◌, arith}
 use Rattle.std.proofs.lemmas.Result.{err_from_is_err_and}
 use Rattle.std.specs.Arc.{arc_value}
 use Rattle.presentation.specs.Presented.{Presented}
-use Rattle.module_vec.specs.declared.places.Place.{Place}
-use Rattle.module_vec.specs.declared.places.Term.{Term}
 use Rattle.module_vec.specs.declared.steps.Step.{Step}
-use Rattle.module_vec.specs.Modules.{AreSteps, steps_at}
 use Rattle.module_vec.specs.Vectors.{coefficient_at}
 use Rattle.step_lists.specs.declared.way.Way.TheVariants.{Add}
 use Rattle.step_lists.specs.Sums.{zero_vector}
