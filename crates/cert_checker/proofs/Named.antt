@@ -138,7 +138,7 @@ module _ (p : Presented) (ok : IsPresented p) (gens : List (List Term)) (are : A
       sums : f x ≡ zero_vector x +ℤ steps_at s.entries steps x → steps_at s.entries steps x ≡ pos 0 → f x ≡ pos 0
       sums e z = omega (arith, ints, e, z)
 
-  entry_over : (s : State) (made : Made) (v : List Term) (k : CertKind) → AllByRecursion (VectorIsOver n) s.entries → IsInTurn gens s.entries made
+  pub entry_over : (s : State) (made : Made) (v : List Term) (k : CertKind) → AllByRecursion (VectorIsOver n) s.entries → IsInTurn gens s.entries made
       → IsMadeOver n made → VectorIsOver n v
       → EntryFails gens s.entries made v k → KindIsOver n k
   entry_over s made v Text all turn valid over h = tt
