@@ -7,6 +7,7 @@ ghost use Rattle.basis_log.specs.Rows.{row_source};
 ghost use Rattle.session_core.specs.Questions.{CanBeAsked};
 ghost use Rattle.completion_workers.specs.Acting.{IsReady};
 
+use crate::pace::Pace;
 use crate::{Actor, Gate, OpenGate, run_actors};
 use basis_entry::{Entry, Front};
 use basis_log::Row;
@@ -213,5 +214,18 @@ fn all_actors_run_at_once(rt: HostRuntime) -> Result<(), Fail> {
     };
     assert!(rt; completes(&rt, alloc, &gate)?);
     assert!(rt; gate.all_stand() && !gate.failed.load(SeqCst));
+    Ok(())
+}
+
+#[test]
+fn workers_wait_for_tasks_from_before_the_log_grew(rt: HostRuntime) -> Result<(), Fail> {
+    let pace = Pace::new(rt.alloc(), 2);
+    pace.takes(0, 5);
+    assert!(rt; !pace.is_another_behind(1));
+    pace.is_done(1, 6);
+    assert!(rt; pace.is_another_behind(1));
+    assert!(rt; !pace.is_another_behind(0));
+    pace.is_done(0, 6);
+    assert!(rt; !pace.is_another_behind(1));
     Ok(())
 }
