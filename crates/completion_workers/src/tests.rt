@@ -115,11 +115,13 @@ fn session<'r>(
     })
 }
 
-/// Whether all questions have their replies, of which those from the front 7 on say that the word is trivial.
-fn is_answered(session: &Session) -> bool {
+/// Whether all questions have their replies. Which entries come first depends on the threads, so a reply may be unknown
+/// below the front of all items; by all items the word is trivial.
+fn is_answered(session: &Session, all: u32) -> bool {
     for number in 1..=session.count() {
         match session.kept(number) {
-            Some(kept) if kept.front < 7 || kept.tag == Tag::Trivial => {}
+            Some(kept) if kept.tag == Tag::Trivial => {}
+            Some(kept) if kept.tag == (Tag::Unknown { subject: 1 }) && kept.front < all => {}
             _ => return false,
         }
     }
@@ -151,7 +153,7 @@ fn completes<G: Gate + Sync, R: Threads + Wait + Sync>(
             Actor::Worker { seat, .. } => seen = seat.front().max(seen),
             Actor::Session { session, dry, .. } => answered = answered
                 && !*dry
-                && is_answered(session),
+                && is_answered(session, book.front()),
         }
     }
     Ok(answered && book.sealed().is_some() && seen == book.front())
