@@ -46,7 +46,7 @@ impl Pace {
     }
 
     /// Whether an actor other than this one holds a task that it took before the log grew.
-    fn is_another_behind(&self, at: usize) -> bool {
+    pub(crate) fn is_another_behind(&self, at: usize) -> bool {
         let length = self.length.load(SeqCst);
         for (number, take) in self.takes.iter().enumerate() {
             if number != at && take.load(SeqCst) < length {

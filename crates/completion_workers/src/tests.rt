@@ -7,6 +7,7 @@ ghost use Rattle.basis_log.specs.Rows.{row_source};
 ghost use Rattle.session_core.specs.Questions.{CanBeAsked};
 ghost use Rattle.completion_workers.specs.Acting.{IsReady};
 
+use crate::pace::Pace;
 use crate::{Actor, Gate, OpenGate, run_actors};
 use basis_entry::{Entry, Front};
 use basis_log::Row;
@@ -114,11 +115,13 @@ fn session<'r>(
     })
 }
 
-/// Whether all questions have their replies, of which those from the front 7 on say that the word is trivial.
-fn is_answered(session: &Session) -> bool {
+/// Whether all questions have their replies. Which entries come first depends on the threads, so a reply may be unknown
+/// below the front of all items; by all items the word is trivial.
+fn is_answered(session: &Session, all: u32) -> bool {
     for number in 1..=session.count() {
         match session.kept(number) {
-            Some(kept) if kept.front < 7 || kept.tag == Tag::Trivial => {}
+            Some(kept) if kept.tag == Tag::Trivial => {}
+            Some(kept) if kept.tag == (Tag::Unknown { subject: 1 }) && kept.front < all => {}
             _ => return false,
         }
     }
@@ -150,7 +153,7 @@ fn completes<G: Gate + Sync, R: Threads + Wait + Sync>(
             Actor::Worker { seat, .. } => seen = seat.front().max(seen),
             Actor::Session { session, dry, .. } => answered = answered
                 && !*dry
-                && is_answered(session),
+                && is_answered(session, book.front()),
         }
     }
     Ok(answered && book.sealed().is_some() && seen == book.front())
@@ -213,5 +216,18 @@ fn all_actors_run_at_once(rt: HostRuntime) -> Result<(), Fail> {
     };
     assert!(rt; completes(&rt, alloc, &gate)?);
     assert!(rt; gate.all_stand() && !gate.failed.load(SeqCst));
+    Ok(())
+}
+
+#[test]
+fn workers_wait_for_tasks_from_before_the_log_grew(rt: HostRuntime) -> Result<(), Fail> {
+    let pace = Pace::new(rt.alloc(), 2);
+    pace.takes(0, 5);
+    assert!(rt; !pace.is_another_behind(1));
+    pace.is_done(1, 6);
+    assert!(rt; pace.is_another_behind(1));
+    assert!(rt; !pace.is_another_behind(0));
+    pace.is_done(0, 6);
+    assert!(rt; !pace.is_another_behind(1));
     Ok(())
 }
