@@ -13,3 +13,6 @@ mod used;
 
 pub use trimming::trim;
 
+
+#[cfg(test)]
+mod tests;
