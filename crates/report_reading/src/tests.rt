@@ -163,7 +163,9 @@ fn a_trimmed_report_is_read(rt: HostRuntime) -> Result<(), Fail> {
     };
     assert_eq!(rt; (data.version, data.items), (2, 9));
     assert_eq!(rt; data.from.numbers(), [2, 5].as_slice());
-    let Recipe::Gen { number, negated } = data.entries.entries()[0].recipe else {
+    let entries = data.entries.entries();
+    assert_eq!(rt; entries.len(), 2);
+    let Recipe::Gen { number, negated } = entries[0].recipe else {
         return Err("no generator".into());
     };
     assert_eq!(rt; (number, negated), (2, true));

@@ -94,7 +94,7 @@ three (suc i) (suc j) = next (three i j)
     next (inr (inl e)) = inr (inl (ap suc e))
     next (inr (inr l)) = inr (inr (omega (arith, l)))
 
-kept_once : (kept : List ℕ) → IsRising kept → (i j x : ℕ) → slice_get kept i ≡ Some x → slice_get kept j ≡ Some x → i ≡ j
+pub kept_once : (kept : List ℕ) → IsRising kept → (i j x : ℕ) → slice_get kept i ≡ Some x → slice_get kept j ≡ Some x → i ≡ j
 kept_once kept rising i j x h k = by (three i j)
   where
     by : (i < j) ⊎ ((i ≡ j) ⊎ (j < i)) → i ≡ j

@@ -69,26 +69,26 @@ pub step_named : (marks : List Bool) (steps : List Step) → ((i : ℕ) (s : Ste
     → IsMarked marks k
 step_named marks steps set k n = subst (IsMarked marks) n.by (set n.place n.step n.is)
 
-module _ (old new : List Bool) (kept : (k : ℕ) → IsMarked old k → IsMarked new k) where
+module _ (Old New : ℕ → Type 0) (kept : (k : ℕ) → Old k → New k) where
   -- of the proofs of one reply
   pub proofs_next : (proofs : List (List Step)) (index : ℕ) (steps : List Step) → slice_get proofs index ≡ Some steps
-      → ((j k : ℕ) (ss : List Step) → j < index → slice_get proofs j ≡ Some ss → Name ss k → IsMarked old k)
-      → ((k : ℕ) → Name steps k → IsMarked new k)
-      → (j k : ℕ) (ss : List Step) → j < index + 1 → slice_get proofs j ≡ Some ss → Name ss k → IsMarked new k
+      → ((j k : ℕ) (ss : List Step) → j < index → slice_get proofs j ≡ Some ss → Name ss k → Old k)
+      → ((k : ℕ) → Name steps k → New k)
+      → (j k : ℕ) (ss : List Step) → j < index + 1 → slice_get proofs j ≡ Some ss → Name ss k → New k
   proofs_next proofs index steps read before set j k ss lt is n = by (below_or j index lt)
     where
-      by : (j < index) ⊎ (j ≡ index) → IsMarked new k
+      by : (j < index) ⊎ (j ≡ index) → New k
       by (inl l) = kept k (before j k ss l is n)
       by (inr e) = set k (subst (λ l. Name l k) (some_same (sym is ∙ (ap (slice_get proofs) e ∙ read))) n)
 
   -- of the replies
   pub replies_next : (rs : List ReplyData) (index : ℕ) (r : ReplyData) → slice_get rs index ≡ Some r
-      → ((i j k : ℕ) (s : ReplyData) (ss : List Step) → i < index → slice_get rs i ≡ Some s → slice_get s.proofs j ≡ Some ss → Name ss k → IsMarked old k)
-      → ((j k : ℕ) (ss : List Step) → slice_get r.proofs j ≡ Some ss → Name ss k → IsMarked new k)
-      → (i j k : ℕ) (s : ReplyData) (ss : List Step) → i < index + 1 → slice_get rs i ≡ Some s → slice_get s.proofs j ≡ Some ss → Name ss k → IsMarked new k
+      → ((i j k : ℕ) (s : ReplyData) (ss : List Step) → i < index → slice_get rs i ≡ Some s → slice_get s.proofs j ≡ Some ss → Name ss k → Old k)
+      → ((j k : ℕ) (ss : List Step) → slice_get r.proofs j ≡ Some ss → Name ss k → New k)
+      → (i j k : ℕ) (s : ReplyData) (ss : List Step) → i < index + 1 → slice_get rs i ≡ Some s → slice_get s.proofs j ≡ Some ss → Name ss k → New k
   replies_next rs index r read before set i j k s ss lt is shown n = by (below_or i index lt)
     where
-      by : (i < index) ⊎ (i ≡ index) → IsMarked new k
+      by : (i < index) ⊎ (i ≡ index) → New k
       by (inl l) = kept k (before i j k s ss l is shown n)
       by (inr e) =
           let same : s ≡ r = some_same (sym is ∙ (ap (slice_get rs) e ∙ read)) in
@@ -174,3 +174,15 @@ used_by_marks d none first last empty set only is k = (
     by : (i : ℕ) → IsMarked none i ⊎ NamedInProof d.replies i → NamedInProof d.replies i
     by i (inl m) = absurd (empty i m)
     by i (inr n) = n
+
+-- one more recipe that names lower entries
+pub lower_next : (es : List EntryData) (x : ℕ) (e : EntryData) → slice_get es x ≡ Some e → ((k : ℕ) → Name (steps_in e.recipe) k → k < x)
+    → ((j k : ℕ) (f : EntryData) → j < x → slice_get es j ≡ Some f → Name (steps_in f.recipe) k → k < j)
+    → (j k : ℕ) (f : EntryData) → j < x + 1 → slice_get es j ≡ Some f → Name (steps_in f.recipe) k → k < j
+lower_next es x e read own before j k f lt is n = by (below_or j x lt)
+  where
+    by : (j < x) ⊎ (j ≡ x) → k < j
+    by (inl l) = before j k f l is n
+    by (inr same) =
+        let low = own k (subst (λ (y : EntryData). Name (steps_in y.recipe) k) (some_same (sym is ∙ (ap (slice_get es) same ∙ read))) n) in
+        omega (arith, low, same)

@@ -1,5 +1,6 @@
 //! Laws of trimmed reports.
 
+ghost use Rattle.std.specs.Prelude.{◌≡◌};
 ghost use Rattle.report_reading.specs.declared.data.ReportData.{ReportData};
 ghost use Rattle.report_trimming.specs.Trimming.{IsTrimming};
 
@@ -7,4 +8,9 @@ ghost use Rattle.report_trimming.specs.Trimming.{IsTrimming};
 #[tactic(auto, using(crate::proofs::Again::own_trimming))]
 pub fn trimmed_is_its_own_trimming()
     ensures { (d t : ReportData) → IsTrimming d t → IsTrimming t t }
+{}
+
+/// A report has one trimming.
+pub fn one_trimming()
+    ensures { (d t u : ReportData) → IsTrimming d t → IsTrimming d u → t ≡ u }
 {}

@@ -10,6 +10,7 @@ use basis_entry::Recipe;
 use module_vec::Step;
 use presentation::read_presentation;
 use report_reading::{EntryData, ProofList, ReplyData, ReportData, read_report};
+use std::alloc::Global;
 use std::test::Fail;
 
 /// Whether each step names an entry below this number.
@@ -73,9 +74,22 @@ fn can_be_trimmed(report: &ReportData) -> bool
     ensures { IsTrue result → CanBeTrimmed report.now }
 {
     let entries = report.entries.entries();
-    report.from.numbers().len() == entries.len()
-        && replies_are_below(report.replies.replies(), entries.len())
-        && recipes_are_lower(entries)
+    if report.from.numbers().len() != entries.len() {
+        return false;
+    }
+    if !replies_are_below(report.replies.replies(), entries.len()) {
+        return false;
+    }
+    recipes_are_lower(entries)
+}
+
+/// The numbers of the entries that the steps name.
+fn named(alloc: Global, steps: &[Step]) -> Result<Vec<u32>, Fail> {
+    let mut numbers = Vec::new(alloc);
+    for step in steps {
+        numbers.push(step.by)?;
+    }
+    Ok(numbers)
 }
 
 const TEXT: &str = "metab report 1
@@ -117,8 +131,12 @@ fn what_proofs_use_is_kept(rt: HostRuntime) -> Result<(), Fail> {
     let Recipe::Sum { steps } = &entries[3].recipe else {
         return Err("no sum".into());
     };
-    assert_eq!(rt; (steps.steps()[0].by, steps.steps()[1].by), (1, 2));
-    let proofs = trimmed.replies.replies()[2].proofs.proofs();
-    assert_eq!(rt; proofs[0].steps()[3].by, 3);
+    assert_eq!(rt; named(rt.alloc(), steps.steps())?.as_slice(), [1, 2].as_slice());
+    let replies = trimmed.replies.replies();
+    assert_eq!(rt; replies.len(), 3);
+    let Some(proof) = replies[2].proofs.proofs().first() else {
+        return Err("no proof".into());
+    };
+    assert_eq!(rt; named(rt.alloc(), proof.steps())?.as_slice(), [0, 1, 0, 3, 1].as_slice());
     Ok(())
 }
