@@ -1,5 +1,5 @@
 -- A text that is a report has no line that can't stand.
-use Rattle.std.proofs.Common.{◌≡◌, ◌≢◌, inl, inr, ℕ, ◌==◌, false, List, [], ◌∷◌, ◌++◌, refl, sym, ap, subst, ◌∙◌, append_assoc}
+use Rattle.std.proofs.Common.{◌≡◌, inl, inr, ℕ, ◌==◌, false, List, [], ◌∷◌, ◌++◌, refl, sym, ap, subst, ◌∙◌, append_assoc}
 use Rattle.std.specs.List.{AllByRecursion}
 use Rattle.std.specs.Prelude.{Some, None}
 use Rattle.spelling.specs.Spelling.{cut}
@@ -92,6 +92,7 @@ one_head f g p known a b h k e = by f g h k firsts.0 (one_behind p known (counte
         let same = some_same (sym (title_cut f (headed_in f p a) (pres_line p ++ 10 ∷ counted_in f a) refl)
         ∙ title_cut g (headed_in f p a) (pres_line p ++ 10 ∷ counted_in g b) e) in
         (ap (λ x. x.0) same, ap (λ x. x.1) same)
+
     by : (f g : Form) → IsForm f → IsForm g → title_in f ≡ title_in g → counted_in f a ≡ counted_in g b → (f ≡ g) × (a ≡ b)
     by Whole Whole h k t c = (refl, c)
     by Whole (Trimmed n) h k t c = absurd (titles_differ t)

@@ -13,7 +13,7 @@ use Rattle.report_reading.specs.declared.form.Form.{Form}
 use Rattle.report_reading.specs.declared.fault.ReportFault.{ReportFault}
 use Rattle.report_reading.specs.declared.fault.ReportFault.TheVariants.{Line as AtLine, NoMemory}
 use Rattle.report_reading.specs.Telling.{Told, nothing, MayFollow, tell}
-use Rattle.report_reading.specs.Trimmed.{OtherMayFollow, TrimmedMayFollow, tell_other, tell_trimmed}
+use Rattle.report_reading.specs.Trimmed.{TrimmedMayFollow, tell_trimmed}
 use Rattle.report_reading.specs.Forms.{IsForm, form_of, LineIn, IsLineIn, text_in, lines_in, headed_in, first_line, FollowsIn, tell_in, TellIn, SaysIn}
 
 -- ---- one line

@@ -58,7 +58,10 @@ impl Reader {
     {
         match line {
             TrimmedLine::Entry {
-                from, made, vector, ..
+                from,
+                made,
+                vector,
+                ..
             } => self.with_entry(from, made, vector),
             TrimmedLine::Other(line) => self.with_other(alloc, items, line),
         }

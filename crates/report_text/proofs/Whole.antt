@@ -2,7 +2,6 @@
 use Rattle.std.proofs.Common.{◌≡◌, ℕ, List, [], ◌∷◌, ◌++◌, Option, Result, Ok, Err, sym, ap, subst, ◌∙◌, append_assoc, append-nil}
 use Rattle.std.specs.Prelude.{OnOk}
 use Rattle.mb_io.specs.Shelf.{TakesPrefix}
-use Rattle.presentation.specs.Presented.{Presented}
 use Rattle.session_core.specs.Sessions.{SessionState}
 use Rattle.report_lines.specs.declared.lines.Line.TheVariants as lines
 use Rattle.report_lines.specs.Texts.{title, pres_line, lines_text}

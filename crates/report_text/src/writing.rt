@@ -88,12 +88,7 @@ fn put_head<K: Sink>(alloc: Global, log: &Log<'_>, out: &mut K) -> Result<(), Wr
 }
 
 /// Writes the line of the end.
-fn put_end<K: Sink>(
-    alloc: Global,
-    log: &Log<'_>,
-    end: &End,
-    out: &mut K,
-) -> Result<(), WriteFault>
+fn put_end<K: Sink>(alloc: Global, log: &Log<'_>, end: &End, out: &mut K) -> Result<(), WriteFault>
     requires { EndIsOver (length log.now.pres.names) end.now }
     ensures text { Puts (K.taken out.old) (line_text log.now.pres (lines.End end.now) ++ 10 ∷ []) result
         (K.taken out.new) }

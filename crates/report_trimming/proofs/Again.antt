@@ -7,7 +7,7 @@ use Rattle.report_reading.specs.declared.data.ReportData.{ReportData}
 use Rattle.report_reading.specs.declared.entry.EntryData.{EntryData}
 use Rattle.report_reading.specs.declared.replies.ReplyData.{ReplyData}
 use Rattle.report_trimming.specs.Used.{Name, NamedInProof, steps_in, IsNeeded, IsUsed}
-use Rattle.report_trimming.specs.Trimming.{Pairwise, IsRising, IsKept, IsStepRenamed, AreStepsRenamed, IsRecipeRenamed, IsEntryRenamed, IsReplyRenamed, IsKeptEntry}
+use Rattle.report_trimming.specs.Trimming.{Pairwise, IsRising, IsKept, IsStepRenamed, AreStepsRenamed, IsRecipeRenamed, IsReplyRenamed, IsKeptEntry}
 use Rattle.report_trimming.specs.Trimming.{IsTrimming}
 use Rattle.report_trimming.proofs.Marking.{some_same, within, needed}
 use Rattle.report_trimming.proofs.Pairing.{paired_first}
@@ -67,9 +67,10 @@ pair_upto : {Y : Type 0} (R : ℕ → Y → Type 0) (b : ℕ) (ys : List Y) → 
 unfolding upto
 pair_upto R b [] f = tt
 pair_upto {Y} R b (y ∷ ys) f =
-    let here : b + 0 ≡ b = omega arith in
-    (subst (λ k. R k y) here (f 0 y refl),
-    pair_upto R (b + 1) ys (λ i z h. let next : b + suc i ≡ b + 1 + i = omega arith in subst (λ k. R k z) next (f (suc i) z h)))
+    let here : b + 0 ≡ b = omega arith in (
+      subst (λ k. R k y) here (f 0 y refl),
+      pair_upto R (b + 1) ys (λ i z h. let next : b + suc i ≡ b + 1 + i = omega arith in subst (λ k. R k z) next (f (suc i) z h)),
+    )
 
 own_place : (n k : ℕ) → k < n → slice_get (upto 0 n) k ≡ Some k
 own_place n k lt = let e : 0 + k ≡ k = omega arith in get_upto 0 n k lt ∙ ap Some e

@@ -1,5 +1,5 @@
 -- The numbers that are kept, and their places.
-use Rattle.std.proofs.Common.{◌≡◌, ◌↔◌, ℕ, zero, suc, ◌+◌, ◌<◌, ◌≤◌, Bool, true, false, if◌then◌else◌, List, [], ◌∷◌, ◌++◌, length, take, slice_get, Option, length-append}
+use Rattle.std.proofs.Common.{◌≡◌, ◌↔◌, ℕ, zero, suc, ◌+◌, ◌≤◌, Bool, true, false, if◌then◌else◌, List, [], ◌∷◌, ◌++◌, length, take, slice_get, length-append}
 use Rattle.std.proofs.Common.{Some, None, refl, sym, ap, subst, ◌∙◌, arith}
 use Rattle.report_reading.specs.declared.data.ReportData.{ReportData}
 use Rattle.report_reading.specs.declared.entry.EntryData.{EntryData}
@@ -78,6 +78,7 @@ kept_more b (x ∷ ms) zero m h = by x m (some_same h)
   where
     at : b ≡ b + 0
     at = omega arith
+
     by : (x m : Bool) → x ≡ m → (if x then b ∷ [] else []) ++ [] ≡ (if m then (b + 0) ∷ [] else [])
     by true true e = ap (λ n. n ∷ []) at
     by true false e = absurd (false_true (sym e))

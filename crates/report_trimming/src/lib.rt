@@ -13,6 +13,5 @@ mod used;
 
 pub use trimming::trim;
 
-
 #[cfg(test)]
 mod tests;

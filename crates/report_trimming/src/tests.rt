@@ -131,12 +131,18 @@ fn what_proofs_use_is_kept(rt: HostRuntime) -> Result<(), Fail> {
     let Recipe::Sum { steps } = &entries[3].recipe else {
         return Err("no sum".into());
     };
-    assert_eq!(rt; named(rt.alloc(), steps.steps())?.as_slice(), [1, 2].as_slice());
+    assert_eq!(rt;
+        named(rt.alloc(), steps.steps())?.as_slice(),
+        [1, 2].as_slice()
+    );
     let replies = trimmed.replies.replies();
     assert_eq!(rt; replies.len(), 3);
     let Some(proof) = replies[2].proofs.proofs().first() else {
         return Err("no proof".into());
     };
-    assert_eq!(rt; named(rt.alloc(), proof.steps())?.as_slice(), [0, 1, 0, 3, 1].as_slice());
+    assert_eq!(rt;
+        named(rt.alloc(), proof.steps())?.as_slice(),
+        [0, 1, 0, 3, 1].as_slice()
+    );
     Ok(())
 }

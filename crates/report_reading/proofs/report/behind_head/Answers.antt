@@ -16,10 +16,12 @@ returns-in_err-body-clause-fault c =
     c.in_err-body.field-0.0 c.in_err-body.ensures.fault)
 
 pub returns-then-is_title-clause-body : goal.returns-then-is_title-clause-body
-returns-then-is_title-clause-body c =
-    (tt, whole_head c.args.p.now c.args.text.now c.in-Some.others.now c.in_ok-body.body.now
-    (behind_line title c.args.text.now c.in-Some.first.now c.in-Some.others.now c.in-Some.ensures.parts (c.is_title.ensures.0 c.if-is_title.true))
-    c.in_ok-body.ensures.body)
+returns-then-is_title-clause-body c = (
+  tt,
+  whole_head c.args.p.now c.args.text.now c.in-Some.others.now c.in_ok-body.body.now
+      (behind_line title c.args.text.now c.in-Some.first.now c.in-Some.others.now c.in-Some.ensures.parts (c.is_title.ensures.0 c.if-is_title.true))
+      c.in_ok-body.ensures.body,
+)
 
 pub returns-in_err-more-clause-fault : goal.returns-in_err-more-clause-fault
 returns-in_err-more-clause-fault c =
@@ -38,11 +40,13 @@ returns-in_err-items-clause-fault c =
     c.in_ok-more.ensures.body c.in_err-items.field-0.0 c.in_err-items.ensures.fault)
 
 pub returns-then-is_trimmed_title-clause-body : goal.returns-then-is_trimmed_title-clause-body
-returns-then-is_trimmed_title-clause-body c =
-    (search rules, trimmed_head c.args.p.now c.args.text.now c.in-Some.others.now c.in_ok-more.more.now c.in_ok-items.body.now c.in_ok-items.items
-    (behind_line trimmed_title c.args.text.now c.in-Some.first.now c.in-Some.others.now c.in-Some.ensures.parts
-    (c.is_trimmed_title.ensures.0 c.if-is_trimmed_title.true))
-    c.in_ok-more.ensures.body c.in_ok-items.ensures.body)
+returns-then-is_trimmed_title-clause-body c = (
+  search rules,
+  trimmed_head c.args.p.now c.args.text.now c.in-Some.others.now c.in_ok-more.more.now c.in_ok-items.body.now c.in_ok-items.items
+      (behind_line trimmed_title c.args.text.now c.in-Some.first.now c.in-Some.others.now c.in-Some.ensures.parts
+      (c.is_trimmed_title.ensures.0 c.if-is_trimmed_title.true))
+      c.in_ok-more.ensures.body c.in_ok-items.ensures.body,
+)
 
 pub returns-clause-fault : goal.returns-clause-fault
 returns-clause-fault c =

@@ -1,9 +1,7 @@
-use Rattle.std.proofs.Common.{rules, ◌≡◌, List, sym, subst}
+use Rattle.std.proofs.Common.{rules, ◌≡◌, sym, subst}
 use Rattle.std.specs.List.{AllByRecursion}
-use Rattle.session_core.specs.Sessions.{SessionState}
 use Rattle.report_text.specs.Closing.{HasClosings}
-use Rattle.report_text.specs.Histories.{History}
-use Rattle.report_text.specs.Reports.{Reported, reported, reported_of, IsHistoryOf, text_of}
+use Rattle.report_text.specs.Reports.{Reported, reported, IsHistoryOf, text_of}
 use Rattle.report_text.specs.Writing.{Puts}
 use Rattle.report_text.proofs.Existing.{history_there}
 use Rattle.report_text.proofs.Whole.{of_log, ok_weaker}

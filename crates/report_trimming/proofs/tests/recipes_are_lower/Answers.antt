@@ -1,4 +1,4 @@
-use Rattle.std.proofs.Common.{◌≡◌, ◌<◌, ◌≤◌, ℕ, Some, length, slice_get, slice_index_or, rules, arith, sym, ap, subst, ◌∙◌}
+use Rattle.std.proofs.Common.{◌≤◌, length, rules, arith}
 use Rattle.report_trimming.proofs.Marking.{within, got, lower_next}
 use Rattle.report_trimming.proofs.tests.recipes_are_lower.Goals as goal
 

@@ -1,10 +1,8 @@
-use Rattle.std.proofs.Common.{◌≡◌, ◌∷◌, [], ◌++◌, List, Some, length, take, slice_get, arith, length-append, append_assoc, sym, ap, subst, ◌∙◌}
+use Rattle.std.proofs.Common.{◌≡◌, ◌∷◌, [], ◌++◌, List, length, slice_get, arith, length-append, append_assoc, sym, ap, ◌∙◌}
 use Rattle.std.specs.Vec.Iter.{into_iter_items}
 use Rattle.report_reading.specs.declared.entry.EntryData.{EntryData}
-use Rattle.report_trimming.specs.Kept.{kept_by, IsMarked}
-use Rattle.report_trimming.specs.Trimming.{Pairwise, IsKeptEntry}
 use Rattle.report_trimming.proofs.Marking.{within}
-use Rattle.report_trimming.proofs.Pairing.{behind_front, kept_all}
+use Rattle.report_trimming.proofs.Pairing.{behind_front}
 use Rattle.report_trimming.proofs.trimming.kept_entries.Goals as goal
 
 pub put_kept-requires-clause-within : goal.put_kept-requires-clause-within

@@ -1,4 +1,4 @@
-use Rattle.std.proofs.Common.{◌≡◌, ℕ, List, Some, slice_get, slice_index_or, take, arith, sym, ap, subst, ◌∙◌}
+use Rattle.std.proofs.Common.{◌≡◌, ℕ, List, Some, slice_get, slice_index_or, take, arith, sym, subst, ◌∙◌}
 use Rattle.report_trimming.specs.Kept.{kept_by}
 use Rattle.report_trimming.specs.Trimming.{Pairwise}
 use Rattle.report_trimming.proofs.Marking.{at_index}

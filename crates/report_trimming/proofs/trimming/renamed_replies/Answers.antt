@@ -1,10 +1,10 @@
-use Rattle.std.proofs.Common.{◌≡◌, ◌∷◌, [], ◌++◌, List, Some, length, slice_get, arith, append_assoc, sym, ap, ◌∙◌}
+use Rattle.std.proofs.Common.{◌≡◌, ◌∷◌, [], ◌++◌, List, length, arith, append_assoc, sym, ap, ◌∙◌}
 use Rattle.std.specs.Vec.Iter.{into_iter_items}
 use Rattle.report_reading.specs.declared.replies.ReplyData.{ReplyData}
 use Rattle.report_trimming.specs.Kept.{kept_by}
 use Rattle.report_trimming.specs.Trimming.{Pairwise, IsReplyRenamed}
 use Rattle.std.proofs.Common.{subst}
-use Rattle.report_trimming.proofs.Pairing.{behind_front, pair_more}
+use Rattle.report_trimming.proofs.Pairing.{pair_more}
 use Rattle.report_trimming.proofs.trimming.renamed_replies.Goals as goal
 
 pub loop-reply-preserved : goal.loop-reply-preserved

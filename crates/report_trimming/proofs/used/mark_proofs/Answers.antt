@@ -1,5 +1,4 @@
-use Rattle.std.proofs.Common.{◌≡◌, ◌≤◌, Some, length, slice_get, rules, arith, sym, ◌∙◌, subst}
-use Rattle.report_trimming.specs.Used.{Name}
+use Rattle.std.proofs.Common.{◌≡◌, ◌≤◌, Some, length, slice_get, rules, arith, ◌∙◌}
 use Rattle.report_trimming.specs.Kept.{IsMarked}
 use Rattle.report_trimming.proofs.Marking.{names_below, within, got, step_named, proofs_next, proofs_only}
 use Rattle.report_trimming.proofs.used.mark_proofs.Goals as goal

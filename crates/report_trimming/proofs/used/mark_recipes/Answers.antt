@@ -1,4 +1,4 @@
-use Rattle.std.proofs.Common.{◌≡◌, ◌<◌, ℕ, ◌+◌, ◌-◌, Some, length, slice_get, slice_index_or, true, false, rules, arith, sym, ap, ◌∙◌, subst}
+use Rattle.std.proofs.Common.{◌≡◌, ◌<◌, ℕ, ◌+◌, ◌-◌, Some, length, slice_index_or, true, false, rules, arith, sym, ap, ◌∙◌, subst}
 use Rattle.report_reading.specs.declared.entry.EntryData.{EntryData}
 use Rattle.report_trimming.specs.Kept.{IsMarked}
 use Rattle.report_trimming.specs.Used.{IsNeeded}

@@ -1,4 +1,4 @@
-use Rattle.std.proofs.Common.{◌≡◌, ◌≤◌, Some, length, slice_get, rules, arith, ◌∙◌}
+use Rattle.std.proofs.Common.{◌≤◌, length, rules, arith, ◌∙◌}
 use Rattle.report_trimming.specs.Kept.{IsMarked}
 use Rattle.report_trimming.proofs.Marking.{within, got, replies_next, replies_only}
 use Rattle.report_trimming.proofs.used.mark_replies.Goals as goal
