@@ -5,6 +5,7 @@ ghost use Rattle.std.specs.List.{AllByRecursion};
 ghost use Rattle.module_vec.specs.declared.places.Place.{Place};
 ghost use Rattle.module_vec.specs.declared.places.Term.{Term};
 ghost use Rattle.module_vec.specs.Vectors.{coefficient_at, InRange};
+ghost use Rattle.module_vec.specs.Modules.{vector_at};
 ghost use Rattle.report_lines.specs.declared.lines.Made.TheVariants as made;
 ghost use Rattle.cert_checker.specs.States.{IsInTurnAt, AreNear, HaveRange};
 ghost use Rattle.cert_checker.specs.Checking.{signed, IsMadeAt, EntryFailsAt, Outcome};
