@@ -1,0 +1,4 @@
+pub mod Marking
+pub mod Keeping
+pub mod Pairing
+pub mod Again

@@ -1,0 +1,10 @@
+//! Laws of trimmed reports.
+
+ghost use Rattle.report_reading.specs.declared.data.ReportData.{ReportData};
+ghost use Rattle.report_trimming.specs.Trimming.{IsTrimming};
+
+/// A trimmed report is its own trimming.
+#[tactic(auto, using(crate::proofs::Again::own_trimming))]
+pub fn trimmed_is_its_own_trimming()
+    ensures { (d t : ReportData) → IsTrimming d t → IsTrimming t t }
+{}
