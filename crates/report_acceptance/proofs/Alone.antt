@@ -12,6 +12,7 @@ use Rattle.report_lines.specs.declared.trimmed.TrimmedLine.{TrimmedLine}
 use Rattle.report_lines.specs.declared.trimmed.TrimmedLine.TheVariants.{Entry, Other}
 use Rattle.report_lines.specs.Texts.{title, pres_line}
 use Rattle.report_lines.specs.Trimmed.{trimmed_title, trimmed_line_text}
+use Rattle.report_lines.proofs.Pairs.{clash}
 use Rattle.report_lines.proofs.ReadingBack.{one_line}
 use Rattle.report_lines.proofs.TrimmedTexts.{one_trimmed_line, one_items_line}
 use Rattle.cert_checker.specs.declared.checked.Checked.{Checked}
@@ -36,7 +37,7 @@ no_line text line others none cuts = none-some _ (sym none ∙ cuts)
 
 -- the titles differ in their last byte
 two_titles : title ≡ trimmed_title → ⊥
-two_titles e = absurd cc
+two_titles e = clash 14 title trimmed_title e refl
 
 module _ (p : Presented) (known : IsPresented p) where
   -- the text of a line is that of no other
