@@ -37,7 +37,7 @@ use Rattle.cert_checker.specs.declared.faults.CertFault.{CertFault}
 use Rattle.cert_checker.specs.States.{State, start, IsSettled, MayFollow, LineFollows, asked, next, with_line, AreWords}
 use Rattle.cert_checker.specs.Checking.{Agrees, LineAgrees, due}
 use Rattle.cert_checker.specs.Texts.{IsLineIn, TitleHolds, PresentationHolds, ItemsHold, BodyHolds, HoldsIn, BytesHold, Tells, TellsWhole, Answers}
-use Rattle.cert_checker.specs.Truth.{IsYes, IsTrueVerdict, IsTrueLine, IsTrue, report_text, IsTrueReport}
+use Rattle.cert_checker.specs.Truth.{IsYes, IsTrueVerdict, IsTrueLine, IsTrue, IsTrueReport}
 use Rattle.cert_checker.proofs.Lists.{all_at}
 use Rattle.cert_checker.proofs.Members.{Lies, entry_lies, proven_trivial}
 use Rattle.cert_checker.proofs.ShortWords.{all_over}
@@ -200,7 +200,7 @@ module _ (p : Presented) (ok : IsPresented p) (gens : List (List Term)) (are : A
 
   -- ---- the head
 
-  -- what stands behind a line of the head, when all was taken up to s
+  -- the text is that of true lines of this version
   record Behind (v : Version) (text : List ℕ) : Type 0 where
     ls : List TrimmedLine
     valid : AllByRecursion (IsLineIn v p) ls

@@ -29,7 +29,8 @@ impl Checker {
     /// Goes on behind the presentation, where it is the right one.
     pub fn take_presentation(self, is_right: bool) -> Result<Checker, LineFault>
         ensures { Outcome (λ taken. IsTrue is_right × (taken ≡ record self {
-            phase = behind_presentation self.version }))
+          phase = behind_presentation self.version;
+        }))
             (λ k. (IsTrue is_right → ⊥) × (k ≡ Text)) result }
     {
         if !is_right {

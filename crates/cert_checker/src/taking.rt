@@ -103,7 +103,14 @@ impl Checker {
                 made,
                 vector,
                 ..
-            } => entry_agrees(alloc, generators, &self.entries, *from as usize, made, vector),
+            } => entry_agrees(
+                alloc,
+                generators,
+                &self.entries,
+                *from as usize,
+                made,
+                vector,
+            ),
             TrimmedLine::Other(line) => self.line_agrees(alloc, p, generators, line),
         }
     }
@@ -124,7 +131,14 @@ impl Checker {
     {
         match line {
             Line::Entry { made, vector, .. } => {
-                entry_agrees(alloc, generators, &self.entries, self.entries.len(), made, vector)
+                entry_agrees(
+                    alloc,
+                    generators,
+                    &self.entries,
+                    self.entries.len(),
+                    made,
+                    vector,
+                )
             }
             Line::Proof { steps, .. } => {
                 let word = &self.subjects[self.shown];

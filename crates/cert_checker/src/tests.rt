@@ -50,7 +50,12 @@ const MAP: [&str; 10] = [
 ];
 
 /// The lines with their ends; the line of this number, counted from 1, is another one.
-pub(crate) fn text(alloc: Global, lines: &[&str], number: usize, other: &str) -> Result<Vec<u8>, AllocError> {
+pub(crate) fn text(
+    alloc: Global,
+    lines: &[&str],
+    number: usize,
+    other: &str,
+) -> Result<Vec<u8>, AllocError> {
     let mut text = Vec::new(alloc);
     for (i, line) in lines.iter().enumerate() {
         let line = if i + 1 == number { other } else { line };
@@ -61,7 +66,11 @@ pub(crate) fn text(alloc: Global, lines: &[&str], number: usize, other: &str) ->
 }
 
 /// What the checker answers.
-pub(crate) fn answer(alloc: Global, p: &str, text: &[u8]) -> Result<Result<Checked, CertFault>, Fail> {
+pub(crate) fn answer(
+    alloc: Global,
+    p: &str,
+    text: &[u8],
+) -> Result<Result<Checked, CertFault>, Fail> {
     match read_presentation(alloc, p.as_bytes()) {
         Ok(p) => Ok(check(alloc, &p, text)),
         Err(_) => Err(Fail::from("no presentation")),

@@ -67,11 +67,23 @@ fn trimmed_reports_that_fail(rt: HostRuntime) -> Result<(), Fail> {
         (7, "live 1 1 6 trivial t : unknown 1", text_at(7)),
         // The entry behind is then below the front.
         (7, "live 1 1 8 trivial t : unknown 1", text_at(8)),
-        (8, "entry 3 from 11 sum -1*a@1 +1*1@2 : +1*a@a -1*1@a", text_at(8)),
-        (8, "entry 2 from 7 sum -1*a@1 +1*1@2 : +1*a@a -1*1@a", text_at(8)),
+        (
+            8,
+            "entry 3 from 11 sum -1*a@1 +1*1@2 : +1*a@a -1*1@a",
+            text_at(8),
+        ),
+        (
+            8,
+            "entry 2 from 7 sum -1*a@1 +1*1@2 : +1*a@a -1*1@a",
+            text_at(8),
+        ),
         (9, "live 1 2 7 equal a^2 = t a t^-1 : trivial", text_at(9)),
         (9, "live 1 2 12 equal a^2 = t a t^-1 : trivial", text_at(9)),
-        (13, "live 1 4 10 trivial a t a t^-1 a^-1 t a^-1 t^-1 : trivial", text_at(13)),
+        (
+            13,
+            "live 1 4 10 trivial a t a t^-1 a^-1 t a^-1 t^-1 : trivial",
+            text_at(13),
+        ),
         (12, "entry 4 from 9 sum 0 : 0", text_at(12)),
         (
             5,
