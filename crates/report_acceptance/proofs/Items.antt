@@ -15,8 +15,10 @@ use Rattle.basis_entry.specs.Entries.{BasisEntry, IsBasisEntry, vectors_of}
 use Rattle.basis_entry.specs.Seals.{Seal}
 use Rattle.basis_entry.proofs.Vectors.{are_entries}
 use Rattle.report_lines.specs.declared.lines.Line.TheVariants as lines
+use Rattle.cert_checker.specs.declared.version.Version.{Version}
 use Rattle.cert_checker.specs.declared.phase.Phase.{Phase}
 use Rattle.cert_checker.specs.declared.phase.Phase.TheVariants.{Entries, Sealed}
+use Rattle.cert_checker.specs.States.{HasGeneratorsIn}
 use Rattle.report_text.specs.Histories.{SessionAnswers, made_by, live_at, entry_lines, seal_lines, told_from}
 use Rattle.report_text.specs.Reports.{IsSumOver, EntryIsOver}
 use Rattle.report_text.proofs.Lists.{all_first, at_place}
@@ -132,9 +134,15 @@ module _ (p : Presented) (gens : List (List Term)) (pres : IsPresented p) (es : 
         let number = length-map es (λ (e : BasisEntry). e.vector) in
         let all = known.generators in
         let within = known.within in
-        one p gens (IsAt Entries (vectors_of es)) (IsAt Sealed (vectors_of es)) lines.Seal tt
-        (λ s h. let same : length s.entries ≡ length (vectors_of es) = ap length h.entries in
-        ((h.phase, h.settled, omega (arith, same, number, all, within)), (tt, record { phase = refl; entries = h.entries; settled = h.settled })))
+        one p gens (IsAt Entries (vectors_of es)) (IsAt Sealed (vectors_of es)) lines.Seal tt (λ s h. h.whole)
+        (λ s h. let same : length s.entries ≡ length (vectors_of es) = ap length h.entries in (
+          (
+            h.phase,
+            h.settled,
+            subst (λ (v : Version). HasGeneratorsIn v gens s.entries) (sym h.whole) (omega (arith, same, number, all, within)),
+          ),
+          (tt, record { phase = refl; whole = h.whole; entries = h.entries; settled = h.settled }),
+        ))
 
     end_taken : (o : Option Seal) (k : ℕ) → k ≡ length es → Leads p gens (IsAt Entries (vectors_of es)) (told_from ts k (seal_lines o))
         (IsAt (phase_of o) (vectors_of es))

@@ -1,5 +1,6 @@
 pub mod Taking
 pub mod Exclusion
+pub mod Alone
 pub mod Told
 pub mod Generating
 pub mod Placing
