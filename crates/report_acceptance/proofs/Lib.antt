@@ -21,3 +21,6 @@ pub mod Fronts
 pub mod Between
 pub mod Closings
 pub mod Whole
+-- trimmed reports
+pub mod Growing
+pub mod TrimmedTaking
