@@ -89,7 +89,7 @@ module _ (p : Presented) (gens : List (List Term)) (pres : IsPresented p) (es : 
 -- ---- reports that can be written
 
 module _ (r : Reported) (h : History) (known : IsKnown r) (can : IsReportable r) (is : IsHistoryOf r h) where
-  are_known : AreKnown r.pres can.entries.begins.gens can.base r.entries
+  pub are_known : AreKnown r.pres can.entries.begins.gens can.base r.entries
   are_known = record {
     entries = known.entries;
     over = can.over;

@@ -25,6 +25,9 @@ none_some e = cc
 pub some_same : {X : Type 0} {x y : X} → Some x ≡ Some y → x ≡ y
 some_same e = cc
 
+pub some_end : {X : Type 0} (o : Option X) → IsSome o → o ≡ None → ⊥
+some_end o h e = let wrong : false ≡ true = subst IsSome e h in absurd cc
+
 abbrev pub last_in : {X : Type 0} → List X → Option X
 last_in xs = slice_get xs (length xs - 1)
 
@@ -165,10 +168,6 @@ module _ (n : ℕ) where
       by : (o : Option ReplyData) → last_in rs ≡ o → IsDue j o → IsReached o k
       by None e d = tt
       by (Some r) e d = subst (λ o. IsReached o k) (proof_added ss rs r e) h
-
-  some_end : {X : Type 0} (o : Option X) → IsSome o → o ≡ None → ⊥
-  some_end None h e = absurd h
-  some_end (Some x) h e = none_some (sym e)
 
   other_later : (u : Told) (l : Line) (k : ℕ) → OtherMayFollow n u l → (tell_other n u l).end ≡ None → IsReached (last_reply (tell_other n u l)) k
       → (u.end ≡ None) × IsReached (last_reply u) k

@@ -71,16 +71,16 @@ pub record AreKnown (p : Presented) (gens : List (List Term)) (base : ℕ) (es :
 
 module _ (p : Presented) (gens : List (List Term)) (pres : IsPresented p) (es : List BasisEntry) (seal : Option Seal) (base : ℕ)
     (known : AreKnown p gens base es) where
-  first_entries : (k : ℕ) → AreEntries (vectors_of (take k es))
+  pub first_entries : (k : ℕ) → AreEntries (vectors_of (take k es))
   first_entries k = are_entries (take k es) (all_first IsBasisEntry k es known.entries)
 
-  first_over : (k : ℕ) → AllByRecursion (VectorIsOver (length p.names)) (vectors_of (take k es))
+  pub first_over : (k : ℕ) → AllByRecursion (VectorIsOver (length p.names)) (vectors_of (take k es))
   first_over k = vectors_over (length p.names) (take k es) (all_first (EntryIsOver (length p.names)) k es known.over)
 
   first_length : (k : ℕ) → k ≤ length es → length (vectors_of (take k es)) ≡ k
   first_length k le = length-map (take k es) (λ (e : BasisEntry). e.vector) ∙ length_take es k le
 
-  next_by : (k : ℕ) (e : BasisEntry) (t : Bool) → nat_lt k base ≡ t → k < length es → slice_get es k ≡ Some e → IsNextEntry gens (vectors_of (take k es)) e
+  pub next_by : (k : ℕ) (e : BasisEntry) (t : Bool) → nat_lt k base ≡ t → k < length es → slice_get es k ≡ Some e → IsNextEntry gens (vectors_of (take k es)) e
   next_by k e true lt within has =
       let number = first_length k (omega (arith, within)) in
       let below : k < base = grind arith in

@@ -24,3 +24,6 @@ pub mod Whole
 -- trimmed reports
 pub mod Growing
 pub mod TrimmedTaking
+pub mod Renaming
+pub mod TrimmedRight
+pub mod TrimmedAcceptance

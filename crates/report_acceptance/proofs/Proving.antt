@@ -78,11 +78,11 @@ module _ (p : Presented) (gens : List (List Term)) (known : IsPresented p) (b : 
   word_placed w fits = fox_placed w (IsOver-more (length p.names) 24 w known.few_names fits.0) fits.1
 
   -- what a proof has to be
-  record IsProof (w : List Letter) (ss : List Step) : Type 0 where
-    near : AreNear b ss
-    leads : StepsLead Take b (fox_at w) ss zero_vector
+  pub record IsProof (w : List Letter) (ss : List Step) : Type 0 where
+    pub near : AreNear b ss
+    pub leads : StepsLead Take b (fox_at w) ss zero_vector
 
-  is_proof : (w : List Letter) (ss : List Step) → Fits (length p.names) w → IsRest b (fox_at w) [] ss → IsProof w ss
+  pub is_proof : (w : List Letter) (ss : List Step) → Fits (length p.names) w → IsRest b (fox_at w) [] ss → IsProof w ss
   is_proof w ss fits is = record {
     near = runs_near b (fox_at w) (coefficient_at []) ss entries (word_placed w fits) is.runs;
     leads = (steps_there b ss is.are, runs_lead b (fox_at w) (coefficient_at []) ss is.runs);

@@ -17,6 +17,8 @@ use Rattle.step_lists.specs.declared.way.Way.TheVariants.{Add, Take}
 use Rattle.step_lists.specs.Sums.{zero_vector}
 use Rattle.vector_text.specs.Over.{VectorIsOver}
 use Rattle.session_text.specs.declared.question.Question.{Question}
+use Rattle.session_text.specs.Questions.{HasImages}
+use Rattle.hom_check.proofs.Fitting.{Fits}
 use Rattle.basis_entry.specs.declared.recipes.Recipe.{Recipe}
 use Rattle.basis_entry.specs.declared.recipes.Recipe.TheVariants.{Gen, Sum}
 use Rattle.basis_entry.specs.Entries.{BasisEntry, vectors_of}
@@ -37,7 +39,7 @@ use Rattle.cert_checker.specs.States.{IsInTurn, IsInTurnAt, AreNear, asked}
 use Rattle.cert_checker.specs.Checking.{AreThere, IsMadeOf, IsMadeAt, StepsLead, signed, fox_at}
 use Rattle.report_acceptance.specs.Saying.{entry_data, live_reply, replied_at, replies_at, closing_reply, closed_in, closing_replies, data_of}
 use Rattle.report_acceptance.proofs.Stepping.{entry_there}
-use Rattle.report_acceptance.proofs.Proving.{AreShownBy, shown_by, is_proof, IsProof}
+use Rattle.report_acceptance.proofs.Proving.{AreShownBy, shown_by, is_proof}
 use Rattle.report_acceptance.proofs.Verdicts.{asked_is, shown_fit}
 use Rattle.report_acceptance.proofs.Entries.{IsNextEntry}
 use Rattle.report_acceptance.proofs.Sessions.{IsTold, IsSessionTold}
@@ -62,12 +64,19 @@ from_range : (n i k : ℕ) → slice_get (range_with_len 0 n) i ≡ Some k → k
 from_range n i k h =
     let within : i < length (range_with_len 0 n) = slice_get_within (range_with_len 0 n) i k h in
     let long : length (range_with_len 0 n) ≡ n = length-range_with_len 0 n in
-    sym (get_or_from_slice_get (range_with_len 0 n) i k 0 h) ∙ get_or-range_with_len 0 n i 0 (omega (arith, within, long))
+    let value : get_or (range_with_len 0 n) i 0 ≡ 0 + i = get_or-range_with_len 0 n i 0 (omega (arith, within, long)) in
+    let own : get_or (range_with_len 0 n) i 0 ≡ k = get_or_from_slice_get (range_with_len 0 n) i k 0 h in
+    omega (arith, value, own)
 
 take_most : {X : Type 0} (xs : List X) (m : ℕ) → length (take m xs) ≤ m
 take_most xs zero = omega arith
 take_most [] (suc m) = omega arith
 take_most (x ∷ xs) (suc m) = let e = take_most xs m in omega (arith, e)
+
+taken_length : {X : Type 0} (xs : List X) (m : ℕ) → length (take m xs) ≤ length xs
+taken_length xs zero = omega arith
+taken_length [] (suc m) = omega arith
+taken_length (x ∷ xs) (suc m) = let e = taken_length xs m in omega (arith, e)
 
 all_of : {X : Type 0} (P : X → Type 0) (xs : List X) (i : ℕ) (x : X) → AllByRecursion P xs → slice_get xs i ≡ Some x → P x
 all_of P [] i x h at = absurd cc
@@ -141,7 +150,7 @@ module _ (p : Presented) (gens : List (List Term)) (pres : IsPresented p) (es : 
 
   module _ (ts : List SessionAnswers) (told : AllByRecursion (IsSessionTold p es seal base) ts) (h : History) (own : h.entries ≡ es) (said : h.sessions ≡ ts)
       (t : ReportData) (trims : IsTrimming (data_of h) t) where
-    kept : List ℕ
+    abbrev kept : List ℕ
     kept = trims.kept
 
     -- the entry of the report that an entry of the trimming is
@@ -263,8 +272,54 @@ module _ (p : Presented) (gens : List (List Term)) (pres : IsPresented p) (es : 
 
     -- ---- replies
 
-    shown_at : (m : ℕ) (ws : List (List Letter)) (proofs : List (List Step)) (j : ℕ) (ss : List Step) → AreShownBy (vectors_below es m) ws proofs
-        → AllByRecursion (Fits_in p) ws → slice_get proofs j ≡ Some ss
-        → IsProof p gens pres (vectors_below es m) (first_entries p gens pres es seal base known m) (first_over p gens pres es seal base known m)
-        (few_below m) (get_or ws j []) ss
-    shown_at m ws proofs j ss shown fit at = absurd cc
+    few_below : (m : ℕ) → length (vectors_below es m) < 2 ^ 32
+    few_below m =
+        let long : length (vectors_below es m) ≡ length (take m es) = length-map (take m es) (λ (x : BasisEntry). x.vector) in
+        let most : length (take m es) ≤ length es = taken_length es m in
+        let few = known.few in
+        omega (arith, long, most, few)
+
+    proof_at : (m : ℕ) (ws : List (List Letter)) (proofs : List (List Step)) (j : ℕ) (ss : List Step) → AreShownBy (vectors_below es m) ws proofs
+        → AllByRecursion (Fits (length p.names)) ws → slice_get proofs j ≡ Some ss
+        → AreNear (vectors_below es m) ss × StepsLead Take (vectors_below es m) (fox_at (get_or ws j [])) ss zero_vector
+    proof_at m [] [] j ss shown fit at = absurd cc
+    proof_at m [] (x ∷ proofs) j ss shown fit at = absurd shown
+    proof_at m (w ∷ ws) [] j ss shown fit at = absurd shown
+    proof_at m (w ∷ ws) (x ∷ proofs) zero ss shown fit at =
+        let own = is_proof p gens pres (vectors_below es m) (first_entries p gens pres es seal base known m) (first_over p gens pres es seal base known m)
+        (few_below m) w x fit.0 shown.0 in
+        subst (λ ys. AreNear (vectors_below es m) ys × StepsLead Take (vectors_below es m) (fox_at w) ys zero_vector) (some_same at) (own.near, own.leads)
+    proof_at m (w ∷ ws) (x ∷ proofs) (suc j) ss shown fit at = proof_at m ws proofs j ss shown.1 fit.1 at
+
+    reply_right : (i : ℕ) (x : ReplyData) → slice_get t.replies i ≡ Some x → IsRightReply gens t.from t.entries x
+    reply_right i x at =
+        let q = paired_first (IsReplyRenamed kept) (data_of h).replies t.replies i x trims.replies at in
+        let all : AllByRecursion IsReplyOf (data_of h).replies =
+        subst (λ xs. AllByRecursion IsReplyOf (flat_map (replies_at xs) (range_with_len 1 (item_count h.entries h.seal)) ++ closing_replies xs)) (sym said)
+        (replies_of ts (range_with_len 1 (item_count h.entries h.seal)) told) in
+        let old : IsReplyOf q.item = all_of IsReplyOf (data_of h).replies i q.item all q.is in
+        let front : x.front ≡ q.item.front = q.related.front in
+        let words : asked x.question x.verdict ≡ to_show q.item.question q.item.verdict =
+        (λ k. asked (q.related.question k) (q.related.verdict k)) ∙ asked_is q.item.question q.item.verdict in
+        let shown : AreShownBy (vectors_below es q.item.front) (to_show q.item.question q.item.verdict) q.item.proofs =
+        shown_by (vectors_below es q.item.front) (to_show q.item.question q.item.verdict) q.item.proofs
+        (yes_is_shown p (vectors_below es q.item.front) (seal_below es seal q.item.front) q.item.question q.item.verdict old.verdict) old.proofs in
+        record {
+          low = let count = known.generators in let enough = old.low in omega (arith, count, enough, front);
+          images = subst HasImages (sym q.related.question) old.ask.1;
+          proofs = λ j ss has before more parts below.
+              let pair = paired_first (AreStepsRenamed kept) q.item.proofs x.proofs j ss q.related.proofs has in
+              let own = proof_at q.item.front (to_show q.item.question q.item.verdict) q.item.proofs j pair.item shown
+              (shown_fit p q.item.question q.item.verdict old.ask) pair.is in
+              let same = steps_same before more parts q.item.front pair.item ss pair.related own.1.0
+              (λ a k here lt. below a k (kept_number a k here) (omega (arith, front, lt))) in
+              record {
+                near = same_near (vectors_below es q.item.front) (vectors_in before) pair.item ss same own.1.0 own.0;
+                leads = subst (λ ws. StepsLead Take (vectors_in before) (fox_at (get_or ws j [])) ss zero_vector) (sym words)
+                    (same_steps (vectors_below es q.item.front) (vectors_in before) Take
+                    (fox_at (get_or (to_show q.item.question q.item.verdict) j [])) zero_vector pair.item ss same own.1);
+              };
+        }
+
+    pub trimming_right : AreRight gens t.from t.entries t.replies
+    trimming_right = record { entries = next_kept; replies = reply_right }

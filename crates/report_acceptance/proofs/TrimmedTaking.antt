@@ -42,7 +42,7 @@ use Rattle.cert_checker.specs.Texts.{IsLineIn}
 use Rattle.report_acceptance.proofs.Taking.{after, AllHold}
 use Rattle.report_acceptance.proofs.Verdicts.{count_is}
 use Rattle.report_acceptance.proofs.Puts.{get_behind}
-use Rattle.report_acceptance.proofs.Growing.{some_same, last_in, last_added, IsLonger, at_seam, HasGrown, proof_added, other_entries, other_from}
+use Rattle.report_acceptance.proofs.Growing.{some_same, some_end, last_in, last_added, IsLonger, at_seam, HasGrown, proof_added, other_entries, other_from}
 use Rattle.report_acceptance.proofs.Growing.{entries_grow, from_grows, replies_grow, due_reached, later}
 
 abbrev pub vectors_in : List EntryData → List (List Term)
@@ -102,19 +102,19 @@ open_in None false finished e = tt
 open_in (Some x) sealed finished e = absurd cc
 
 closing_in : (o : Option End) (sealed finished : Bool) → IsSome o → finished ≡ false → phase_in o sealed finished ≡ phases.Closing
-closing_in None sealed finished h e = absurd h
+closing_in None sealed finished h e = absurd (some_end {X = End} None h refl)
 closing_in (Some x) sealed finished h e = ap (λ b. if b then phases.Finished else phases.Closing) e
 
 finished_in : (o : Option End) (sealed finished : Bool) → IsSome o → finished ≡ true → phase_in o sealed finished ≡ phases.Finished
-finished_in None sealed finished h e = absurd h
+finished_in None sealed finished h e = absurd (some_end {X = End} None h refl)
 finished_in (Some x) sealed finished h e = ap (λ b. if b then phases.Finished else phases.Closing) e
 
 -- the subjects are those of the reply, and so many are shown as it has proofs
-abbrev IsAnswer : Option ReplyData → State → Type 0
-IsAnswer None s = (s.subjects ≡ []) × (s.shown ≡ 0)
-IsAnswer (Some r) s = (s.subjects ≡ asked r.question r.verdict) × (s.shown ≡ length r.proofs)
+abbrev IsAnswer : Option ReplyData → List (List Letter) → ℕ → Type 0
+IsAnswer None subjects shown = (subjects ≡ []) × (shown ≡ 0)
+IsAnswer (Some r) subjects shown = (subjects ≡ asked r.question r.verdict) × (shown ≡ length r.proofs)
 
-is_settled : (o : Option ReplyData) (s : State) → IsShown o → IsAnswer o s → IsSettled s
+is_settled : (o : Option ReplyData) (s : State) → IsShown o → IsAnswer o s.subjects s.shown → IsSettled s
 is_settled None s shown h = let none : length s.subjects ≡ 0 = ap length h.0 in omega (arith, none)
 is_settled (Some r) s shown h =
     let count : length s.subjects ≡ proof_count r.question r.verdict = ap length h.0 ∙ asked_count r.question r.verdict in
@@ -128,12 +128,12 @@ module _ (p : Presented) (gens : List (List Term)) (n : ℕ) where
     entries : s.entries ≡ vectors_in u.entries
     phase : s.phase ≡ phase_in u.end u.sealed u.finished
     same : length u.from ≡ length u.entries
-    answer : IsAnswer (last_reply u) s
+    answer : IsAnswer (last_reply u) s.subjects s.shown
     passed : u.end ≡ None → (k : ℕ) → AreBelow (last_from u) k → IsReached (last_reply u) k → s.passed ≤ k
     going : u.end ≡ None → u.finished ≡ false
     shown : u.finished ≡ true → IsShown (last_reply u)
 
-  begun : State
+  abbrev pub begun : State
   begun = record start { phase = phases.Entries; version = Trimmed n }
 
   at_first : IsThere nothing begun
@@ -242,7 +242,7 @@ module _ (p : Presented) (gens : List (List Term)) (n : ℕ) where
         same = h.same;
         answer = h.answer;
         passed = h.passed;
-        going = λ none. absurd (subst IsSome none may.0.0);
+        going = λ none. absurd (some_end u.end may.0.0 none);
         shown = λ e. may.0.2;
       };
     }
@@ -275,7 +275,7 @@ module _ (p : Presented) (gens : List (List Term)) (n : ℕ) where
             entries = h.entries;
             phase = h.phase;
             same = h.same;
-            answer = subst (λ o. IsAnswer o (next s (lines.Live session number front q v))) (sym last) (refl, refl);
+            answer = subst (λ o. IsAnswer o (asked q v) 0) (sym last) (refl, refl);
             passed = λ none k below reached. subst (λ o. IsReached o k) last reached;
             going = h.going;
             shown = λ e. absurd (let no : u.finished ≡ false = h.going may.0.0 in let wrong : true ≡ false = sym e ∙ no in cc);
@@ -301,8 +301,8 @@ module _ (p : Presented) (gens : List (List Term)) (n : ℕ) where
             entries = h.entries;
             phase = h.phase;
             same = h.same;
-            answer = subst (λ o. IsAnswer o (next s (lines.Close session number q v))) (sym last) (refl, refl);
-            passed = λ none. absurd (subst IsSome none may.0.0);
+            answer = subst (λ o. IsAnswer o (asked q v) 0) (sym last) (refl, refl);
+            passed = λ none. absurd (some_end u.end may.0.0 none);
             going = h.going;
             shown = λ e. absurd (let no : u.finished ≡ false = may.0.1 in let wrong : true ≡ false = sym e ∙ no in cc);
           };
@@ -328,7 +328,7 @@ module _ (p : Presented) (gens : List (List Term)) (n : ℕ) where
         let grown : ReplyData = record r { proofs = r.proofs ++ ss ∷ [] } in
         let last : last_reply told ≡ Some grown = proof_added ss u.replies r is in
         let known = told_right told grown ls rest last in
-        let own : IsAnswer (Some r) s = subst (λ o. IsAnswer o s) is h.answer in
+        let own : IsAnswer (Some r) s.subjects s.shown = subst (λ o. IsAnswer o s.subjects s.shown) is h.answer in
         let count : length s.subjects ≡ proof_count r.question r.verdict = ap length own.0 ∙ asked_count r.question r.verdict in
         let longer : IsLonger u.entries t.entries = entries_grow n told t ls rest in
         let here : slice_get ((r.proofs ++ ss ∷ []) ++ known.0) (length r.proofs) ≡ Some ss =
@@ -349,7 +349,7 @@ module _ (p : Presented) (gens : List (List Term)) (n : ℕ) where
             entries = h.entries;
             phase = h.phase;
             same = h.same;
-            answer = subst (λ o. IsAnswer o (next s (lines.Proof subject ss))) (sym last)
+            answer = subst (λ o. IsAnswer o s.subjects (s.shown + 1)) (sym last)
                 (own.0, ap (λ m. m + 1) own.1 ∙ sym (length-append r.proofs (ss ∷ [])));
             passed = λ none k below reached. h.passed none k below (due_reached n ss u.replies subject k (subst (IsDue subject) (sym is) may) reached);
             going = h.going;

@@ -41,7 +41,13 @@ proof_count (lines.Done ∷ ls) = proof_count ls
 abbrev pub told_amount : Reported → History → Checked
 told_amount r h = record { entries = capped (length r.entries); proofs = capped (proof_count (lines_of h)) }
 
--- all lines were taken, unless memory ran out
+-- all lines of a text were taken, unless memory ran out
+abbrev pub IsHeld : Result Checked CertFault → Type 0
+IsHeld (Ok c) = Unit {0}
+IsHeld (Err (AtLine number kind)) = ⊥
+IsHeld (Err NoMemory) = Unit {0}
+
+-- all lines were taken, and so many, unless memory ran out
 abbrev pub IsAccepted : Reported → History → Result Checked CertFault → Type 0
 IsAccepted r h (Ok c) = c ≡ told_amount r h
 IsAccepted r h (Err (AtLine number kind)) = ⊥
