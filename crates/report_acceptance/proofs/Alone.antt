@@ -1,7 +1,7 @@
 -- Of a text that is told to hold nothing else is told.
-use Rattle.std.proofs.Common.{◌≡◌, ◌≢◌, inl, inr, ℕ, ◌+◌, List, [], ◌∷◌, refl, sym, ap, subst, ◌∙◌}
+use Rattle.std.proofs.Common.{◌≡◌, inl, inr, ℕ, ◌+◌, List, refl, sym, ap, subst, ◌∙◌}
 use Rattle.std.proofs.lemmas.Option.{none-some}
-use Rattle.std.specs.Prelude.{Some, None, Result, Ok, Err}
+use Rattle.std.specs.Prelude.{Some, None, Result, Ok}
 use Rattle.spelling.specs.Spelling.{cut}
 use Rattle.word_text.specs.Place.{capped}
 use Rattle.presentation.specs.Presented.{Presented, IsPresented}
@@ -10,7 +10,7 @@ use Rattle.vector_text.proofs.PlaceTexts.{some_pair}
 use Rattle.report_lines.specs.declared.lines.Line.{Line}
 use Rattle.report_lines.specs.declared.trimmed.TrimmedLine.{TrimmedLine}
 use Rattle.report_lines.specs.declared.trimmed.TrimmedLine.TheVariants.{Entry, Other}
-use Rattle.report_lines.specs.Texts.{title, pres_line}
+use Rattle.report_lines.specs.Texts.{title}
 use Rattle.report_lines.specs.Trimmed.{trimmed_title, trimmed_line_text}
 use Rattle.report_lines.proofs.Pairs.{clash}
 use Rattle.report_lines.proofs.ReadingBack.{one_line}

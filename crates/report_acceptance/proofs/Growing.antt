@@ -2,19 +2,17 @@
 use Rattle.std.proofs.Common.{◌≡◌, ℕ, zero, suc, ◌+◌, ◌-◌, ◌<◌, ◌≤◌, nat_lt, Bool, true, false, List, [], ◌∷◌, ◌++◌, length, slice_get, Option, Some, None, IsSome}
 use Rattle.std.proofs.Common.{refl, sym, ap, subst, ◌∙◌, append_assoc, append-nil, length-append, arith}
 use Rattle.std.proofs.lemmas.Option.{slice_get_within}
-use Rattle.presentation.specs.Presented.{Presented}
-use Rattle.module_vec.specs.declared.places.Term.{Term}
 use Rattle.module_vec.specs.declared.steps.Step.{Step}
 use Rattle.report_lines.specs.declared.lines.Line.{Line}
 use Rattle.report_lines.specs.declared.lines.Line.TheVariants as lines
 use Rattle.report_lines.specs.declared.trimmed.TrimmedLine.{TrimmedLine}
 use Rattle.report_lines.specs.declared.trimmed.TrimmedLine.TheVariants.{Entry, Other}
-use Rattle.report_reading.specs.declared.entry.EntryData.{EntryData}
 use Rattle.report_reading.specs.declared.replies.ReplyData.{ReplyData}
 use Rattle.report_reading.specs.declared.form.Form.TheVariants.{Trimmed}
-use Rattle.report_reading.specs.Telling.{Told, IsShown, IsDue, last_reply, with_proof}
+use Rattle.report_reading.specs.Telling.{Told, IsDue, last_reply, with_proof}
 use Rattle.report_reading.specs.Trimmed.{IsReached, OtherMayFollow, tell_other, tell_trimmed}
 use Rattle.report_reading.specs.Forms.{TellIn}
+use Rattle.report_acceptance.specs.Accepting.{proofs_in}
 use Rattle.report_acceptance.proofs.Puts.{get_behind}
 
 -- ---- lists
@@ -84,6 +82,16 @@ proof_added ss (q ∷ s ∷ rs) r h =
         let within : length xs - 1 < length xs = slice_get_within xs (length xs - 1) r h in
         let at : length (q ∷ xs) - 1 ≡ suc (length xs - 1) = omega (arith, within) in
         ap (slice_get (q ∷ xs)) at ∙ h
+
+-- how many proofs there are then
+pub added_proofs : (rs : List ReplyData) (r : ReplyData) → proofs_in (rs ++ r ∷ []) ≡ proofs_in rs + length r.proofs
+added_proofs [] r = omega arith
+added_proofs (x ∷ rs) r = let e = added_proofs rs r in omega (arith, e)
+
+pub proof_counted : (ss : List Step) (rs : List ReplyData) → 0 < length rs → proofs_in (with_proof ss rs) ≡ proofs_in rs + 1
+proof_counted ss [] some = absurd (omega (arith, some))
+proof_counted ss (q ∷ []) some = let e = length-append q.proofs (ss ∷ []) in omega (arith, e)
+proof_counted ss (q ∷ s ∷ rs) some = let e = proof_counted ss (s ∷ rs) (omega arith) in omega (arith, e)
 
 grown_proof : (ss : List Step) (rs : List ReplyData) (i : ℕ) (r : ReplyData) → slice_get rs i ≡ Some r → HasGrown (with_proof ss rs) i r
 grown_proof ss [] i r h = absurd (none_some h)

@@ -8,7 +8,7 @@ use Rattle.module_vec.specs.declared.places.Term.{Term}
 use Rattle.report_lines.specs.declared.lines.Line.{Line}
 use Rattle.report_lines.specs.declared.lines.Line.TheVariants as lines
 use Rattle.report_lines.specs.declared.trimmed.TrimmedLine.{TrimmedLine}
-use Rattle.report_lines.specs.declared.trimmed.TrimmedLine.TheVariants.{Entry, Other}
+use Rattle.report_lines.specs.declared.trimmed.TrimmedLine.TheVariants.{Other}
 use Rattle.report_lines.specs.Lines.{IsLineOf}
 use Rattle.cert_checker.specs.declared.version.Version.{Version}
 use Rattle.cert_checker.specs.declared.version.Version.TheVariants.{Whole}
@@ -75,7 +75,7 @@ module _ (p : Presented) (gens : List (List Term)) where
 
 -- ---- how many proofs were taken
 
-cap_more : (n k : ℕ) → capped (capped n + k) ≡ capped (n + k)
+pub cap_more : (n k : ℕ) → capped (capped n + k) ≡ capped (n + k)
 cap_more n k = omega arith
 
 count_line : (s : State) (l : Line) (ls : List Line) (n : ℕ) → s.proofs ≡ capped n → (k : ℕ) × ((next s l).proofs ≡ capped k)

@@ -1,5 +1,5 @@
 -- What is told of the text of lines that are taken.
-use Rattle.std.proofs.Common.{◌≡◌, ℕ, ◌+◌, List, [], ◌∷◌, ◌++◌, inl, inr, refl, sym, ap, subst, ◌∙◌, append_assoc}
+use Rattle.std.proofs.Common.{◌≡◌, ℕ, ◌+◌, List, [], ◌∷◌, ◌++◌, inl, inr, refl, ap, ◌∙◌, append_assoc}
 use Rattle.std.specs.Prelude.{Some, Result, Ok}
 use Rattle.spelling.specs.Spelling.{cut}
 use Rattle.spelling.proofs.Cuts.{cut_here}

@@ -11,20 +11,16 @@ use Rattle.module_vec.specs.declared.places.Term.{Term}
 use Rattle.module_vec.specs.declared.steps.Step.{Step}
 use Rattle.module_vec.specs.Vectors.{Coefficients, coefficient_at}
 use Rattle.module_vec.specs.Modules.{vector_at}
-use Rattle.module_vec.specs.Reducers.{AreEntries}
 use Rattle.module_vec.proofs.FallingTerms.{all_join}
 use Rattle.step_lists.specs.declared.way.Way.TheVariants.{Add, Take}
 use Rattle.step_lists.specs.Sums.{zero_vector}
-use Rattle.vector_text.specs.Over.{VectorIsOver}
-use Rattle.session_text.specs.declared.question.Question.{Question}
 use Rattle.session_text.specs.Questions.{HasImages}
 use Rattle.hom_check.proofs.Fitting.{Fits}
 use Rattle.basis_entry.specs.declared.recipes.Recipe.{Recipe}
 use Rattle.basis_entry.specs.declared.recipes.Recipe.TheVariants.{Gen, Sum}
-use Rattle.basis_entry.specs.Entries.{BasisEntry, vectors_of}
+use Rattle.basis_entry.specs.Entries.{BasisEntry}
 use Rattle.basis_entry.specs.Items.{vectors_below, seal_below}
 use Rattle.basis_entry.specs.Seals.{Seal, item_count}
-use Rattle.report_lines.specs.declared.lines.Made.TheVariants as made
 use Rattle.session_core.specs.Questions.{CanBeAsked}
 use Rattle.session_core.specs.Verdicts.{IsVerdict}
 use Rattle.report_text.specs.Histories.{Reply, Answered, SessionAnswers, History, made_by}
@@ -33,7 +29,7 @@ use Rattle.report_text.proofs.Verdicts.{yes_is_shown}
 use Rattle.report_reading.specs.declared.entry.EntryData.{EntryData}
 use Rattle.report_reading.specs.declared.replies.ReplyData.{ReplyData}
 use Rattle.report_reading.specs.declared.data.ReportData.{ReportData}
-use Rattle.report_trimming.specs.Trimming.{Pairwise, IsRising, IsStepRenamed, AreStepsRenamed, IsRecipeRenamed, IsReplyRenamed, IsKeptEntry, IsTrimming}
+use Rattle.report_trimming.specs.Trimming.{Pairwise, AreStepsRenamed, IsRecipeRenamed, IsReplyRenamed, IsKeptEntry, IsTrimming}
 use Rattle.report_trimming.proofs.Pairing.{paired_first}
 use Rattle.cert_checker.specs.States.{IsInTurn, IsInTurnAt, AreNear, asked}
 use Rattle.cert_checker.specs.Checking.{AreThere, IsMadeOf, IsMadeAt, StepsLead, signed, fox_at}
@@ -46,7 +42,7 @@ use Rattle.report_acceptance.proofs.Sessions.{IsTold, IsSessionTold}
 use Rattle.report_acceptance.proofs.Items.{AreKnown, next_by, first_entries, first_over, get_first, length_take}
 use Rattle.report_acceptance.proofs.Growing.{some_same, get_joined}
 use Rattle.report_acceptance.proofs.Renaming.{IsSame, same_near, same_steps}
-use Rattle.report_acceptance.proofs.TrimmedTaking.{vectors_in, IsNextKept, IsProofBy, HasBelow, IsRightReply, AreRight}
+use Rattle.report_acceptance.proofs.TrimmedTaking.{vectors_in, IsNextKept, IsRightReply, AreRight}
 
 -- ---- lists
 
@@ -228,8 +224,7 @@ module _ (p : Presented) (gens : List (List Term)) (pres : IsPresented p) (es : 
         (omega (arith, turn, long), λ x. is x ∙ ap (λ i. signed negated (vector_at gens i) x) long)
     kept_next before more parts k (Sum ss) c g long below ren turn is =
         let same = steps_same before more parts k ss ren.0 ren.2 is.0 below in
-        subst (λ (x : Recipe). IsInTurnAt gens (vectors_in before) k (made_by x) × IsMadeAt gens (vectors_in before) k (made_by x) g) (sym ren.1)
-        (
+        subst (λ (x : Recipe). IsInTurnAt gens (vectors_in before) k (made_by x) × IsMadeAt gens (vectors_in before) k (made_by x) g) (sym ren.1) (
           (omega (arith, turn.0, long), same_near (vectors_below es k) (vectors_in before) ss ren.0 same is.0 turn.1),
           same_steps (vectors_below es k) (vectors_in before) Add zero_vector g ss ren.0 same is,
         )

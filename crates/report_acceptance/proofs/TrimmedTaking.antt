@@ -2,7 +2,9 @@
 use Rattle.std.proofs.Common.{◌≡◌, ℕ, ◌+◌, ◌<◌, ◌≤◌, nat_lt, Bool, true, false, if◌then◌else◌, List, [], ◌∷◌, ◌++◌, length, map, slice_get, get_or, ◌-◌, Option}
 use Rattle.std.proofs.Common.{Some, None, IsSome, refl, sym, ap, subst, ◌∙◌, append_assoc, length-append, arith}
 use Rattle.std.proofs.lemmas.List.{length-map, map-append}
+use Rattle.std.proofs.lemmas.Option.{slice_get_within}
 use Rattle.std.specs.List.{AllByRecursion}
+use Rattle.word_text.specs.Place.{capped}
 use Rattle.presentation.specs.Presented.{Presented}
 use Rattle.free_words.specs.declared.letter.Letter.{Letter}
 use Rattle.module_vec.specs.declared.places.Term.{Term}
@@ -15,19 +17,17 @@ use Rattle.outcomes.specs.declared.verdicts.Verdict.{Verdict}
 use Rattle.outcomes.specs.declared.verdicts.Verdict.TheVariants as verdicts
 use Rattle.session_text.specs.declared.question.Question.{Question}
 use Rattle.session_text.specs.Questions.{HasImages}
-use Rattle.basis_entry.specs.declared.recipes.Recipe.{Recipe}
 use Rattle.report_lines.specs.declared.lines.Made.{Made}
 use Rattle.report_lines.specs.declared.lines.Made.TheVariants.{Gen, Sum}
 use Rattle.report_lines.specs.declared.lines.Line.{Line}
 use Rattle.report_lines.specs.declared.lines.Line.TheVariants as lines
 use Rattle.report_lines.specs.declared.trimmed.TrimmedLine.{TrimmedLine}
 use Rattle.report_lines.specs.declared.trimmed.TrimmedLine.TheVariants.{Entry, Other}
-use Rattle.report_lines.specs.Lines.{subject_count}
 use Rattle.report_lines.specs.Trimmed.{IsTrimmedLineOf}
 use Rattle.report_reading.specs.declared.entry.EntryData.{EntryData}
 use Rattle.report_reading.specs.declared.replies.ReplyData.{ReplyData}
 use Rattle.report_reading.specs.declared.form.Form.TheVariants as forms
-use Rattle.report_reading.specs.Telling.{Told, nothing, IsShown, IsDue, MayGoOn, last_reply, proof_count, recipe_of, with_proof}
+use Rattle.report_reading.specs.Telling.{Told, nothing, IsShown, IsDue, last_reply, proof_count, recipe_of}
 use Rattle.report_reading.specs.Trimmed.{AreBelow, IsReached, last_from, OtherMayFollow, TrimmedMayFollow, tell_other, tell_trimmed}
 use Rattle.report_reading.specs.Forms.{TellIn}
 use Rattle.report_text.specs.Histories.{made_by}
@@ -35,14 +35,14 @@ use Rattle.cert_checker.specs.declared.version.Version.{Version}
 use Rattle.cert_checker.specs.declared.version.Version.TheVariants.{Trimmed}
 use Rattle.cert_checker.specs.declared.phase.Phase.{Phase}
 use Rattle.cert_checker.specs.declared.phase.Phase.TheVariants as phases
-use Rattle.cert_checker.specs.States.{State, start, IsSettled, IsOpen, AreNear, HasGeneratorsIn, IsInTurnAt, IsNextIn, IsFrontIn, MayFollow, LineFollows, asked}
-use Rattle.cert_checker.specs.States.{next, with_line}
-use Rattle.cert_checker.specs.Checking.{IsMadeAt, StepsLead, fox_at, due, Agrees, LineAgrees}
+use Rattle.cert_checker.specs.States.{State, start, IsSettled, IsOpen, AreNear, HasGeneratorsIn, IsInTurnAt, IsNextIn, IsFrontIn, LineFollows, asked}
+use Rattle.cert_checker.specs.States.{with_line}
+use Rattle.cert_checker.specs.Checking.{IsMadeAt, StepsLead, fox_at, due, LineAgrees}
 use Rattle.cert_checker.specs.Texts.{IsLineIn}
-use Rattle.report_acceptance.proofs.Taking.{after, AllHold}
+use Rattle.report_acceptance.specs.Accepting.{proofs_in}
+use Rattle.report_acceptance.proofs.Taking.{after, AllHold, cap_more}
 use Rattle.report_acceptance.proofs.Verdicts.{count_is}
-use Rattle.report_acceptance.proofs.Puts.{get_behind}
-use Rattle.report_acceptance.proofs.Growing.{some_same, some_end, last_in, last_added, IsLonger, at_seam, HasGrown, proof_added, other_entries, other_from}
+use Rattle.report_acceptance.proofs.Growing.{some_end, last_added, IsLonger, at_seam, HasGrown, proof_added, added_proofs, proof_counted}
 use Rattle.report_acceptance.proofs.Growing.{entries_grow, from_grows, replies_grow, due_reached, later}
 
 abbrev pub vectors_in : List EntryData → List (List Term)
@@ -132,6 +132,7 @@ module _ (p : Presented) (gens : List (List Term)) (n : ℕ) where
     passed : u.end ≡ None → (k : ℕ) → AreBelow (last_from u) k → IsReached (last_reply u) k → s.passed ≤ k
     going : u.end ≡ None → u.finished ≡ false
     shown : u.finished ≡ true → IsShown (last_reply u)
+    proofs : s.proofs ≡ capped (proofs_in u.replies)
 
   abbrev pub begun : State
   begun = record start { phase = phases.Entries; version = Trimmed n }
@@ -146,6 +147,7 @@ module _ (p : Presented) (gens : List (List Term)) (n : ℕ) where
     passed = λ e k below reached. omega arith;
     going = λ e. refl;
     shown = λ e. absurd cc;
+    proofs = refl;
   }
 
   -- a line that is taken, and where the checker stands then
@@ -188,6 +190,7 @@ module _ (p : Presented) (gens : List (List Term)) (n : ℕ) where
             passed = λ none k below reached. let above : from < k = subst (λ o. AreBelow o k) (last_added u.from from) below in omega (arith, above);
             going = h.going;
             shown = h.shown;
+            proofs = h.proofs;
           };
         }
 
@@ -208,6 +211,7 @@ module _ (p : Presented) (gens : List (List Term)) (n : ℕ) where
         passed = h.passed;
         going = h.going;
         shown = h.shown;
+        proofs = h.proofs;
       };
     }
 
@@ -228,6 +232,7 @@ module _ (p : Presented) (gens : List (List Term)) (n : ℕ) where
         passed = λ none. absurd (let wrong : Some end ≡ None = none in cc);
         going = λ none. absurd (let wrong : Some end ≡ None = none in cc);
         shown = h.shown;
+        proofs = h.proofs;
       };
     }
 
@@ -244,6 +249,7 @@ module _ (p : Presented) (gens : List (List Term)) (n : ℕ) where
         passed = h.passed;
         going = λ none. absurd (some_end u.end may.0.0 none);
         shown = λ e. may.0.2;
+        proofs = h.proofs;
       };
     }
 
@@ -279,6 +285,7 @@ module _ (p : Presented) (gens : List (List Term)) (n : ℕ) where
             passed = λ none k below reached. subst (λ o. IsReached o k) last reached;
             going = h.going;
             shown = λ e. absurd (let no : u.finished ≡ false = h.going may.0.0 in let wrong : true ≡ false = sym e ∙ no in cc);
+            proofs = h.proofs ∙ ap capped (let more = added_proofs u.replies r in omega (arith, more));
           };
         }
 
@@ -305,6 +312,7 @@ module _ (p : Presented) (gens : List (List Term)) (n : ℕ) where
             passed = λ none. absurd (some_end u.end may.0.0 none);
             going = h.going;
             shown = λ e. absurd (let no : u.finished ≡ false = may.0.1 in let wrong : true ≡ false = sym e ∙ no in cc);
+            proofs = h.proofs ∙ ap capped (let more = added_proofs u.replies r in omega (arith, more));
           };
         }
 
@@ -354,6 +362,8 @@ module _ (p : Presented) (gens : List (List Term)) (n : ℕ) where
             passed = λ none k below reached. h.passed none k below (due_reached n ss u.replies subject k (subst (IsDue subject) (sym is) may) reached);
             going = h.going;
             shown = λ e. absurd (let full : length r.proofs ≡ proof_count r.question r.verdict = subst IsShown is (h.shown e) in omega (arith, full, may.0));
+            proofs = ap (λ m. capped (m + 1)) h.proofs ∙ (cap_more (proofs_in u.replies) 1 ∙ ap capped (sym (proof_counted ss u.replies
+                (let within = slice_get_within u.replies (length u.replies - 1) r is in omega (arith, within)))));
           };
         }
 
@@ -400,6 +410,7 @@ module _ (p : Presented) (gens : List (List Term)) (n : ℕ) where
       pub finished : (after begun ls).phase ≡ phases.Finished
       pub settled : IsSettled (after begun ls)
       pub entries : (after begun ls).entries ≡ vectors_in t.entries
+      pub proofs : (after begun ls).proofs ≡ capped (proofs_in t.replies)
 
     pub all_taken : (ls : List TrimmedLine) → AllByRecursion (IsTrimmedLineOf p) ls → TellIn (forms.Trimmed n) nothing ls t → t.finished ≡ true → IsSome t.end
         → AllTaken ls
@@ -410,4 +421,5 @@ module _ (p : Presented) (gens : List (List Term)) (n : ℕ) where
           finished = last.phase ∙ finished_in t.end t.sealed t.finished end finished;
           settled = is_settled (last_reply t) (after begun ls) (last.shown finished) last.answer;
           entries = last.entries;
+          proofs = last.proofs;
         }

@@ -11,6 +11,8 @@ use Rattle.session_core.specs.Sessions.{IsSession}
 use Rattle.cert_checker.specs.declared.checked.Checked.{Checked}
 use Rattle.cert_checker.specs.declared.faults.CertFault.{CertFault}
 use Rattle.cert_checker.specs.declared.faults.CertFault.TheVariants.{Line as AtLine, NoMemory}
+use Rattle.report_reading.specs.declared.replies.ReplyData.{ReplyData}
+use Rattle.report_reading.specs.declared.data.ReportData.{ReportData}
 use Rattle.report_text.specs.Histories.{History, lines_of}
 use Rattle.report_text.specs.Reports.{Reported}
 
@@ -41,14 +43,25 @@ proof_count (lines.Done ∷ ls) = proof_count ls
 abbrev pub told_amount : Reported → History → Checked
 told_amount r h = record { entries = capped (length r.entries); proofs = capped (proof_count (lines_of h)) }
 
--- all lines of a text were taken, unless memory ran out
-abbrev pub IsHeld : Result Checked CertFault → Type 0
-IsHeld (Ok c) = Unit {0}
-IsHeld (Err (AtLine number kind)) = ⊥
-IsHeld (Err NoMemory) = Unit {0}
-
--- all lines were taken, and so many, unless memory ran out
+-- all lines were taken, unless memory ran out
 abbrev pub IsAccepted : Reported → History → Result Checked CertFault → Type 0
 IsAccepted r h (Ok c) = c ≡ told_amount r h
 IsAccepted r h (Err (AtLine number kind)) = ⊥
 IsAccepted r h (Err NoMemory) = Unit {0}
+
+-- ---- what is answered of a trimmed report
+
+-- how many proofs the replies have
+abbrev pub proofs_in : List ReplyData → ℕ
+proofs_in [] = 0
+proofs_in (r ∷ rs) = length r.proofs + proofs_in rs
+
+-- the number of its entries and that of its proofs, each at most 2^32 - 1
+abbrev pub data_amount : ReportData → Checked
+data_amount d = record { entries = capped (length d.entries); proofs = capped (proofs_in d.replies) }
+
+-- all lines were taken, unless memory ran out
+abbrev pub IsTrimmedAccepted : ReportData → Result Checked CertFault → Type 0
+IsTrimmedAccepted d (Ok c) = c ≡ data_amount d
+IsTrimmedAccepted d (Err (AtLine number kind)) = ⊥
+IsTrimmedAccepted d (Err NoMemory) = Unit {0}
