@@ -213,7 +213,8 @@ module _ (p : Presented) (ok : IsPresented p) (gens : List (List Term)) (are : A
   told_lines : (v : Version) (n : ℕ) (s : State) (text : List ℕ) (r : Result Checked CertFault) (c : Checked) → Tells p gens n s text r → r ≡ Ok c
       → s ≡ begun Entries v → Behind v text
   told_lines v n s text r c tells e is =
-      let body : Body v (begun Entries v) text = told_body v n (begun Entries v) text r c (subst (λ (t : State). Tells p gens n t text r) is tells) e refl tt tt tt
+      let told : Tells p gens n (begun Entries v) text r = subst (λ (t : State). Tells p gens n t text r) is tells in
+      let body : Body v (begun Entries v) text = told_body v n (begun Entries v) text r c told e refl tt tt tt
       in record { ls = body.ls; valid = body.valid; spelled = body.spelled; true_lines = body.true_lines }
 
   -- the third line of a trimmed report
@@ -244,7 +245,8 @@ module _ (p : Presented) (ok : IsPresented p) (gens : List (List Term)) (are : A
   IsHeaded Whole text = (rest : List ℕ) × (text ≡ pres_line p ++ 10 ∷ rest) × Behind Whole rest
   IsHeaded (Trimmed items) text = (rest : List ℕ) × (text ≡ pres_line p ++ 10 ∷ rest) × BehindItems rest
 
-  told_behind : (v : Version) (n : ℕ) (taken : State) (text line others : List ℕ) (r : Result Checked CertFault) (c : Checked) → cut 10 text ≡ Some (line, others)
+  told_behind : (v : Version) (n : ℕ) (taken : State) (text line others : List ℕ) (r : Result Checked CertFault) (c : Checked)
+      → cut 10 text ≡ Some (line, others)
       → PresentationHolds p (begun Presentation v) line taken → Tells p gens n taken others r → r ≡ Ok c → IsHeaded v text
   told_behind Whole n taken text line others r c cuts h later e =
       (others, cut_joins 10 text line others cuts ∙ (λ i. h.0 i ++ 10 ∷ others), told_lines Whole n taken others r c later e h.1)

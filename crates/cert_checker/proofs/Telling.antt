@@ -48,7 +48,8 @@ title_words p s taken bytes (inr b) h = subst (λ (t : State). AreWords p t.subj
 
 body_words : (p : Presented) (gens : List (List Term)) (s taken : State) (bytes : List ℕ) → BodyHolds p gens s bytes taken → AreWords p s.subjects
     → AreWords p taken.subjects
-body_words p gens s taken bytes b h = subst (λ (t : State). AreWords p t.subjects) (sym b.holds.is) (line_words s.version p gens s b.line b.valid b.holds.follows h)
+body_words p gens s taken bytes b h =
+    subst (λ (t : State). AreWords p t.subjects) (sym b.holds.is) (line_words s.version p gens s b.line b.valid b.holds.follows h)
 
 in_words : (f : Phase) (p : Presented) (gens : List (List Term)) (s taken : State) (bytes : List ℕ) → HoldsIn f p gens s bytes taken → AreWords p s.subjects
     → AreWords p taken.subjects

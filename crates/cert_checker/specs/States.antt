@@ -1,7 +1,7 @@
 -- What was taken of a report before a line, and which line may follow.
 --
--- A whole report has all items of a history. A trimmed one has some of the entries, each with its number in the history,
--- and the fronts of its answers count the items of the history.
+-- A whole report has all items of a history. A trimmed one has some of the entries, each with its number in the
+-- history, and the fronts of its answers count the items of the history.
 use Rattle.std.specs.List.{AllByRecursion}
 use Rattle.std.specs.Prelude.{◌≡◌, ℕ, ◌+◌, ◌<◌, ◌≤◌, List, [], ◌∷◌, ◌++◌, length}
 use Rattle.free_words.specs.declared.letter.Letter.{Letter}

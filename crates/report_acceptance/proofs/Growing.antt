@@ -170,7 +170,8 @@ module _ (n : ℕ) where
   reached_trans None a b h le = tt
   reached_trans (Some r) a b h le = omega (arith, h, le)
 
-  pub due_reached : (ss : List Step) (rs : List ReplyData) (j k : ℕ) → IsDue j (last_in rs) → IsReached (last_in (with_proof ss rs)) k → IsReached (last_in rs) k
+  pub due_reached : (ss : List Step) (rs : List ReplyData) (j k : ℕ) → IsDue j (last_in rs) → IsReached (last_in (with_proof ss rs)) k
+      → IsReached (last_in rs) k
   due_reached ss rs j k due h = by (last_in rs) refl due
     where
       by : (o : Option ReplyData) → last_in rs ≡ o → IsDue j o → IsReached o k

@@ -188,7 +188,8 @@ module _ (p : Presented) (gens : List (List Term)) (pres : IsPresented p) (es : 
           let is : IsFrom j f.0 = from_entry j f.0 whole in
           let same : is.k ≡ k = some_same (sym is.at ∙ at) in
           let first : slice_get (take m es) k ≡ Some is.e = get_first es m k is.e below (subst (λ i. slice_get es i ≡ Some is.e) same is.is) in
-          entry_there (vectors_in before) j f.0.vector (slice_get-map (λ (x : EntryData). x.vector) before j ∙ ap (option_map (λ (x : EntryData). x.vector)) f.1)
+          entry_there (vectors_in before) j f.0.vector (slice_get-map (λ (x : EntryData). x.vector) before j
+          ∙ ap (option_map (λ (x : EntryData). x.vector)) f.1)
           ∙ (is.vector ∙ sym (entry_there (vectors_below es m) k is.e.vector (slice_get-map (λ (x : BasisEntry). x.vector) (take m es) k
           ∙ ap (option_map (λ (x : BasisEntry). x.vector)) first)))
 

@@ -30,8 +30,8 @@ pub fn written_reports_hold()
         → TellsWhole r.pres (text_of r h) (Ok (told_amount r h)) }
 {}
 
-/// The text of the trimming of a report is accepted too: to a text that says what is left of the history, where only the
-/// used entries are kept, the checker answers how many entries and proofs that is, unless memory runs out.
+/// The text of the trimming of a report is accepted too: to a text that says what is left of the history, where only
+/// the used entries are kept, the checker answers how many entries and proofs that is, unless memory runs out.
 pub fn trimmed_reports_are_accepted()
     ensures { (r : Reported) (h : History) → IsKnown r → IsReportable r → IsHistoryOf r h
         → (t : ReportData) → IsTrimming (data_of h) t → (text : List ℕ) → IsReport r.pres text t

@@ -50,7 +50,8 @@ pub fn trimming_is_accepted(r: &Report)
     trimmed_reports_hold();
 }
 
-/// The reader of reports answers to the text that is written of a report the history that was written. The call does nothing.
+/// The reader of reports answers to the text that is written of a report the history that was written. The call does
+/// nothing.
 pub fn report_is_read_back(r: &Report)
     requires { IsReportable (reported r.now) }
     ensures { (h : History) → IsHistoryOf (reported r.now) h
