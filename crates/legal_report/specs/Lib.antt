@@ -1,4 +1,5 @@
 pub mod Legal
 pub mod Gathering
+pub mod Seats
 pub mod TrueAnswers
 pub mod Solutions

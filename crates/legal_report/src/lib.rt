@@ -3,7 +3,8 @@
 
 mod gathering;
 pub mod laws;
+mod seating;
 mod solving;
 
-pub use gathering::gather;
+pub use gathering::{gather, gather_alone};
 pub use solving::solve;

@@ -7,7 +7,7 @@ ghost use Rattle.report_text.specs.Reports.{reported};
 ghost use Rattle.legal_report.specs.Gathering.{questions_of};
 ghost use Rattle.legal_report.specs.Solutions.{AreNewSessions, IsSolution};
 
-use crate::gathering::gather;
+use crate::gathering::gather_alone;
 use pair_book::{Book, Limits};
 use presentation::Presentation;
 use report_acceptance::reports::report_is_accepted;
@@ -33,7 +33,7 @@ pub fn solve(
 {
     p.known();
     Session::all_known(&sessions);
-    let report = gather(alloc, p, book, sessions, limits)?;
+    let report = gather_alone(alloc, p, book, sessions)?;
     report_is_accepted(&report);
     Ok(report)
 }
