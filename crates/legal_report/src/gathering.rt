@@ -105,7 +105,7 @@ fn answered<F: Front>(
 
 /// The same entries.
 #[tactic(auto, using(basis_entry::proofs::Growing::map_more))]
-fn shared(alloc: Global, entries: &[Arc<Entry>]) -> Result<Vec<Arc<Entry>>, AllocError>
+pub fn shared(alloc: Global, entries: &[Arc<Entry>]) -> Result<Vec<Arc<Entry>>, AllocError>
     ensures { IfOk result (λ same. map arc_value same.items ≡ map arc_value entries.now) }
 {
     let mut same = Vec::with_capacity(alloc, entries.len())?;

@@ -6,5 +6,5 @@ pub mod laws;
 mod seating;
 mod solving;
 
-pub use gathering::{gather, gather_alone};
+pub use gathering::{gather, gather_alone, shared};
 pub use solving::solve;

@@ -33,11 +33,11 @@ over p base n s t seat after dry counted new acted =
     }
 
 -- sessions numbered from n + 1 on
-AreNewFrom : Presented → ℕ → ℕ → List SessionState → Type 0
+abbrev pub AreNewFrom : Presented → ℕ → ℕ → List SessionState → Type 0
 AreNewFrom p base n ss = (i : ℕ) (s : SessionState) → slice_get ss i ≡ Some s → IsNewSession p base (n + i + 1) s
 
-AreActorsFrom : Presented → Limits → Held → ℕ → List Seated → Type 0
-AreActorsFrom p limits book n as = (i : ℕ) (a : Seated) → slice_get as i ≡ Some a → IsActor p limits book (n + i + 1) a
+abbrev pub AreActorsFrom : Presented → Limits → Held → ℕ → List Seated → Type 0
+AreActorsFrom p limits book n xs = (i : ℕ) (a : Seated) → slice_get xs i ≡ Some a → IsActor p limits book (n + i + 1) a
 
 rest_new : (p : Presented) (base n : ℕ) (s : SessionState) (ss : List SessionState) → AreNewFrom p base n (s ∷ ss) → AreNewFrom p base (n + 1) ss
 rest_new p base n s ss new i t at = subst (λ (m : ℕ). IsNewSession p base m t) (omega arith) (new (suc i) t at)

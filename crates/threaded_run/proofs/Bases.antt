@@ -1,5 +1,5 @@
 -- A presentation has one number of generator entries.
-use Rattle.std.proofs.Common.{◌≡◌, ◌≢◌, suc, ◌≤◌, List, [], ◌∷◌, length, ◌∙◌, ap, sym, arith, refl, ℤ, ◌×◌}
+use Rattle.std.proofs.Common.{◌≡◌, ◌≢◌, suc, ◌≤◌, List, [], ◌∷◌, length, ◌∙◌, ap, sym, arith, refl, ℤ}
 use Rattle.std.proofs.lemmas.List.{length-map}
 use Rattle.presentation.specs.Presented.{Presented}
 use Rattle.formal_sums.specs.FormalSum.{FormalSum, Same}

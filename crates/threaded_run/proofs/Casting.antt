@@ -1,6 +1,7 @@
 -- Actors that are put one after another.
 use Rattle.std.proofs.Common.{◌≡◌, ℕ, ◌≤◌, List, [], ◌∷◌, ◌++◌, length, map, Some, false, refl, sym, ap, subst, ◌∙◌, arith}
 use Rattle.std.specs.List.{AllByRecursion}
+use Rattle.std.specs.Prelude.{slice_get}
 use Rattle.std.proofs.lemmas.List.{append-nil, length-map, map-append}
 use Rattle.presentation.specs.Presented.{Presented}
 use Rattle.basis_entry.specs.Entries.{BasisEntry}
@@ -19,28 +20,28 @@ all_one_more : {X : Type 0} (P : X → Type 0) (xs : List X) (x : X) → AllByRe
 all_one_more P [] x all own = (own, tt)
 all_one_more P (y ∷ xs) x all own = (all.0, all_one_more P xs x all.1 own)
 
-seated_more : (as bs : List Actor) → seated_in (as ++ bs) ≡ seated_in as ++ seated_in bs
-seated_more [] bs = refl
-seated_more (Worker n seat ∷ as) bs = seated_more as bs
-seated_more (Session s seat d ∷ as) bs = ap (λ (xs : List Seated). (s, Some seat) ∷ xs) (seated_more as bs)
+seated_more : (xs ys : List Actor) → seated_in (xs ++ ys) ≡ seated_in xs ++ seated_in ys
+seated_more [] ys = refl
+seated_more (Worker n seat ∷ xs) ys = seated_more xs ys
+seated_more (Session s seat d ∷ xs) ys = ap (λ (zs : List Seated). (s, Some seat) ∷ zs) (seated_more xs ys)
 
 pub none_cast : (p : Presented) → AreCast p [] []
 none_cast p = record { ready = tt; sessions = refl }
 
-pub worker_cast : (p : Presented) (as : List Actor) (n : ℕ) (seat : Seen) → AreCast p [] as → row_source seat.row ≡ p
-    → AreCast p [] (as ++ Worker n seat ∷ [])
-worker_cast p as n seat are source = record {
-  ready = all_one_more (IsReady p) as (Worker n seat) are.ready source;
-  sessions = ap sessions_of (seated_more as (Worker n seat ∷ []) ∙ append-nil (seated_in as)) ∙ are.sessions;
+pub worker_cast : (p : Presented) (xs : List Actor) (n : ℕ) (seat : Seen) → AreCast p [] xs → row_source seat.row ≡ p
+    → AreCast p [] (xs ++ Worker n seat ∷ [])
+worker_cast p xs n seat are source = record {
+  ready = all_one_more (IsReady p) xs (Worker n seat) are.ready source;
+  sessions = ap sessions_of (seated_more xs (Worker n seat ∷ []) ∙ append-nil (seated_in xs)) ∙ are.sessions;
 }
 
-pub session_cast : (p : Presented) (ss : List SessionState) (as : List Actor) (s : SessionState) (seat : Seen) → AreCast p ss as → IsFresh p s seat false
-    → AreCast p (ss ++ s ∷ []) (as ++ Session s seat false ∷ [])
-session_cast p ss as s seat are fresh = record {
-  ready = all_one_more (IsReady p) as (Session s seat false) are.ready fresh;
-  sessions = ap sessions_of (seated_more as (Session s seat false ∷ []))
-      ∙ map-append (λ (x : Seated). x.0) (seated_in as) ((s, Some seat) ∷ [])
-      ∙ ap (λ (xs : List SessionState). xs ++ s ∷ []) are.sessions;
+pub session_cast : (p : Presented) (ss : List SessionState) (xs : List Actor) (s : SessionState) (seat : Seen) → AreCast p ss xs → IsFresh p s seat false
+    → AreCast p (ss ++ s ∷ []) (xs ++ Session s seat false ∷ [])
+session_cast p ss xs s seat are fresh = record {
+  ready = all_one_more (IsReady p) xs (Session s seat false) are.ready fresh;
+  sessions = ap sessions_of (seated_more xs (Session s seat false ∷ []))
+      ∙ map-append (λ (x : Seated). x.0) (seated_in xs) ((s, Some seat) ∷ [])
+      ∙ ap (λ (zs : List SessionState). zs ++ s ∷ []) are.sessions;
 }
 
 -- a new session with a seat that has seen the generator entries alone
@@ -58,3 +59,17 @@ fresh p n s seat source items new =
       kept = new.kept;
       dry = refl;
     }
+
+-- ---- lists
+
+pub nothing_left : {X : Type 0} (xs : List X) → length xs ≡ 0 → xs ≡ []
+nothing_left [] none = refl
+nothing_left (x ∷ xs) none = absurd (omega (arith, none))
+
+pub mid_get : {X : Type 0} (xs ys : List X) (x : X) → slice_get (xs ++ x ∷ ys) (length xs) ≡ Some x
+mid_get [] ys x = refl
+mid_get (y ∷ xs) ys x = mid_get xs ys x
+
+-- the sessions of one actor more
+pub more_seated : (xs : List Actor) (a : Actor) → seated_in (xs ++ a ∷ []) ≡ seated_in xs ++ seated_in (a ∷ [])
+more_seated xs a = seated_more xs (a ∷ [])

@@ -11,10 +11,10 @@ use Rattle.legal_report.specs.Seats.{Seated, sessions_of}
 -- the sessions among actors, each with its seat, in order
 abbrev pub seated_in : List Actor → List Seated
 seated_in [] = []
-seated_in (Worker number seat ∷ as) = seated_in as
-seated_in (Session s seat dry ∷ as) = (s, Some seat) ∷ seated_in as
+seated_in (Worker number seat ∷ xs) = seated_in xs
+seated_in (Session s seat dry ∷ xs) = (s, Some seat) ∷ seated_in xs
 
 -- actors that can begin a run over the presentation, with these sessions among them, in order
-pub record AreCast (p : Presented) (sessions : List SessionState) (as : List Actor) : Type 0 where
-  pub ready : AllByRecursion (IsReady p) as
-  pub sessions : sessions_of (seated_in as) ≡ sessions
+pub record AreCast (p : Presented) (ss : List SessionState) (xs : List Actor) : Type 0 where
+  pub ready : AllByRecursion (IsReady p) xs
+  pub sessions : sessions_of (seated_in xs) ≡ ss

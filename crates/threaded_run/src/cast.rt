@@ -51,12 +51,17 @@ pub(crate) fn seated<'r>(
     alloc: Global,
     actors: Vec<Actor<'r>>,
 ) -> Result<Vec<(Session, Option<Seat<'r>>)>, AllocError>
-    ensures { IfOk result (λ seated. seated.items ≡ seated_in actors.items) }
+    ensures { IfOk result (λ seated. seated.items ≡ seated_in actors.entry.items) }
 {
-    let mut seated = Vec::with_capacity(alloc, actors.len())?;
+    let mut seated: Vec<(Session, Option<Seat<'r>>)> = Vec::with_capacity(alloc, actors.len())?;
     for actor in actors {
-        if let Actor::Session { session, seat, .. } = actor {
-            seated.push((session, Some(seat)))?;
+        match actor {
+            Actor::Worker { number: _, seat: _ } => {}
+            Actor::Session {
+                session,
+                seat,
+                dry: _,
+            } => seated.push((session, Some(seat)))?,
         }
     }
     Ok(seated)

@@ -2,6 +2,7 @@
 
 ghost use Rattle.std.specs.Prelude.{◌≡◌, ◌≤◌, ◌+◌, ◌<◌, ◌^◌, IfOk, length};
 ghost use Rattle.std.specs.Arc.{arc_value};
+ghost use Rattle.basis_log.specs.Rows.{row_source};
 ghost use Rattle.task_table.specs.declared.TheConstants.{ENTRIES as MOST};
 ghost use Rattle.pair_book.specs.Books.{AreWithin, IsOpened};
 ghost use Rattle.report_text.specs.Reports.{reported};
@@ -10,10 +11,9 @@ ghost use Rattle.legal_report.specs.Gathering.{questions_of};
 ghost use Rattle.legal_report.specs.Solutions.{AreNewSessions};
 
 use crate::cast::{cast, seated};
-use basis_entry::Entry;
 use basis_log::Row;
 use completion_workers::{Gate, run_actors};
-use legal_report::gather;
+use legal_report::{gather, shared};
 use pair_book::{Book, Limits};
 use presentation::Presentation;
 use report_text::Report;
@@ -42,18 +42,22 @@ pub fn run<G: Gate + Sync, R: Threads + Wait + Sync>(
     requires sessions { AreNewSessions (arc_value p.now) (length book.entries) sessions.items }
     ensures { IfOk result (λ r. IsLegal (arc_value p.now) limits (questions_of sessions.items) (reported r)) }
 {
-    let row = row(alloc, p, limits)?;
+    let row = row(alloc, p, &book, limits)?;
     let mut actors = cast(alloc, p, &row, workers, sessions)?;
     let book = Mutex::new(book);
     run_actors(rt, alloc, p, &book, &mut actors, gate);
     gather(alloc, p, book.into_inner(), seated(alloc, actors)?, limits)
 }
 
-/// The row of the presentation for a log within these limits.
-fn row(alloc: Global, p: &Arc<Presentation>, limits: Limits) -> Result<Row, AllocError>
+/// The row for a log within these limits that begins with the entries of the book.
+fn row(alloc: Global, p: &Presentation, book: &Book, limits: Limits) -> Result<Row, AllocError>
+    requires most { limits.entries ≤ MOST }
+    requires opened { IsOpened p.now limits book.now }
+    ensures base { IfOk result (λ row. row.base ≡ book.now.entries) }
+    ensures source { IfOk result (λ row. row_source row ≡ p.now) }
 {
     p.known();
-    let base = Entry::base(alloc, p)?;
+    let base = shared(alloc, book.entries())?;
     let cells = limits.entries - base.len() as u32 + 1;
     Row::open(alloc, base, cells)
 }
