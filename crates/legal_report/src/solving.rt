@@ -8,7 +8,7 @@ ghost use Rattle.legal_report.specs.Gathering.{questions_of, AreAskers};
 ghost use Rattle.legal_report.specs.Last.{AreLastKinds};
 ghost use Rattle.legal_report.specs.Solutions.{AreNewSessions, IsConclusion, GoesOnFrom, IsSolution};
 
-use crate::gathering::gather;
+use crate::gathering::gather_alone;
 use crate::last::{Kind, last_kinds};
 use crate::laws::answers_of_legal_reports_are_true;
 use pair_book::{Book, Limits};
@@ -26,7 +26,7 @@ pub struct Solved {
     pub last: Vec<Kind>,
 }
 
-/// Ends a run over a book of the presentation and of these limits, as [`gather`] does, and finds the last verdicts.
+/// Ends a run over a book of the presentation and of these limits, as [`gather_alone`] does, and finds the last verdicts.
 pub fn conclude(
     alloc: Global,
     p: &Arc<Presentation>,
@@ -47,8 +47,9 @@ pub fn conclude(
     // The proof needs what the types keep, and the laws of legal reports; these calls say so, and do nothing.
     p.known();
     Session::all_known(&sessions);
+    let _ = limits;
     answers_of_legal_reports_are_true();
-    let report = gather(alloc, p, book, sessions, limits)?;
+    let report = gather_alone(alloc, p, book, sessions)?;
     let last = last_kinds(alloc, &report)?;
     report_is_accepted(&report);
     Ok(Solved { report, last })

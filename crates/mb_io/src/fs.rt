@@ -3,8 +3,10 @@
 //! Nothing is known here of what a real file holds: both adapters tell no bytes. Each error of the system counts as a
 //! fault, want of memory inside the system's own calls among them.
 
-ghost use Rattle.std.specs.Prelude.{◌≡◌, ℕ, ◌<◌, ◌^◌, None, false, is_some, IsFalse};
+ghost use Rattle.std.specs.Prelude.{◌≡◌, ℕ, ◌<◌, ◌≤◌, ◌^◌, None, false, length, is_some, IsFalse, IfOk, OnErr};
+ghost use Rattle.std.specs.Io.KnownBytes.{ReadConsumes, WriteAppends};
 ghost use Rattle.mb_io.specs.Fs.{FsState};
+ghost use Rattle.mb_io.specs.Shelf.{CountRose};
 
 use crate::faults::Faults;
 use crate::shelf::{Failed, Shelf, Sink};
@@ -70,14 +72,25 @@ impl<R: Files> Shelf for FsShelf<'_, R> {
         let Some(file) = &mut self.file else {
             return Ok(0);
         };
-        match file.read(buf) {
-            Ok(0) if !buf.is_empty() => {
-                self.file = None;
-                Ok(0)
-            }
-            Ok(count) => Ok(count),
-            Err(_) => Err(self.faults.add()),
+        let count = read_from(file, buf, &mut self.faults)?;
+        if count == 0 && !buf.is_empty() {
+            self.file = None;
         }
+        Ok(count)
+    }
+}
+
+/// Reads from the file. Its error is a failure, which is counted.
+fn read_from<F: Read>(file: &mut F, buf: &mut [u8], faults: &mut Faults) -> Result<usize, Failed>
+    ensures bytes { ReadConsumes (F.remaining file.old) (F.remaining file.new) result buf.new }
+    ensures within { IfOk result (λ n. n ≤ length buf.old) }
+    ensures later { faults.old ≤ faults.new }
+    ensures below { faults.old < 2 ^ 64 → faults.new < 2 ^ 64 }
+    ensures cause { OnErr result (CountRose faults.old faults.new) }
+{
+    match file.read(buf) {
+        Ok(count) => Ok(count),
+        Err(_) => Err(faults.add()),
     }
 }
 
@@ -114,9 +127,22 @@ impl<W: Write + Drop> Sink for OutSink<W> {
     ghost faults = { λ s. s };
 
     fn write(&mut self, piece: &[u8]) -> Result<usize, Failed> {
-        match self.out.write(piece) {
-            Ok(count) if count > 0 || piece.is_empty() => Ok(count),
-            _ => Err(self.faults.add()),
-        }
+        write_to(&mut self.out, piece, &mut self.faults)
+    }
+}
+
+/// Writes a front of the piece to the writer, which is empty only where the piece is. The writer's error is a failure,
+/// which is counted, and so is a write of nothing.
+fn write_to<W: Write>(out: &mut W, piece: &[u8], faults: &mut Faults) -> Result<usize, Failed>
+    ensures bytes { WriteAppends (W.contents out.old) (W.contents out.new) result piece.now }
+    ensures within { IfOk result (λ n. n ≤ length piece.now) }
+    ensures some { IfOk result (λ n. 0 < length piece.now → 0 < n) }
+    ensures later { faults.old ≤ faults.new }
+    ensures below { faults.old < 2 ^ 64 → faults.new < 2 ^ 64 }
+    ensures cause { OnErr result (CountRose faults.old faults.new) }
+{
+    match out.write(piece) {
+        Ok(count) if count > 0 || piece.is_empty() => Ok(count),
+        _ => Err(faults.add()),
     }
 }

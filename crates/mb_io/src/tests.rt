@@ -129,7 +129,26 @@ fn reads_real_files(rt: HostRuntime) -> Result<(), Fail> {
     assert!(rt; is_read(&missing, Err(LoadFault::ReadFault)));
     assert_eq!(rt; shelf.read(&mut [0u8; 4]), Ok(0));
     fs::remove_file(&rt, "short")?;
+    // A folder can be opened, and its reading fails.
+    fs::create_dir(&rt, "folder")?;
+    let folder = read_all(alloc, &mut shelf, "folder", 5);
+    assert!(rt; is_read(&folder, Err(LoadFault::ReadFault)));
+    fs::remove_dir(&rt, "folder")?;
     Ok(())
+}
+
+/// A writer that fails.
+#[derive(Drop)]
+struct Broken;
+
+impl Write for Broken {
+    fn write(&mut self, _: &[u8]) -> io::Result<usize> {
+        Err(io::ErrorKind::StorageFull.into())
+    }
+
+    fn flush(&mut self) -> io::Result<()> {
+        Ok(())
+    }
 }
 
 /// A writer that takes nothing.
@@ -157,5 +176,7 @@ fn writes_real_files(rt: HostRuntime) -> Result<(), Fail> {
     let mut full = OutSink::new(Full);
     assert_eq!(rt; full.write(b""), Ok(0));
     assert_eq!(rt; write_all(&mut full, b"bytes"), Err(Failed));
+    let mut broken = OutSink::new(Broken);
+    assert_eq!(rt; write_all(&mut broken, b"bytes"), Err(Failed));
     Ok(())
 }

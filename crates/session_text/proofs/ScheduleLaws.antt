@@ -8,15 +8,14 @@ use Rattle.std.proofs.lemmas.Fmt.{decimal_digit, decimal_step}
 use Rattle.std.proofs.lemmas.List.{length-drop}
 use Rattle.word_text.specs.declared.fault.ReadFault.{ReadFault}
 use Rattle.word_text.specs.declared.fault.ReadFault.TheVariants as faults
-use Rattle.word_text.specs.Scan.{◌>>=◌, after_blanks, name_at, after_name}
+use Rattle.word_text.specs.Scan.{◌>>=◌, after_blanks}
 use Rattle.word_text.proofs.Lexing.{blanks_once}
 use Rattle.presentation.proofs.Steps.{bind_ok, ok_is, guard_ok}
 use Rattle.presentation.proofs.WritingEnds.{skips_le}
-use Rattle.derivation.specs.Grammar.{KeywordAt}
 use Rattle.session_text.specs.declared.question.Event.{Event}
 use Rattle.session_text.specs.declared.question.Event.TheVariants.{Worker, Session}
-use Rattle.session_text.specs.Schedule.{IsEvent, small_number, event_of, event_by, event_at, events_from, schedule_text, ReadsSchedule}
-use Rattle.session_text.specs.ScheduleGrammar.{event_name, IsSchedule}
+use Rattle.session_text.specs.Schedule.{IsEvent, small_number, event_of, event_by, event_at, events_from, schedule_text, token_at, after_token, ReadsSchedule}
+use Rattle.session_text.specs.ScheduleGrammar.{event_name, TokenAt, IsSchedule}
 
 -- a number from 1 to 16
 abbrev IsSmall : ℕ → Type 0
@@ -129,37 +128,37 @@ name_again (Session n) h = rw (number_again n h) refl
 
 -- an event that stands here, and what follows it
 record StandsFirst (sessions : ℕ) (bs : List ℕ) (x : Event × List ℕ) : Type 0 where
-  name : name_at bs ≡ event_name x.0
-  rest : x.1 ≡ after_name bs
+  name : token_at bs ≡ event_name x.0
+  rest : x.1 ≡ after_token bs
   is : IsEvent sessions x.0
 
 is_within : (sessions n : ℕ) → nat_lt sessions n ≡ false → n ≤ sessions
 is_within sessions n e = grind (arith, nat_tests)
 
-first_spelled : (sessions : ℕ) (bs : List ℕ) (x : Event × List ℕ) (o : Option Event) → event_of (name_at bs) ≡ o → event_by sessions bs o ≡ Ok x
+first_spelled : (sessions : ℕ) (bs : List ℕ) (x : Event × List ℕ) (o : Option Event) → event_of (token_at bs) ≡ o → event_by sessions bs o ≡ Ok x
     → StandsFirst sessions bs x
 first_spelled sessions bs x None r k = cc
 first_spelled sessions bs x (Some (Worker n)) r k =
-    let s = name_spelled (name_at bs) (Worker n) r in
-    let all : StandsFirst sessions bs (Worker n, after_name bs) = record { name = s.0; rest = refl; is = s.1 } in
-    subst (StandsFirst sessions bs) (ok_is {A = Event × List ℕ} (Worker n, after_name bs) x k) all
+    let s = name_spelled (token_at bs) (Worker n) r in
+    let all : StandsFirst sessions bs (Worker n, after_token bs) = record { name = s.0; rest = refl; is = s.1 } in
+    subst (StandsFirst sessions bs) (ok_is {A = Event × List ℕ} (Worker n, after_token bs) x k) all
 first_spelled sessions bs x (Some (Session n)) r k =
-    let s = name_spelled (name_at bs) (Session n) r in
-    let g = guard_ok (nat_lt sessions n) _ (Ok (Session n, after_name bs)) x k in
-    let all : StandsFirst sessions bs (Session n, after_name bs) = record { name = s.0; rest = refl; is = ((s.1).0, (s.1).1, is_within sessions n g.0) } in
-    subst (StandsFirst sessions bs) (ok_is {A = Event × List ℕ} (Session n, after_name bs) x g.1) all
+    let s = name_spelled (token_at bs) (Session n) r in
+    let g = guard_ok (nat_lt sessions n) _ (Ok (Session n, after_token bs)) x k in
+    let all : StandsFirst sessions bs (Session n, after_token bs) = record { name = s.0; rest = refl; is = ((s.1).0, (s.1).1, is_within sessions n g.0) } in
+    subst (StandsFirst sessions bs) (ok_is {A = Event × List ℕ} (Session n, after_token bs) x g.1) all
 
 not_past : (sessions n : ℕ) → n ≤ sessions → nat_lt sessions n ≡ false
 not_past sessions n le = grind (arith, nat_tests)
 
-first_again : (sessions : ℕ) (bs : List ℕ) (e : Event) → name_at bs ≡ event_name e → IsEvent sessions e → event_at sessions bs ≡ Ok (e, after_name bs)
+first_again : (sessions : ℕ) (bs : List ℕ) (e : Event) → token_at bs ≡ event_name e → IsEvent sessions e → event_at sessions bs ≡ Ok (e, after_token bs)
 first_again sessions bs (Worker n) name is = rw (name, name_again (Worker n) is) refl
 first_again sessions bs (Session n) name is = rw (name, name_again (Session n) (is.0, is.1), not_past sessions n is.2) refl
 
 -- a schedule stands behind blanks as it does without them
 same_schedule : (sessions : ℕ) (bs ds : List ℕ) (es : List Event) → after_blanks bs ≡ after_blanks ds → IsSchedule sessions bs es → IsSchedule sessions ds es
 same_schedule sessions bs ds [] e h = sym e ∙ h
-same_schedule sessions bs ds (x ∷ es) e h = (h.0, (ap name_at (sym e) ∙ (h.1).0, (h.1).1 ∙ ap after_name e), h.2, h.3)
+same_schedule sessions bs ds (x ∷ es) e h = (h.0, (ap token_at (sym e) ∙ (h.1).0, (h.1).1 ∙ ap after_token e), h.2, h.3)
 
 empty : (bs : List ℕ) → (length bs == 0) ≡ true → bs ≡ []
 empty [] e = refl
@@ -182,8 +181,8 @@ events_spelled (suc n) sessions before bs all e plain =
   where
     next : (x : Event × List ℕ) → event_at sessions bs ≡ Ok x → Behind sessions (before ++ x.0 ∷ []) (after_blanks x.1) all → Behind sessions before bs all
     next x r b =
-        let f = first_spelled sessions bs x (event_of (name_at bs)) refl r in
-        let stands : KeywordAt bs (event_name x.0) x.1 = (ap name_at plain ∙ f.name, f.rest ∙ ap after_name (sym plain)) in
+        let f = first_spelled sessions bs x (event_of (token_at bs)) refl r in
+        let stands : TokenAt bs (event_name x.0) x.1 = (ap token_at plain ∙ f.name, f.rest ∙ ap after_token (sym plain)) in
         record {
           new = x.0 ∷ b.new;
           are = (x.1, stands, f.is, same_schedule sessions (after_blanks x.1) x.1 b.new (blanks_once x.1) b.are);
@@ -211,26 +210,26 @@ some_name : (e : Event) → 0 < length (event_name e)
 some_name (Worker n) = omega arith
 some_name (Session n) = omega arith
 
--- what follows a name is shorter
-shorter : (bs : List ℕ) → 0 < length (name_at bs) → (length bs == 0) ≡ false × (length (after_name bs) < length bs)
-unfolding name_at after_name
+-- what follows a token is shorter
+shorter : (bs : List ℕ) → 0 < length (token_at bs) → (length bs == 0) ≡ false × (length (after_token bs) < length bs)
+unfolding token_at after_token
 shorter [] some = absurd (omega arith)
-shorter (b ∷ bs) some = (grind (arith, nat_tests), omega (arith, some, length-drop (length (name_at (b ∷ bs))) (b ∷ bs)))
+shorter (b ∷ bs) some = (grind (arith, nat_tests), omega (arith, some, length-drop (length (token_at (b ∷ bs))) (b ∷ bs)))
 
 events_again : (n sessions : ℕ) (before : List Event) (bs : List ℕ) (es : List Event) → IsSchedule sessions bs es → after_blanks bs ≡ bs → length bs < n
     → events_from n sessions before bs ≡ Ok (before ++ es)
 events_again zero sessions before bs es h plain lt = absurd (omega arith)
 events_again (suc n) sessions before bs [] h plain lt = rw (sym plain ∙ h, append-nil before) refl
 events_again (suc n) sessions before bs (e ∷ es) h plain lt =
-    let name : name_at bs ≡ event_name e = ap name_at (sym plain) ∙ (h.1).0 in
-    let rest : h.0 ≡ after_name bs = (h.1).1 ∙ ap after_name plain in
-    let some : 0 < length (name_at bs) = rw name (some_name e) in
+    let name : token_at bs ≡ event_name e = ap token_at (sym plain) ∙ (h.1).0 in
+    let rest : h.0 ≡ after_token bs = (h.1).1 ∙ ap after_token plain in
+    let some : 0 < length (token_at bs) = rw name (some_name e) in
     let less = shorter bs some in
-    let later : IsSchedule sessions (after_blanks (after_name bs)) es =
+    let later : IsSchedule sessions (after_blanks (after_token bs)) es =
     rw (← rest) (same_schedule sessions h.0 (after_blanks h.0) es (sym (blanks_once h.0)) h.3) in
-    let room : length (after_blanks (after_name bs)) < n = omega (arith, less.1, lt, skips_le (after_name bs)) in
+    let room : length (after_blanks (after_token bs)) < n = omega (arith, less.1, lt, skips_le (after_token bs)) in
     rw (less.0, first_again sessions bs e name h.2)
-    (events_again n sessions (before ++ e ∷ []) (after_blanks (after_name bs)) es later (blanks_once (after_name bs)) room
+    (events_again n sessions (before ++ e ∷ []) (after_blanks (after_token bs)) es later (blanks_once (after_token bs)) room
     ∙ ap (λ (l : List Event). Ok l) (append_assoc before (e ∷ []) es))
 
 -- a schedule of the grammar is read

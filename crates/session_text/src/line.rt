@@ -40,7 +40,7 @@ fn at_keyword(kind: TextKind, line: &[u8], number: u32) -> ReadFault
 }
 
 /// The question that the line spells, behind those before it.
-#[tactic(auto, unfolding(crate::specs::Reading::question_at, crate::specs::Reading::room_at, crate::specs::Reading::letters_at))]
+#[tactic(auto, unfolding(crate::specs::Reading::question_at, crate::specs::Reading::room_at))]
 pub fn spelled_question(
     alloc: Global,
     p: &Presentation,

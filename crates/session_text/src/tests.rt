@@ -284,6 +284,7 @@ fn schedules(rt: HostRuntime) {
         ("s1 w1 s1 w1 s1", 1, "s1 w1 s1 w1 s1 "),
         ("w16\nw9\r\n\tw10 ", 1, "w16 w9 w10 "),
         ("s16 s2 w16", 16, "s16 s2 w16 "),
+        ("w1\r\ns2\r\n", 2, "w1 s2 "),
     ] {
         let events = read_schedule(alloc, text.as_bytes(), sessions).expect(&rt, "a schedule");
         let got = listed(alloc, &events).expect(&rt, "memory");
@@ -291,37 +292,44 @@ fn schedules(rt: HostRuntime) {
     }
 }
 
-/// Schedules of three sessions, and where their first fault stands.
-const SCHEDULE_FAULTS: [(&str, u32, u32, TextKind); 20] = [
-    ("s4", 1, 1, TextKind::NoSession),
-    ("w1 s3\n s16 x", 2, 2, TextKind::NoSession),
-    ("s17", 1, 1, TextKind::Expected),
-    ("w17", 1, 1, TextKind::Expected),
-    ("w20", 1, 1, TextKind::Expected),
-    ("w0", 1, 1, TextKind::Expected),
-    ("w01", 1, 1, TextKind::Expected),
-    ("s001", 1, 1, TextKind::Expected),
-    ("w", 1, 1, TextKind::Expected),
-    ("w1 s", 1, 4, TextKind::Expected),
-    ("w 1", 1, 1, TextKind::Expected),
-    ("w1s1", 1, 1, TextKind::Expected),
-    ("w1a", 1, 1, TextKind::Expected),
-    ("W1", 1, 1, TextKind::Expected),
-    ("x1", 1, 1, TextKind::Expected),
-    ("1", 1, 1, TextKind::Expected),
-    ("w1, w2", 1, 3, TextKind::Expected),
-    ("w1\n\n_w1", 3, 1, TextKind::Expected),
-    ("w1 ;", 1, 4, TextKind::BadByte),
-    ("w111", 1, 1, TextKind::Expected),
+/// Schedules with so many sessions, and the line, the column and the kind of their first fault.
+const SCHEDULE_FAULTS: [(&str, u32, (u32, u32), TextKind); 27] = [
+    ("s4", 3, (1, 1), TextKind::NoSession),
+    ("s2", 1, (1, 1), TextKind::NoSession),
+    ("w1 s3\n s16 x", 3, (2, 2), TextKind::NoSession),
+    ("s17", 3, (1, 1), TextKind::Expected),
+    ("w17", 3, (1, 1), TextKind::Expected),
+    ("w20", 3, (1, 1), TextKind::Expected),
+    ("w0", 3, (1, 1), TextKind::Expected),
+    ("w01", 3, (1, 1), TextKind::Expected),
+    ("s001", 3, (1, 1), TextKind::Expected),
+    ("w", 3, (1, 1), TextKind::Expected),
+    ("w1 s", 3, (1, 4), TextKind::Expected),
+    ("w 1", 3, (1, 1), TextKind::Expected),
+    ("w1s1", 3, (1, 1), TextKind::Expected),
+    ("w1a", 3, (1, 1), TextKind::Expected),
+    ("W1", 3, (1, 1), TextKind::Expected),
+    ("x", 3, (1, 1), TextKind::Expected),
+    ("x1", 3, (1, 1), TextKind::Expected),
+    ("1", 3, (1, 1), TextKind::Expected),
+    ("w1, w2", 3, (1, 1), TextKind::Expected),
+    ("w1\n\n_w1", 3, (3, 1), TextKind::Expected),
+    ("w1 ;", 3, (1, 4), TextKind::Expected),
+    ("w1;", 3, (1, 1), TextKind::Expected),
+    ("s1 w1;", 3, (1, 4), TextKind::Expected),
+    ("s4;", 3, (1, 1), TextKind::Expected),
+    ("w1\r\n;", 3, (2, 1), TextKind::Expected),
+    ("w1\u{b}s1", 3, (1, 1), TextKind::Expected),
+    ("w111", 3, (1, 1), TextKind::Expected),
 ];
 
 #[test]
 fn schedule_faults(rt: HostRuntime) {
     let alloc = rt.alloc();
-    for (text, line, column, kind) in SCHEDULE_FAULTS {
-        match read_schedule(alloc, text.as_bytes(), 3) {
+    for (text, sessions, place, kind) in SCHEDULE_FAULTS {
+        match read_schedule(alloc, text.as_bytes(), sessions) {
             Err(ReadFault::Text(f)) => {
-                assert_eq!(rt; (f.line, f.column), (line, column), "{text}");
+                assert_eq!(rt; (f.line, f.column), place, "{text}");
                 assert!(rt; f.kind == kind, "{text}");
             }
             _ => panic!(rt; "no fault: {text}"),

@@ -5,3 +5,7 @@ use Rattle.session_text.proofs.line.spelled_question.Goals as goal
 pub returns-clause-exact : goal.returns-clause-exact
 unfolding question_at room_at letters_at
 returns-clause-exact c = (drop c.asked.new.reader.at c.args.line.now, search rules)
+
+pub returns-then-is_passed_by-clause-exact : goal.returns-then-is_passed_by-clause-exact
+unfolding question_at room_at letters_at
+returns-then-is_passed_by-clause-exact c = search rules

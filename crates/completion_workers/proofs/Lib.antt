@@ -1,0 +1,4 @@
+pub mod Growing
+pub mod Answering
+pub mod Going
+pub mod Working
