@@ -29,3 +29,5 @@ pub const LOG_TERMS: u32 = 8_000_000;
 /// The recipes of its entries have at most so many steps in all.
 pub const LOG_STEPS: u32 = 8_000_000;
 
+#[cfg(test)]
+mod tests;
