@@ -37,3 +37,18 @@ def timed(folder, words):
 def best(folder, words):
     """The fastest of all runs in a folder."""
     return min((timed(folder, words) for _ in range(RUNS)), key=lambda run: run.seconds)
+
+
+def last_answers(report):
+    """The last answer to each question of a report, by the numbers of session and question."""
+    answers = {}
+    for line in report.splitlines():
+        if line.startswith(("live ", "close ")):
+            _, session, question, *_ = line.split()
+            answers[session, question] = line.rsplit(" : ", 1)[1]
+    return answers
+
+
+def end_of(report):
+    """The word for how the log of a report ends."""
+    return next((line.split()[1] for line in report.splitlines() if line.startswith("end ")), "")

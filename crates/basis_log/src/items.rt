@@ -55,7 +55,7 @@ impl Item {
 }
 
 /// Whether the seals have the same presentation and the same entries.
-fn same_seal(seal: &Sealed, other: &Sealed) -> bool
+pub fn same_seal(seal: &Sealed, other: &Sealed) -> bool
     ensures { IsTrue result ↔ (seal.now ≡ other.now) }
 {
     same_entries(seal.entries(), other.entries()) && seal.presentation().same(other.presentation())

@@ -16,7 +16,7 @@ mod seats;
 mod segments;
 mod sights;
 
-pub use items::Item;
+pub use items::{Item, same_seal};
 pub use refusals::Refused;
 pub use rows::Row;
 pub use seats::{Seat, agree};

@@ -7,6 +7,7 @@ pub mod ShortWords
 pub mod Agreeing
 pub mod Members
 -- texts, line by line
+pub mod Versions
 pub mod Telling
 -- what a yes says, and the places that faults name
 pub mod Soundness

@@ -30,8 +30,8 @@ use Rattle.magnus_laws.proofs.Theorem.{member_is_trivial}
 use Rattle.report_lines.specs.declared.lines.Made.{Made}
 use Rattle.report_lines.specs.declared.lines.Made.TheVariants.{Gen, Sum}
 use Rattle.report_lines.specs.Lines.{IsMadeOf as IsMadeOver}
-use Rattle.cert_checker.specs.States.{IsInTurn}
-use Rattle.cert_checker.specs.Checking.{AreThere, StepsLead, IsMadeOf, signed, fox_at}
+use Rattle.cert_checker.specs.States.{IsInTurnAt}
+use Rattle.cert_checker.specs.Checking.{AreThere, StepsLead, IsMadeAt, signed, fox_at}
 use Rattle.cert_checker.proofs.Lists.{all_at}
 
 -- a vector in the module
@@ -74,12 +74,12 @@ module _ (p : Presented) where
       minus z = omega (arith, ints)
 
   -- an entry that is what it is made to be
-  pub entry_lies : (gens entries : List (List Term)) (made : Made) (n : ℕ) (v : List Term) → AreGenerators p gens → AllByRecursion (Lies p) entries
-      → IsMadeOver n made → IsInTurn gens entries made
-      → IsMadeOf gens entries made (coefficient_at v) → Lies p v
-  entry_lies gens entries (Gen negated) n v are all over turn is =
-      signed_lies negated (vector_at gens (length entries)) v (generator_lies gens (length entries) are turn) is
-  entry_lies gens entries (Sum steps) n v are all over turn is =
+  pub entry_lies : (gens entries : List (List Term)) (i : ℕ) (made : Made) (n : ℕ) (v : List Term) → AreGenerators p gens → AllByRecursion (Lies p) entries
+      → IsMadeOver n made → IsInTurnAt gens entries i made
+      → IsMadeAt gens entries i made (coefficient_at v) → Lies p v
+  entry_lies gens entries i (Gen negated) n v are all over turn is =
+      signed_lies negated (vector_at gens i) v (generator_lies gens i are turn) is
+  entry_lies gens entries i (Sum steps) n v are all over turn is =
       member_same p (sum_of v) (sum_of_steps entries steps) (λ x. sums x (adding_adds_up entries zero_vector (coefficient_at v) steps is.1 x))
       (steps_lie entries n steps all is.0 over)
     where

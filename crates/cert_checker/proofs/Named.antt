@@ -31,20 +31,25 @@ use Rattle.report_lines.specs.declared.lines.Made.{Made}
 use Rattle.report_lines.specs.declared.lines.Made.TheVariants.{Gen, Sum}
 use Rattle.report_lines.specs.declared.lines.Line.{Line}
 use Rattle.report_lines.specs.declared.lines.Line.TheVariants as lines
+use Rattle.report_lines.specs.declared.trimmed.TrimmedLine.{TrimmedLine}
+use Rattle.report_lines.specs.declared.trimmed.TrimmedLine.TheVariants.{Entry, Other}
 use Rattle.report_lines.specs.Lines.{IsLineOf, IsMadeOf as IsMadeOver}
 use Rattle.word_text.specs.Place.{capped}
 use Rattle.cert_checker.specs.declared.checked.Checked.{Checked}
+use Rattle.cert_checker.specs.declared.version.Version.{Version}
 use Rattle.cert_checker.specs.declared.phase.Phase.{Phase}
+use Rattle.cert_checker.specs.declared.phase.Phase.TheVariants as phases
 use Rattle.cert_checker.specs.declared.phase.Phase.TheVariants.{Title, Presentation, Entries, Sealed, Closing, Finished}
 use Rattle.cert_checker.specs.declared.faults.CertKind.{CertKind}
 use Rattle.cert_checker.specs.declared.faults.CertKind.TheVariants.{Text, NoEntry, NotEqual, NotZero, Wide, Long}
 use Rattle.cert_checker.specs.declared.faults.CertFault.{CertFault}
 use Rattle.cert_checker.specs.declared.faults.CertFault.TheVariants as texts
 use Rattle.cert_checker.specs.Faults.{KindIsOver, FaultIsOver}
-use Rattle.cert_checker.specs.States.{State, start, MayFollow, IsInTurn, next, AreWords}
-use Rattle.cert_checker.specs.Checking.{AreThere, IsMadeOf, EntryFails, ProofFails, signed, fox_at, due, Disagrees, LineFails}
-use Rattle.cert_checker.specs.Texts.{FailsIn, HoldsIn, BodyHolds, BodyFails, Tells, Answers}
+use Rattle.cert_checker.specs.States.{State, start, MayFollow, LineFollows, IsInTurnAt, next, with_line, AreWords}
+use Rattle.cert_checker.specs.Checking.{AreThere, IsMadeAt, EntryFailsAt, ProofFails, signed, fox_at, due, Disagrees, LineDisagrees, LineFails}
+use Rattle.cert_checker.specs.Texts.{IsLineIn, TitleHolds, FailsIn, HoldsIn, BodyHolds, BodyFails, Tells, Answers}
 use Rattle.cert_checker.proofs.Lists.{all_at}
+use Rattle.cert_checker.proofs.Versions.{other_valid, kept_valid}
 use Rattle.cert_checker.proofs.Telling.{taken_words}
 
 -- ---- sums
@@ -126,31 +131,30 @@ module _ (p : Presented) (ok : IsPresented p) (gens : List (List Term)) (are : A
   abbrev n : ℕ
   n = length p.names
 
-  made_over : (s : State) (made : Made) (f : Place → ℤ) (x : Place) → AllByRecursion (VectorIsOver n) s.entries → IsInTurn gens s.entries made
-      → IsMadeOver n made
-      → IsMadeOf gens s.entries made f → f x ≢ pos 0 → PlaceIsOver n x
-  made_over s (Gen negated) f x all turn valid is some = listed_over p gens (length s.entries) x ok are turn
-      (unsigned negated (vector_at gens (length s.entries)) x (λ e. some (is x ∙ e)))
-  made_over s (Sum steps) f x all turn valid is some =
-      stands (PlaceIsOver n) (sum_of_steps s.entries steps) x (steps_over n s.entries steps all is.0 valid)
-      (λ z. some (sums (adding_adds_up s.entries zero_vector f steps is.1 x) z))
+  made_over : (entries : List (List Term)) (i : ℕ) (made : Made) (f : Place → ℤ) (x : Place) → AllByRecursion (VectorIsOver n) entries
+      → IsInTurnAt gens entries i made → IsMadeOver n made → IsMadeAt gens entries i made f → f x ≢ pos 0 → PlaceIsOver n x
+  made_over entries i (Gen negated) f x all turn valid is some =
+      listed_over p gens i x ok are turn (unsigned negated (vector_at gens i) x (λ e. some (is x ∙ e)))
+  made_over entries i (Sum steps) f x all turn valid is some =
+      stands (PlaceIsOver n) (sum_of_steps entries steps) x (steps_over n entries steps all is.0 valid)
+      (λ z. some (sums (adding_adds_up entries zero_vector f steps is.1 x) z))
     where
-      sums : f x ≡ zero_vector x +ℤ steps_at s.entries steps x → steps_at s.entries steps x ≡ pos 0 → f x ≡ pos 0
+      sums : f x ≡ zero_vector x +ℤ steps_at entries steps x → steps_at entries steps x ≡ pos 0 → f x ≡ pos 0
       sums e z = omega (arith, ints, e, z)
 
-  pub entry_over : (s : State) (made : Made) (v : List Term) (k : CertKind) → AllByRecursion (VectorIsOver n) s.entries → IsInTurn gens s.entries made
-      → IsMadeOver n made → VectorIsOver n v
-      → EntryFails gens s.entries made v k → KindIsOver n k
-  entry_over s made v Text all turn valid over h = tt
-  entry_over s made v NoEntry all turn valid over h = tt
-  entry_over s made v (NotEqual at) all turn valid over h = by (apart (h.0 at) (coefficient_at v at) h.2.here)
+  pub entry_over : (entries : List (List Term)) (i : ℕ) (made : Made) (v : List Term) (k : CertKind) → AllByRecursion (VectorIsOver n) entries
+      → IsInTurnAt gens entries i made → IsMadeOver n made → VectorIsOver n v
+      → EntryFailsAt gens entries i made v k → KindIsOver n k
+  entry_over entries i made v Text all turn valid over h = tt
+  entry_over entries i made v NoEntry all turn valid over h = tt
+  entry_over entries i made v (NotEqual at) all turn valid over h = by (apart (h.0 at) (coefficient_at v at) h.2.here)
     where
       by : (h.0 at ≢ pos 0) ⊎ (coefficient_at v at ≢ pos 0) → PlaceIsOver n at
-      by (inl some) = made_over s made h.0 at all turn valid h.1 some
+      by (inl some) = made_over entries i made h.0 at all turn valid h.1 some
       by (inr some) = stands_in n v at over some
-  entry_over s made v (NotZero at) all turn valid over h = absurd h
-  entry_over s made v Wide all turn valid over h = tt
-  entry_over s made v Long all turn valid over h = tt
+  entry_over entries i made v (NotZero at) all turn valid over h = absurd h
+  entry_over entries i made v Wide all turn valid over h = tt
+  entry_over entries i made v Long all turn valid over h = tt
 
   proof_over : (entries : List (List Term)) (w : List Letter) (steps : List Step) (k : CertKind) → AllByRecursion (VectorIsOver n) entries → IsOver n w
       → AreStepsOf n steps → ProofFails entries w steps k → KindIsOver n k
@@ -173,7 +177,7 @@ module _ (p : Presented) (ok : IsPresented p) (gens : List (List Term)) (are : A
 
   disagrees_over : (s : State) (l : Line) (k : CertKind) → AllByRecursion (VectorIsOver n) s.entries → AreWords p s.subjects → IsLineOf p l → MayFollow gens s l
       → Disagrees gens s l k → KindIsOver n k
-  disagrees_over s (lines.Entry number made v) k all words valid follows h = entry_over s made v k all follows.3 valid.1.0 valid.1.1.over h
+  disagrees_over s (lines.Entry number made v) k all words valid follows h = entry_over s.entries (length s.entries) made v k all follows.3 valid.1.0 valid.1.1.over h
   disagrees_over s lines.Seal k all words valid follows h = absurd h
   disagrees_over s (lines.Live session number front question verdict) k all words valid follows h = absurd h
   disagrees_over s (lines.Proof subject steps) k all words valid follows h =
@@ -182,27 +186,35 @@ module _ (p : Presented) (ok : IsPresented p) (gens : List (List Term)) (are : A
   disagrees_over s (lines.Close session number question verdict) k all words valid follows h = absurd h
   disagrees_over s lines.Done k all words valid follows h = absurd h
 
-  line_over : (s : State) (l : Line) (k : CertKind) → AllByRecursion (VectorIsOver n) s.entries → AreWords p s.subjects → IsLineOf p l → LineFails gens s l k
-      → KindIsOver n k
-  line_over s l Text all words valid h = tt
-  line_over s l NoEntry all words valid h = tt
-  line_over s l (NotEqual at) all words valid h = disagrees_over s l (NotEqual at) all words valid h.0 h.1
-  line_over s l (NotZero at) all words valid h = disagrees_over s l (NotZero at) all words valid h.0 h.1
-  line_over s l Wide all words valid h = tt
-  line_over s l Long all words valid h = tt
+  so_over : (v : Version) (s : State) (l : TrimmedLine) (k : CertKind) → AllByRecursion (VectorIsOver n) s.entries → AreWords p s.subjects → IsLineIn v p l
+      → LineFollows gens s l → LineDisagrees gens s l k → KindIsOver n k
+  so_over v s (Entry number from made vector) k all words valid follows h =
+      let known = kept_valid v p number from made vector valid in
+      entry_over s.entries from made vector k all follows.4 known.1.1.0 known.1.1.1.over h
+  so_over v s (Other l) k all words valid follows h = disagrees_over s l k all words (other_valid v p l valid) follows h
+
+  line_over : (v : Version) (s : State) (l : TrimmedLine) (k : CertKind) → AllByRecursion (VectorIsOver n) s.entries → AreWords p s.subjects → IsLineIn v p l
+      → LineFails gens s l k → KindIsOver n k
+  line_over v s l Text all words valid h = tt
+  line_over v s l NoEntry all words valid h = tt
+  line_over v s l (NotEqual at) all words valid h = so_over v s l (NotEqual at) all words valid h.0 h.1
+  line_over v s l (NotZero at) all words valid h = so_over v s l (NotZero at) all words valid h.0 h.1
+  line_over v s l Wide all words valid h = tt
+  line_over v s l Long all words valid h = tt
 
   text_over : (k : CertKind) → k ≡ Text → KindIsOver n k
   text_over k e = subst (KindIsOver n) (sym e) tt
 
   body_over : (s : State) (bytes : List ℕ) (k : CertKind) → AllByRecursion (VectorIsOver n) s.entries → AreWords p s.subjects → BodyFails p gens s bytes k
       → KindIsOver n k
-  body_over s bytes k all words (inl h) = line_over s h.line k all words h.valid h.fails
+  body_over s bytes k all words (inl h) = line_over s.version s h.line k all words h.valid h.fails
   body_over s bytes k all words (inr h) = text_over k h.1
 
   bytes_over : (f : Phase) (s : State) (bytes : List ℕ) (k : CertKind) → AllByRecursion (VectorIsOver n) s.entries → AreWords p s.subjects
       → FailsIn f p gens s bytes k → KindIsOver n k
-  bytes_over Title s bytes k all words h = text_over k h.1
+  bytes_over Title s bytes k all words h = text_over k h.2
   bytes_over Presentation s bytes k all words h = text_over k h.1
+  bytes_over phases.Items s bytes k all words h = text_over k h.1
   bytes_over Entries s bytes k all words h = body_over s bytes k all words h
   bytes_over Sealed s bytes k all words h = body_over s bytes k all words h
   bytes_over Closing s bytes k all words h = body_over s bytes k all words h
@@ -219,14 +231,27 @@ module _ (p : Presented) (ok : IsPresented p) (gens : List (List Term)) (are : A
   next_over s (lines.Close session number question verdict) valid all = all
   next_over s lines.Done valid all = all
 
+  with_over : (v : Version) (s : State) (l : TrimmedLine) → IsLineIn v p l → AllByRecursion (VectorIsOver n) s.entries
+      → AllByRecursion (VectorIsOver n) (with_line s l).entries
+  with_over v s (Entry number from made vector) valid all =
+      all_join (VectorIsOver n) s.entries (vector ∷ []) all ((kept_valid v p number from made vector valid).1.1.1.over, tt)
+  with_over v s (Other l) valid all = next_over s l (other_valid v p l valid) all
+
+  kept_title : (s taken : State) (bytes : List ℕ) → AllByRecursion (VectorIsOver n) s.entries → TitleHolds s bytes taken
+      → AllByRecursion (VectorIsOver n) taken.entries
+  kept_title s taken bytes all (inl h) = subst (λ (t : State). AllByRecursion (VectorIsOver n) t.entries) (sym h.1) all
+  kept_title s taken bytes all (inr h) = subst (λ (t : State). AllByRecursion (VectorIsOver n) t.entries) (sym h.1) all
+
   kept : (s taken : State) (bytes : List ℕ) → AllByRecursion (VectorIsOver n) s.entries → BodyHolds p gens s bytes taken
       → AllByRecursion (VectorIsOver n) taken.entries
-  kept s taken bytes all b = subst (λ (t : State). AllByRecursion (VectorIsOver n) t.entries) (sym b.holds.is) (next_over s b.line b.valid all)
+  kept s taken bytes all b = subst (λ (t : State). AllByRecursion (VectorIsOver n) t.entries) (sym b.holds.is)
+      (with_over s.version s b.line b.valid all)
 
   kept_in : (f : Phase) (s taken : State) (bytes : List ℕ) → AllByRecursion (VectorIsOver n) s.entries → HoldsIn f p gens s bytes taken
       → AllByRecursion (VectorIsOver n) taken.entries
-  kept_in Title s taken bytes all h = subst (λ (t : State). AllByRecursion (VectorIsOver n) t.entries) (sym h.1) all
+  kept_in Title s taken bytes all h = kept_title s taken bytes all h
   kept_in Presentation s taken bytes all h = subst (λ (t : State). AllByRecursion (VectorIsOver n) t.entries) (sym h.1) all
+  kept_in phases.Items s taken bytes all h = subst (λ (t : State). AllByRecursion (VectorIsOver n) t.entries) (sym h.is) all
   kept_in Entries s taken bytes all h = kept s taken bytes all h
   kept_in Sealed s taken bytes all h = kept s taken bytes all h
   kept_in Closing s taken bytes all h = kept s taken bytes all h

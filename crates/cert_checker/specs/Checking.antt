@@ -21,11 +21,13 @@ use Rattle.report_lines.specs.declared.lines.Made.{Made}
 use Rattle.report_lines.specs.declared.lines.Made.TheVariants.{Gen, Sum}
 use Rattle.report_lines.specs.declared.lines.Line.{Line}
 use Rattle.report_lines.specs.declared.lines.Line.TheVariants as lines
+use Rattle.report_lines.specs.declared.trimmed.TrimmedLine.{TrimmedLine}
+use Rattle.report_lines.specs.declared.trimmed.TrimmedLine.TheVariants.{Entry, Other}
 use Rattle.cert_checker.specs.declared.faults.CertKind.{CertKind}
 use Rattle.cert_checker.specs.declared.faults.CertKind.TheVariants.{Text, NoEntry, NotEqual, NotZero, Wide, Long}
 use Rattle.cert_checker.specs.declared.faults.LineFault.{LineFault}
 use Rattle.cert_checker.specs.declared.faults.LineFault.TheVariants as faults
-use Rattle.cert_checker.specs.States.{State, MayFollow, next}
+use Rattle.cert_checker.specs.States.{State, LineFollows, with_line}
 
 -- ---- steps
 
@@ -59,10 +61,14 @@ StepsLead way b f steps g = AreThere b steps × Leads way b f steps g
 abbrev pub signed : Bool → List Term → Coefficients
 signed negated g x = if negated then neg_ℤ (coefficient_at g x) else coefficient_at g x
 
--- what the next entry is made to be
+-- what the entry with number i in the history is made to be, behind these entries
+abbrev pub IsMadeAt : List (List Term) → List (List Term) → ℕ → Made → Coefficients → Type 0
+IsMadeAt gens entries i (Gen negated) f = (x : Place) → f x ≡ signed negated (vector_at gens i) x
+IsMadeAt gens entries i (Sum steps) f = StepsLead Add entries zero_vector steps f
+
+-- what the next entry of a whole report is made to be
 abbrev pub IsMadeOf : List (List Term) → List (List Term) → Made → Coefficients → Type 0
-IsMadeOf gens entries (Gen negated) f = (x : Place) → f x ≡ signed negated (vector_at gens (length entries)) x
-IsMadeOf gens entries (Sum steps) f = StepsLead Add entries zero_vector steps f
+IsMadeOf gens entries made f = IsMadeAt gens entries (length entries) made f
 
 -- its steps fail
 abbrev pub RecipeFails : List (List Term) → Made → CertKind → Type 0
@@ -73,14 +79,17 @@ RecipeFails entries (Sum steps) k = StepsFail Add entries zero_vector steps k
 abbrev pub PartAt : Coefficients → Coefficients → Place → Type 0
 PartAt f g at = IsGreatest (λ x. f x ≢ g x) at
 
-abbrev pub EntryFails : List (List Term) → List (List Term) → Made → List Term → CertKind → Type 0
-EntryFails gens entries made v Text = ⊥
-EntryFails gens entries made v NoEntry = RecipeFails entries made NoEntry
-EntryFails gens entries made v (NotEqual at) = (f : Coefficients) × IsMadeOf gens entries made f
+abbrev pub EntryFailsAt : List (List Term) → List (List Term) → ℕ → Made → List Term → CertKind → Type 0
+EntryFailsAt gens entries i made v Text = ⊥
+EntryFailsAt gens entries i made v NoEntry = RecipeFails entries made NoEntry
+EntryFailsAt gens entries i made v (NotEqual at) = (f : Coefficients) × IsMadeAt gens entries i made f
     × PartAt f (coefficient_at v) at
-EntryFails gens entries made v (NotZero at) = ⊥
-EntryFails gens entries made v Wide = RecipeFails entries made Wide
-EntryFails gens entries made v Long = RecipeFails entries made Long
+EntryFailsAt gens entries i made v (NotZero at) = ⊥
+EntryFailsAt gens entries i made v Wide = RecipeFails entries made Wide
+EntryFailsAt gens entries i made v Long = RecipeFails entries made Long
+
+abbrev pub EntryFails : List (List Term) → List (List Term) → Made → List Term → CertKind → Type 0
+EntryFails gens entries made v k = EntryFailsAt gens entries (length entries) made v k
 
 -- ---- proofs
 
@@ -123,20 +132,29 @@ Disagrees gens s (lines.End end) k = ⊥
 Disagrees gens s (lines.Close session number question verdict) k = ⊥
 Disagrees gens s lines.Done k = ⊥
 
+-- the same of the line of a report of either version
+abbrev pub LineAgrees : List (List Term) → State → TrimmedLine → Type 0
+LineAgrees gens s (Entry number from made vector) = IsMadeAt gens s.entries from made (coefficient_at vector)
+LineAgrees gens s (Other l) = Agrees gens s l
+
+abbrev pub LineDisagrees : List (List Term) → State → TrimmedLine → CertKind → Type 0
+LineDisagrees gens s (Entry number from made vector) k = EntryFailsAt gens s.entries from made vector k
+LineDisagrees gens s (Other l) k = Disagrees gens s l k
+
 -- the line fails: first it has to be one that may follow
-abbrev pub LineFails : List (List Term) → State → Line → CertKind → Type 0
-LineFails gens s l Text = MayFollow gens s l → ⊥
-LineFails gens s l NoEntry = MayFollow gens s l × Disagrees gens s l NoEntry
-LineFails gens s l (NotEqual at) = MayFollow gens s l × Disagrees gens s l (NotEqual at)
-LineFails gens s l (NotZero at) = MayFollow gens s l × Disagrees gens s l (NotZero at)
-LineFails gens s l Wide = MayFollow gens s l × Disagrees gens s l Wide
-LineFails gens s l Long = MayFollow gens s l × Disagrees gens s l Long
+abbrev pub LineFails : List (List Term) → State → TrimmedLine → CertKind → Type 0
+LineFails gens s l Text = LineFollows gens s l → ⊥
+LineFails gens s l NoEntry = LineFollows gens s l × LineDisagrees gens s l NoEntry
+LineFails gens s l (NotEqual at) = LineFollows gens s l × LineDisagrees gens s l (NotEqual at)
+LineFails gens s l (NotZero at) = LineFollows gens s l × LineDisagrees gens s l (NotZero at)
+LineFails gens s l Wide = LineFollows gens s l × LineDisagrees gens s l Wide
+LineFails gens s l Long = LineFollows gens s l × LineDisagrees gens s l Long
 
 -- the line is taken
-pub record LineHolds (gens : List (List Term)) (s : State) (l : Line) (taken : State) : Type 0 where
-  pub follows : MayFollow gens s l
-  pub agrees : Agrees gens s l
-  pub is : taken ≡ next s l
+pub record LineHolds (gens : List (List Term)) (s : State) (l : TrimmedLine) (taken : State) : Type 0 where
+  pub follows : LineFollows gens s l
+  pub agrees : LineAgrees gens s l
+  pub is : taken ≡ with_line s l
 
 -- what comes of a line, unless memory runs out
 abbrev pub Outcome : {X : Type 0} → (X → Type 0) → (CertKind → Type 0) → Result X LineFault → Type 0
@@ -144,5 +162,5 @@ Outcome Holds Fails (Ok x) = Holds x
 Outcome Holds Fails (Err (faults.Fails k)) = Fails k
 Outcome Holds Fails (Err faults.NoMemory) = Unit {0}
 
-abbrev pub TakesLine : List (List Term) → State → Line → Result State LineFault → Type 0
+abbrev pub TakesLine : List (List Term) → State → TrimmedLine → Result State LineFault → Type 0
 TakesLine gens s l r = Outcome (LineHolds gens s l) (LineFails gens s l) r

@@ -1,6 +1,7 @@
 -- What a report says that holds.
-use Rattle.std.specs.List.{AllByRecursion, flat_map}
-use Rattle.std.specs.Prelude.{◌≡◌, ℕ, List, [], ◌∷◌, ◌++◌}
+use Rattle.std.specs.List.{AllByRecursion}
+use Rattle.std.specs.Prelude.{◌≡◌, ℕ, List, ◌∷◌, ◌++◌}
+use Rattle.spelling.specs.Spelling.{IsSmall}
 use Rattle.presentation.specs.Presented.{Presented}
 use Rattle.derivation.specs.Moves.{Trivial, Equal}
 use Rattle.module_vec.specs.Vectors.{sum_of}
@@ -12,8 +13,13 @@ use Rattle.session_text.specs.declared.question.Question.{Question}
 use Rattle.session_text.specs.declared.question.Question.TheVariants as questions
 use Rattle.report_lines.specs.declared.lines.Line.{Line}
 use Rattle.report_lines.specs.declared.lines.Line.TheVariants as lines
-use Rattle.report_lines.specs.Lines.{IsLineOf}
-use Rattle.report_lines.specs.Texts.{title, pres_line, line_text}
+use Rattle.report_lines.specs.declared.trimmed.TrimmedLine.{TrimmedLine}
+use Rattle.report_lines.specs.declared.trimmed.TrimmedLine.TheVariants.{Entry, Other}
+use Rattle.report_lines.specs.Texts.{title, pres_line}
+use Rattle.report_lines.specs.Trimmed.{trimmed_lines_text, trimmed_text}
+use Rattle.cert_checker.specs.declared.version.Version.{Version}
+use Rattle.cert_checker.specs.declared.version.Version.TheVariants.{Whole, Trimmed}
+use Rattle.cert_checker.specs.Texts.{IsLineIn}
 
 -- the answer to the question is yes: the word is trivial, the words are equal, the map extends
 abbrev pub IsYes : Presented → Question → Type 0
@@ -42,17 +48,25 @@ IsTrueLine p (lines.End end) = Unit {0}
 IsTrueLine p (lines.Close session number question verdict) = IsTrueVerdict p question verdict
 IsTrueLine p lines.Done = Unit {0}
 
--- each of these lines, with its end
-abbrev pub lines_text : Presented → List Line → List ℕ
-lines_text p ls = flat_map (λ l. line_text p l ++ 10 ∷ []) ls
+abbrev pub IsTrue : Presented → TrimmedLine → Type 0
+IsTrue p (Entry number from made vector) = IsMember p (sum_of vector)
+IsTrue p (Other l) = IsTrueLine p l
 
--- the two lines at the head, and these lines
-abbrev pub report_text : Presented → List Line → List ℕ
-report_text p ls = title ++ 10 ∷ (pres_line p ++ 10 ∷ lines_text p ls)
+-- the lines at the head, and these lines, each with its end
+abbrev pub report_text : Version → Presented → List TrimmedLine → List ℕ
+report_text Whole p ls = title ++ 10 ∷ (pres_line p ++ 10 ∷ trimmed_lines_text p ls)
+report_text (Trimmed items) p ls = trimmed_text p items ls
 
--- the text is a report over the presentation, and each of its lines is true
+-- the number of items can be told in the head
+abbrev pub IsVersion : Version → Type 0
+IsVersion Whole = Unit {0}
+IsVersion (Trimmed items) = IsSmall items
+
+-- the text is a report over the presentation, whole or trimmed, and each of its lines is true
 pub record IsTrueReport (p : Presented) (text : List ℕ) : Type 0 where
-  pub lines : List Line
-  pub valid : AllByRecursion (IsLineOf p) lines
-  pub spelled : text ≡ report_text p lines
-  pub true_lines : AllByRecursion (IsTrueLine p) lines
+  pub version : Version
+  pub head : IsVersion version
+  pub lines : List TrimmedLine
+  pub valid : AllByRecursion (IsLineIn version p) lines
+  pub spelled : text ≡ report_text version p lines
+  pub true_lines : AllByRecursion (IsTrue p) lines

@@ -1,11 +1,12 @@
 //! `Checker`: what was taken of a report.
 
 ghost use Rattle.std.specs.Prelude.{◌≡◌, ◌↔◌, IsTrue};
-ghost use Rattle.cert_checker.specs.States.{start, IsSettled, IsOpen, HasGenerators, items};
+ghost use Rattle.cert_checker.specs.States.{start, IsSettled, IsOpen, HasGenerators, IsNextIn, IsFront, items};
 ghost use Rattle.cert_checker.specs.Texts.{IsComplete, counts};
 
 use crate::Checked;
 use crate::phase::Phase;
+use crate::version::Version;
 use free_words::Word;
 use module_vec::ModVec;
 use std::alloc::Global;
@@ -15,6 +16,9 @@ use std::marker::Model;
 #[derive(Drop)]
 pub struct Checker {
     pub(crate) phase: Phase,
+    pub(crate) version: Version,
+    /// Of a trimmed report: how many items of the history stand before, by the entries and fronts so far.
+    pub(crate) passed: u32,
     /// The vectors of the entries.
     pub(crate) entries: Vec<ModVec>,
     /// The subjects of the last answer that has proofs.
@@ -32,6 +36,8 @@ impl Model for Checker {
 
     ghost view = { λ c. record {
       phase = c.phase;
+      version = c.version;
+      passed = c.passed;
       entries = c.entries.items;
       subjects = c.subjects.items;
       shown = c.shown;
@@ -46,6 +52,8 @@ impl Checker {
     {
         Checker {
             phase: Phase::Title,
+            version: Version::Whole,
+            passed: 0,
             entries: Vec::new(alloc),
             subjects: Vec::new(alloc),
             shown: 0,
@@ -70,11 +78,36 @@ impl Checker {
         }
     }
 
-    /// Whether each of the generators has its entry.
+    /// Whether each of the generators has its entry, unless entries may be left out.
     pub fn has_generators(&self, generators: &[ModVec]) -> bool
         ensures { IsTrue result ↔ HasGenerators generators.now self.now }
     {
-        generators.len() <= self.entries.len()
+        match self.version {
+            Version::Whole => generators.len() <= self.entries.len(),
+            Version::Trimmed { .. } => true,
+        }
+    }
+
+    /// Whether the entry with this number in the history may be the next one that a trimmed report has.
+    pub fn has_next(&self, from: u32) -> bool
+        ensures { IsTrue result ↔ IsNextIn self.now.version self.now.passed from }
+    {
+        match self.version {
+            Version::Whole => false,
+            Version::Trimmed { items } => self.passed <= from && from < items,
+        }
+    }
+
+    /// Whether an answer may be made by so many items of the history.
+    pub fn has_front(&self, generators: &[ModVec], front: u32) -> bool
+        ensures { IsTrue result ↔ IsFront generators.now self.now front }
+    {
+        match self.version {
+            Version::Whole => generators.len() <= self.entries.len() && self.has_items(front),
+            Version::Trimmed { items } => {
+                generators.len() <= front as usize && self.passed <= front && front <= items
+            }
+        }
     }
 
     /// Whether there are so many entries and seals.

@@ -8,13 +8,16 @@ mod checked;
 mod checker;
 mod entry;
 mod faults;
+mod heads;
 mod order;
 mod phase;
 mod proof;
+mod reading;
 mod report;
 mod steps;
 mod subjects;
 mod taking;
+mod version;
 
 pub use checked::Checked;
 pub use faults::{CertFault, CertKind};
@@ -22,3 +25,5 @@ pub use report::check;
 
 #[cfg(test)]
 mod tests;
+#[cfg(test)]
+mod trimmed_tests;

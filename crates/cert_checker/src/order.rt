@@ -8,18 +8,37 @@ ghost use Rattle.outcomes.specs.declared.verdicts.Verdict.{Verdict};
 ghost use Rattle.session_text.specs.Questions.{IsWritable};
 ghost use Rattle.report_lines.specs.Lines.{IsLineOf};
 ghost use Rattle.report_lines.specs.declared.lines.Line.TheVariants as lines;
-ghost use Rattle.cert_checker.specs.States.{IsInTurn, MayFollow};
+ghost use Rattle.report_lines.specs.declared.trimmed.TrimmedLine.TheVariants as trimmed;
+ghost use Rattle.cert_checker.specs.declared.version.Version.{Version};
+ghost use Rattle.cert_checker.specs.States.{IsInTurnAt, MayFollow, LineFollows};
+ghost use Rattle.cert_checker.specs.Texts.{IsLineIn};
 
 use crate::checker::Checker;
 use crate::phase::Phase;
 use crate::steps::are_near;
 use module_vec::{ModVec, Step};
-use report_lines::{Line, Made};
+use report_lines::{EntryNumber, Line, Made, TrimmedLine};
 use session_text::{Question, has_images};
 
 impl Checker {
     /// Whether the line may follow.
-    pub fn may_follow(&self, generators: &[ModVec], line: &Line) -> bool
+    pub fn may_follow(&self, generators: &[ModVec], line: &TrimmedLine) -> bool
+        requires { (v : Version) × (p : Presented) × IsLineIn v p line.now }
+        ensures { IsTrue result ↔ LineFollows generators.now self.now line.now }
+    {
+        match line {
+            TrimmedLine::Entry {
+                number,
+                from,
+                made,
+                ..
+            } => self.kept_may_follow(generators, EntryNumber::new(*number, *from), made),
+            TrimmedLine::Other(line) => self.line_may_follow(generators, line),
+        }
+    }
+
+    /// Whether the line may follow, an entry in the form that it has in a whole report.
+    fn line_may_follow(&self, generators: &[ModVec], line: &Line) -> bool
         requires { (p : Presented) × IsLineOf p line.now }
         ensures { IsTrue result ↔ MayFollow generators.now self.now line.now }
     {
@@ -38,13 +57,24 @@ impl Checker {
         }
     }
 
+    fn kept_may_follow(&self, generators: &[ModVec], at: EntryNumber, made: &Made) -> bool
+        ensures { (v : List Term) → IsTrue result
+            ↔ LineFollows generators.now self.now (trimmed.Entry at.number at.from made.now v) }
+    {
+        self.phase == Phase::Entries
+            && self.is_settled()
+            && at.number as usize == self.entries.len()
+            && self.has_next(at.from)
+            && is_in_turn(generators, &self.entries, at.from as usize, made)
+    }
+
     fn entry_may_follow(&self, generators: &[ModVec], number: u32, made: &Made) -> bool
         ensures { (v : List Term) → IsTrue result ↔ MayFollow generators.now self.now (lines.Entry number made.now v) }
     {
         self.phase == Phase::Entries
             && self.is_settled()
             && number as usize == self.entries.len()
-            && is_in_turn(generators, &self.entries, made)
+            && is_in_turn(generators, &self.entries, self.entries.len(), made)
     }
 
     fn seal_may_follow(&self, generators: &[ModVec]) -> bool
@@ -60,8 +90,7 @@ impl Checker {
     {
         self.is_open()
             && self.is_settled()
-            && self.has_generators(generators)
-            && self.has_items(front)
+            && self.has_front(generators, front)
             && has_images(question)
     }
 
@@ -95,14 +124,12 @@ impl Checker {
     }
 }
 
-/// Whether the next entry may be made so.
-fn is_in_turn(generators: &[ModVec], entries: &[ModVec], made: &Made) -> bool
-    ensures { IsTrue result ↔ IsInTurn generators.now entries.now made.now }
+/// Whether the entry with this number in the history may be made so, behind these entries.
+fn is_in_turn(generators: &[ModVec], entries: &[ModVec], number: usize, made: &Made) -> bool
+    ensures { IsTrue result ↔ IsInTurnAt generators.now entries.now number made.now }
 {
     match made {
-        Made::Gen { .. } => entries.len() < generators.len(),
-        Made::Sum { steps } => {
-            generators.len() <= entries.len() && are_near(entries, steps.steps())
-        }
+        Made::Gen { .. } => number < generators.len(),
+        Made::Sum { steps } => generators.len() <= number && are_near(entries, steps.steps()),
     }
 }

@@ -7,7 +7,9 @@ pub enum Phase {
     Title,
     /// The first line: the presentation is due.
     Presentation,
-    /// The presentation, and entries.
+    /// The presentation of a trimmed report: the number of items is due.
+    Items,
+    /// The head, and entries.
     Entries,
     /// The seal behind the entries.
     Sealed,

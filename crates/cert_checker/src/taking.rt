@@ -1,14 +1,14 @@
 //! Taking a line.
 
-ghost use Rattle.std.specs.Prelude.{◌≡◌, ◌+◌, ◌<◌, ◌++◌, ◌∷◌, [], length, IsTrue, IfOk};
+ghost use Rattle.std.specs.Prelude.{◌≡◌, ◌+◌, ◌<◌, ◌≤◌, ◌++◌, ◌∷◌, [], length, IfOk};
 ghost use Rattle.word_text.specs.Place.{capped};
 ghost use Rattle.presentation.specs.Presented.{Presented};
 ghost use Rattle.session_text.specs.Questions.{IsWritable, HasImages};
 ghost use Rattle.report_lines.specs.Lines.{IsLineOf};
-ghost use Rattle.cert_checker.specs.declared.faults.CertKind.TheVariants.{Text};
-ghost use Rattle.cert_checker.specs.States.{MayFollow, AreWords, asked, next};
-ghost use Rattle.cert_checker.specs.Checking.{Agrees, Disagrees, Outcome, TakesLine};
-ghost use Rattle.cert_checker.specs.Texts.{BytesHold, BytesFail, BodyHolds, BodyFails};
+ghost use Rattle.cert_checker.specs.declared.version.Version.{Version};
+ghost use Rattle.cert_checker.specs.States.{MayFollow, LineFollows, AreWords, asked, next, with_line};
+ghost use Rattle.cert_checker.specs.Checking.{Agrees, Disagrees, LineAgrees, LineDisagrees, Outcome, TakesLine};
+ghost use Rattle.cert_checker.specs.Texts.{BytesHold, BytesFail, BodyHolds, BodyFails, IsLineIn};
 
 use crate::CertKind;
 use crate::checker::Checker;
@@ -16,11 +16,12 @@ use crate::entry::entry_agrees;
 use crate::faults::LineFault;
 use crate::phase::Phase;
 use crate::proof::proof_agrees;
+use crate::reading::read_in;
 use crate::subjects::asked;
 use module_vec::ModVec;
 use outcomes::Verdict;
 use presentation::Presentation;
-use report_lines::{Line, is_pres_line, is_title, read_line};
+use report_lines::{Line, TrimmedLine, is_pres_line};
 use session_text::Question;
 use std::alloc::{AllocError, Global};
 
@@ -38,26 +39,11 @@ impl Checker {
             (BytesFail p.now generators.now self bytes.now) result }
     {
         match self.phase {
-            Phase::Title => self.take_head(is_title(bytes), Phase::Presentation),
-            Phase::Presentation => {
-                let is_right = is_pres_line(alloc, p, bytes)?;
-                self.take_head(is_right, Phase::Entries)
-            }
+            Phase::Title => self.take_title(bytes),
+            Phase::Presentation => self.take_presentation(is_pres_line(alloc, p, bytes)?),
+            Phase::Items => self.take_items(bytes),
             _ => self.take_body(alloc, p, generators, bytes),
         }
-    }
-
-    /// Goes on to the phase, where a line at the head is right.
-    fn take_head(self, is_right: bool, phase: Phase) -> Result<Checker, LineFault>
-        ensures { Outcome (λ taken. IsTrue is_right × (taken ≡ record self { phase = phase })) (λ k. (IsTrue is_right
-            → ⊥) × (k ≡ Text)) result }
-    {
-        if !is_right {
-            return Err(LineFault::Fails(CertKind::Text));
-        }
-        let mut checker = self;
-        checker.phase = phase;
-        Ok(checker)
     }
 
     /// Takes the bytes of a line behind the head.
@@ -72,7 +58,7 @@ impl Checker {
         ensures { Outcome (BodyHolds p.now generators.now self bytes.now)
             (BodyFails p.now generators.now self bytes.now) result }
     {
-        match read_line(alloc, p, bytes)? {
+        match read_in(alloc, self.version, p, bytes)? {
             Some(line) => self.take_line(alloc, p, generators, line),
             None => Err(LineFault::Fails(CertKind::Text)),
         }
@@ -84,9 +70,9 @@ impl Checker {
         alloc: Global,
         p: &Presentation,
         generators: &[ModVec],
-        line: Line,
+        line: TrimmedLine,
     ) -> Result<Checker, LineFault>
-        requires valid { IsLineOf p.now line }
+        requires valid { IsLineIn self.version p.now line }
         requires words { AreWords p.now self.subjects }
         ensures { TakesLine generators.now self line result }
     {
@@ -103,6 +89,38 @@ impl Checker {
         alloc: Global,
         p: &Presentation,
         generators: &[ModVec],
+        line: &TrimmedLine,
+    ) -> Result<(), LineFault>
+        requires valid { (v : Version) × IsLineIn v p.now line.now }
+        requires words { AreWords p.now self.now.subjects }
+        requires follows { LineFollows generators.now self.now line.now }
+        ensures { Outcome (λ _. LineAgrees generators.now self.now line.now)
+            (LineDisagrees generators.now self.now line.now) result }
+    {
+        match line {
+            TrimmedLine::Entry {
+                from,
+                made,
+                vector,
+                ..
+            } => entry_agrees(
+                alloc,
+                generators,
+                &self.entries,
+                *from as usize,
+                made,
+                vector,
+            ),
+            TrimmedLine::Other(line) => self.line_agrees(alloc, p, generators, line),
+        }
+    }
+
+    /// The same, of an entry in the form that it has in a whole report.
+    fn line_agrees(
+        &self,
+        alloc: Global,
+        p: &Presentation,
+        generators: &[ModVec],
         line: &Line,
     ) -> Result<(), LineFault>
         requires valid { IsLineOf p.now line.now }
@@ -113,7 +131,14 @@ impl Checker {
     {
         match line {
             Line::Entry { made, vector, .. } => {
-                entry_agrees(alloc, generators, &self.entries, made, vector)
+                entry_agrees(
+                    alloc,
+                    generators,
+                    &self.entries,
+                    self.entries.len(),
+                    made,
+                    vector,
+                )
             }
             Line::Proof { steps, .. } => {
                 let word = &self.subjects[self.shown];
@@ -124,7 +149,29 @@ impl Checker {
     }
 
     /// What was taken with the line.
-    fn with(self, alloc: Global, generators: &[ModVec], line: Line) -> Result<Checker, AllocError>
+    fn with(
+        self,
+        alloc: Global,
+        generators: &[ModVec],
+        line: TrimmedLine,
+    ) -> Result<Checker, AllocError>
+        requires valid { (v : Version) × (p : Presented) × IsLineIn v p line }
+        requires follows { LineFollows generators.now self line }
+        ensures { IfOk result (λ taken. taken ≡ with_line self line) }
+    {
+        match line {
+            TrimmedLine::Entry { from, vector, .. } => self.passing(from + 1).with_entry(vector),
+            TrimmedLine::Other(line) => self.with_other(alloc, generators, line),
+        }
+    }
+
+    /// The same, of an entry in the form that it has in a whole report.
+    fn with_other(
+        self,
+        alloc: Global,
+        generators: &[ModVec],
+        line: Line,
+    ) -> Result<Checker, AllocError>
         requires valid { (p : Presented) × IsLineOf p line }
         requires follows { MayFollow generators.now self line }
         ensures { IfOk result (λ taken. taken ≡ next self line) }
@@ -132,10 +179,11 @@ impl Checker {
         match line {
             Line::Entry { vector, .. } => self.with_entry(vector),
             Line::Live {
+                front,
                 question,
                 verdict,
                 ..
-            } => self.with_answer(alloc, question, &verdict),
+            } => self.passing(front).with_answer(alloc, question, &verdict),
             Line::Close {
                 question,
                 verdict,
@@ -179,6 +227,15 @@ impl Checker {
         let mut checker = self;
         checker.shown += 1;
         checker.proofs = checker.proofs.saturating_add(1);
+        checker
+    }
+
+    /// So many items of the history stand before the next line.
+    fn passing(self, passed: u32) -> Checker
+        ensures { result ≡ record self { passed = passed } }
+    {
+        let mut checker = self;
+        checker.passed = passed;
         checker
     }
 

@@ -8,7 +8,7 @@ use std::alloc::{AllocError, Global};
 use std::test::Fail;
 
 /// The report of a presentation of a solvable Baumslag-Solitar group, with three questions.
-const SOLVABLE: &str = "<a,t | t a t^-1 a^-2>";
+pub(crate) const SOLVABLE: &str = "<a,t | t a t^-1 a^-2>";
 
 const REPORT: [&str; 20] = [
     "metab report 1",
@@ -50,7 +50,12 @@ const MAP: [&str; 10] = [
 ];
 
 /// The lines with their ends; the line of this number, counted from 1, is another one.
-fn text(alloc: Global, lines: &[&str], number: usize, other: &str) -> Result<Vec<u8>, AllocError> {
+pub(crate) fn text(
+    alloc: Global,
+    lines: &[&str],
+    number: usize,
+    other: &str,
+) -> Result<Vec<u8>, AllocError> {
     let mut text = Vec::new(alloc);
     for (i, line) in lines.iter().enumerate() {
         let line = if i + 1 == number { other } else { line };
@@ -61,19 +66,23 @@ fn text(alloc: Global, lines: &[&str], number: usize, other: &str) -> Result<Vec
 }
 
 /// What the checker answers.
-fn answer(alloc: Global, p: &str, text: &[u8]) -> Result<Result<Checked, CertFault>, Fail> {
+pub(crate) fn answer(
+    alloc: Global,
+    p: &str,
+    text: &[u8],
+) -> Result<Result<Checked, CertFault>, Fail> {
     match read_presentation(alloc, p.as_bytes()) {
         Ok(p) => Ok(check(alloc, &p, text)),
         Err(_) => Err(Fail::from("no presentation")),
     }
 }
 
-fn at(line: u32, kind: CertKind) -> Result<Checked, CertFault> {
+pub(crate) fn at(line: u32, kind: CertKind) -> Result<Checked, CertFault> {
     Err(CertFault::Line { line, kind })
 }
 
 /// The monomial a at this component.
-fn a_at(c: u8) -> Result<Place, Fail> {
+pub(crate) fn a_at(c: u8) -> Result<Place, Fail> {
     Ok(Place {
         m: Mono::of_exponents(&[1]).ok_or("too steep")?,
         c,
@@ -81,7 +90,7 @@ fn a_at(c: u8) -> Result<Place, Fail> {
 }
 
 /// Whether the report holds, with so many entries and proofs.
-fn holds(alloc: Global, p: &str, lines: &[&str], counts: Checked) -> Result<bool, Fail> {
+pub(crate) fn holds(alloc: Global, p: &str, lines: &[&str], counts: Checked) -> Result<bool, Fail> {
     let text = text(alloc, lines, 0, "")?;
     match answer(alloc, p, &text)? {
         Ok(held) => Ok(held == counts),
@@ -128,7 +137,7 @@ fn cut_reports_fail_behind_their_last_line(rt: HostRuntime) -> Result<(), Fail> 
 fn lines_that_may_not_stand_are_text(rt: HostRuntime) -> Result<(), Fail> {
     let alloc = rt.alloc();
     let changed = [
-        (1, "metab report 2"),
+        (1, "metab report 3"),
         (2, "pres <a, t | t a t^-1 a^-2> "),
         (3, "entry 0 sum 0 : 0"),
         (4, "entry 2 gen + : +1*a'@a -1*1@a"),

@@ -1,1 +1,4 @@
-pub mod Reports
+pub mod TrueReports
+mod Answering
+mod FlatLeads
+mod Loading

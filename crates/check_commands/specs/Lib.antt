@@ -1,3 +1,9 @@
 pub mod Steps
 pub mod Fox
 pub mod Check
+pub mod Faults
+pub mod TextSink
+pub mod Reports
+pub mod Replies
+pub mod Flat
+pub mod Sum

@@ -63,8 +63,8 @@ fn put_kind(out: &mut Vec<u8>, p: &Presentation, kind: &CertKind) -> Result<(), 
     }
 }
 
-// The answer where a line fails.
-fn failing(
+/// The answer where a line fails.
+pub(crate) fn failing(
     alloc: Global,
     p: &Presentation,
     line: u32,

@@ -8,7 +8,7 @@ use Rattle.command_floor.specs.Commands.{AskedWords, asked}
 pub equals : asked (codes "solo" ∷ codes "--entries=3072" ∷ codes "p" ∷ codes "s" ∷ [])
     ≡ Some (record {
       command = Solo;
-      given = record { settings = record { entries = Some 3072; budget = None; order = None }; words = codes "p" ∷ codes "s" ∷ [] };
+      given = record { settings = record { entries = Some 3072; budget = None; order = None; workers = None; report = None }; words = codes "p" ∷ codes "s" ∷ [] };
     })
 unfolding clap_on_literals digits_at after_digits is_digit
 equals = refl
@@ -16,7 +16,7 @@ equals = refl
 pub between : asked (codes "solo" ∷ codes "p" ∷ codes "--entries" ∷ codes "000003072" ∷ codes "s" ∷ [])
     ≡ Some (record {
       command = Solo;
-      given = record { settings = record { entries = Some 3072; budget = None; order = None }; words = codes "p" ∷ codes "s" ∷ [] };
+      given = record { settings = record { entries = Some 3072; budget = None; order = None; workers = None; report = None }; words = codes "p" ∷ codes "s" ∷ [] };
     })
 unfolding clap_on_literals digits_at after_digits is_digit
 between = refl
@@ -24,7 +24,7 @@ between = refl
 pub after_dashes : asked (codes "solo" ∷ codes "--" ∷ codes "p" ∷ codes "-s" ∷ [])
     ≡ Some (record {
       command = Solo;
-      given = record { settings = record { entries = None; budget = None; order = None }; words = codes "p" ∷ codes "-s" ∷ [] };
+      given = record { settings = record { entries = None; budget = None; order = None; workers = None; report = None }; words = codes "p" ∷ codes "-s" ∷ [] };
     })
 unfolding clap_on_literals digits_at after_digits is_digit
 after_dashes = refl
@@ -37,7 +37,7 @@ twice = refl
 pub lone_dash : asked (codes "steps" ∷ codes "-" ∷ codes "" ∷ codes "d" ∷ [])
     ≡ Some (record {
       command = Steps;
-      given = record { settings = record { entries = None; budget = None; order = None }; words = codes "-" ∷ codes "" ∷ codes "d" ∷ [] };
+      given = record { settings = record { entries = None; budget = None; order = None; workers = None; report = None }; words = codes "-" ∷ codes "" ∷ codes "d" ∷ [] };
     })
 unfolding clap_on_literals digits_at after_digits is_digit
 lone_dash = refl
@@ -46,7 +46,7 @@ pub by_order : asked (codes "solo" ∷ codes "p" ∷ codes "--order=02" ∷ code
     ≡ Some (record {
       command = Solo;
       given = record {
-        settings = record { entries = None; budget = None; order = Some 2 };
+        settings = record { entries = None; budget = None; order = Some 2; workers = None; report = None };
         words = codes "p" ∷ codes "s" ∷ [];
       };
     })

@@ -18,7 +18,14 @@ pub enum Command {
     Check,
     Solo,
     Replay,
+    Run,
     Gen,
+    Trim,
+    Flat,
+    Sum,
+    Extend,
+    Save,
+    Load,
 }
 
 /// A command with what is given behind its name.
@@ -57,6 +64,13 @@ fn command_of<'a>(
     ensures within { IfOk result (λ a. IfSome a (λ x. AreInRange x.given.settings)) }
 {
     let run = [Setting::Entries, Setting::Budget, Setting::Order];
+    let threaded = [
+        Setting::Workers,
+        Setting::Entries,
+        Setting::Budget,
+        Setting::Order,
+    ];
+    let whole = [Setting::Entries, Setting::Order];
     if name == "steps" {
         behind(alloc, Command::Steps, "steps", &[], words)
     } else if name == "fox" {
@@ -67,8 +81,22 @@ fn command_of<'a>(
         behind(alloc, Command::Solo, "solo", &run, words)
     } else if name == "replay" {
         behind(alloc, Command::Replay, "replay", &run, words)
+    } else if name == "run" {
+        behind(alloc, Command::Run, "run", &threaded, words)
     } else if name == "gen" {
         behind(alloc, Command::Gen, "gen", &[], words)
+    } else if name == "trim" {
+        behind(alloc, Command::Trim, "trim", &[], words)
+    } else if name == "flat" {
+        behind(alloc, Command::Flat, "flat", &[], words)
+    } else if name == "sum" {
+        behind(alloc, Command::Sum, "sum", &[], words)
+    } else if name == "extend" {
+        behind(alloc, Command::Extend, "extend", &whole, words)
+    } else if name == "save" {
+        behind(alloc, Command::Save, "save", &whole, words)
+    } else if name == "load" {
+        behind(alloc, Command::Load, "load", &[], words)
     } else {
         Ok(None)
     }

@@ -98,10 +98,14 @@ fn settings(found: &ArgMatches) -> Option<Settings>
     let entries = setting(found, Setting::Entries)?;
     let budget = setting(found, Setting::Budget)?;
     let order = setting(found, Setting::Order)?;
+    let workers = setting(found, Setting::Workers)?;
+    let report = setting(found, Setting::Report)?;
     Some(Settings {
         entries,
         budget,
         order,
+        workers,
+        report,
     })
 }
 

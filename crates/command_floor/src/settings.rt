@@ -18,6 +18,12 @@ pub const FIRST_ORDER: u32 = 1;
 /// The number of the last order of tasks.
 pub const LAST_ORDER: u32 = 2;
 
+/// A completion has at most so many workers.
+pub const MOST_WORKERS: u32 = 16;
+
+/// The number of the last version of reports.
+pub const LAST_REPORT: u32 = 2;
+
 /// An option of a command.
 #[derive(Clone, Copy)]
 pub enum Setting {
@@ -27,6 +33,10 @@ pub enum Setting {
     Budget,
     /// The number of the order in which tasks are worked.
     Order,
+    /// How many workers complete a log.
+    Workers,
+    /// The version of the report that is written.
+    Report,
 }
 
 impl Setting {
@@ -38,6 +48,8 @@ impl Setting {
             Setting::Entries => "entries",
             Setting::Budget => "budget",
             Setting::Order => "order",
+            Setting::Workers => "workers",
+            Setting::Report => "report",
         }
     }
 
@@ -49,6 +61,7 @@ impl Setting {
             Setting::Entries => LEAST_ENTRIES,
             Setting::Budget => 0,
             Setting::Order => FIRST_ORDER,
+            Setting::Workers | Setting::Report => 1,
         }
     }
 
@@ -61,6 +74,8 @@ impl Setting {
             Setting::Entries => MOST_ENTRIES,
             Setting::Budget => MOST_BUDGET,
             Setting::Order => LAST_ORDER,
+            Setting::Workers => MOST_WORKERS,
+            Setting::Report => LAST_REPORT,
         }
     }
 }
@@ -71,4 +86,6 @@ pub struct Settings {
     pub entries: Option<u32>,
     pub budget: Option<u32>,
     pub order: Option<u32>,
+    pub workers: Option<u32>,
+    pub report: Option<u32>,
 }

@@ -15,7 +15,7 @@ fn words(alloc: Global, texts: &[&str]) -> Result<Vec<String>, AllocError> {
 #[test]
 fn words_outside_the_table_are_refused(rt: HostRuntime) -> Result<(), Fail> {
     let alloc = rt.alloc();
-    let lines: [&[&str]; 14] = [
+    let lines: [&[&str]; 16] = [
         &[],
         &["step"],
         &["Steps", "p", "1", "d"],
@@ -29,7 +29,9 @@ fn words_outside_the_table_are_refused(rt: HostRuntime) -> Result<(), Fail> {
         &["solo", "--order=3", "p", "s"],
         &["solo", "--order=1", "--order", "1", "p", "s"],
         &["gen", "--order", "2", "5"],
-        &["run", "--workers", "4", "p", "q"],
+        &["run", "--workers", "0", "p", "q"],
+        &["run", "--workers=17", "p", "q"],
+        &["save", "--budget", "5", "p"],
     ];
     for line in lines {
         let words = words(alloc, line)?;

@@ -41,7 +41,8 @@ use Rattle.completion_solo.proofs.Counting.{ClosedOnes, closed_ones, all_on}
 use Rattle.completion_solo.proofs.Giving.{continues_given, none_given}
 use Rattle.completion_solo.proofs.Keeping.{continues_still}
 use Rattle.completion_solo.proofs.Numbers.{either, not_both}
-use Rattle.completion_solo.proofs.Resting.{undivided, closes_or_stops}
+use Rattle.pair_book.proofs.Undivided.{undivided}
+use Rattle.completion_solo.proofs.Resting.{closes_or_stops}
 use Rattle.completion_solo.proofs.Taking.{task_of, not_at_start, unclosed_not_never}
 use Rattle.completion_solo.proofs.Weighing.{left_opened}
 

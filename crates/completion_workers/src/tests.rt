@@ -10,7 +10,7 @@ ghost use Rattle.completion_workers.specs.Acting.{IsReady};
 use crate::pace::Pace;
 use crate::{Actor, Gate, OpenGate, run_actors};
 use basis_entry::{Entry, Front};
-use basis_log::Row;
+use basis_log::{Item, Row, Seat};
 use pair_book::{Book, Limits, Order, can_open};
 use presentation::{Presentation, read_presentation};
 use session_core::{Session, Tag};
@@ -47,12 +47,15 @@ fn open(alloc: Global, p: &Arc<Presentation>, limits: Limits) -> Result<Mutex<Bo
     Ok(Mutex::new(Book::open(alloc, p, limits)?))
 }
 
-/// A row with a cell for each entry up to the limit and one for the seal.
-fn row(alloc: Global, p: &Arc<Presentation>) -> Result<Row, Fail>
+/// A row with so many cells.
+fn row(alloc: Global, p: &Arc<Presentation>, cells: u32) -> Result<Row, Fail>
     ensures { IfOk result (λ row. row_source row ≡ arc_value p.now) }
 {
     p.known();
-    let row = Row::open(alloc, Entry::base(alloc, p)?, 41)?;
+    if cells > 41 {
+        return Err(Fail::from("too many cells"));
+    }
+    let row = Row::open(alloc, Entry::base(alloc, p)?, cells)?;
     if !row.presentation().same(p) {
         return Err(Fail::from("another presentation"));
     }
@@ -137,7 +140,8 @@ fn completes<G: Gate + Sync, R: Threads + Wait + Sync>(
 ) -> Result<bool, Fail> {
     let p = presentation(alloc, TORSION)?;
     let book = open(alloc, &p, LIMITS)?;
-    let row = row(alloc, &p)?;
+    // A cell for each entry up to the limit, and one for the seal.
+    let row = row(alloc, &p, 41)?;
     let mut actors = [
         worker(alloc, &p, &row, 1)?,
         worker(alloc, &p, &row, 2)?,
@@ -229,5 +233,42 @@ fn workers_wait_for_tasks_from_before_the_log_grew(rt: HostRuntime) -> Result<()
     assert!(rt; !pace.is_another_behind(0));
     pace.is_done(0, 6);
     assert!(rt; !pace.is_another_behind(1));
+    Ok(())
+}
+
+/// Whether the cell takes the item, or holds another one. `None` where the item can't be published by this seat.
+fn publish(seat: &mut Seat<'_>, item: Box<Item>) -> Option<bool> {
+    if seat.sealed().is_some() || !item.presentation().same(seat.row().presentation()) {
+        return None;
+    }
+    Some(seat.publish(item).is_ok())
+}
+
+#[test]
+fn a_seal_is_the_last_item(rt: HostRuntime) -> Result<(), Fail> {
+    let alloc = rt.alloc();
+    let p = presentation(alloc, "<a|>")?;
+    let mut book = open(alloc, &p, LIMITS)?.into_inner();
+    let Ok(seal) = book.seal(alloc) else {
+        return Err(Fail::from("a task is left"));
+    };
+    let row = row(alloc, &p, 2)?;
+    let Some(first) = row.base().first() else {
+        return Err(Fail::from("no generators"));
+    };
+    let mut one = row.seat(alloc)?;
+    let mut two = row.seat(alloc)?;
+    let entry = Box::new(alloc, Item::Entry(Arc::try_clone(first)?))?;
+    let again = Box::new(alloc, Item::Seal(Arc::try_clone(&seal)?))?;
+    assert!(rt; publish(&mut one, entry) == Some(true));
+    assert_eq!(rt; one.front(), 2);
+    assert!(rt; publish(&mut one, Box::new(alloc, Item::Seal(seal))?) == Some(true));
+    assert_eq!(rt; one.front(), 3);
+    // This seat hasn't looked, and finds the entry where it would have put the seal.
+    assert!(rt; publish(&mut two, again) == Some(false));
+    assert_eq!(rt; two.front(), 2);
+    assert!(rt; two.sealed().is_none());
+    assert_eq!(rt; two.look(), 3);
+    assert!(rt; two.sealed().is_some());
     Ok(())
 }

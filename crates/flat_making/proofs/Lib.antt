@@ -12,4 +12,5 @@ pub mod Bounds
 pub mod Flattening
 pub mod Steps
 pub mod Accepted
+pub mod Linking
 pub mod Reported

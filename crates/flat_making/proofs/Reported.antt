@@ -1,54 +1,46 @@
 -- What is read of a report that the checker accepts.
-use Rattle.std.proofs.Common.{◌≡◌, ◌∙◌, ◌⊎◌, inl, inr, ℕ, zero, suc, ◌+◌, ◌<◌, ◌≤◌, ℤ, pos, ◌+ℤ◌, List, [], ◌∷◌, ◌++◌, length}
+use Rattle.std.proofs.Common.{◌≡◌, ◌∙◌, ◌⊎◌, inl, inr, ℕ, ◌+◌, ◌<◌, ◌≤◌, ◌+ℤ◌, List, [], ◌∷◌, ◌++◌}
 use Rattle.std.proofs.Common.{refl, sym, ap, subst, arith, append_assoc, append-nil}
-use Rattle.std.specs.Prelude.{Some, None, slice_get, slice_index_or, Result, Ok}
+use Rattle.std.specs.Prelude.{Some, None, slice_get, Result, Ok}
 use Rattle.std.specs.List.{AllByRecursion}
-use Rattle.std.proofs.lemmas.List.{map-append, length-append, get_or_append_left}
-use borrow.Author.Differences.{ints}
 use Rattle.spelling.specs.Spelling.{cut}
 use Rattle.spelling.proofs.Cuts.{cut_here}
 use Rattle.word_text.specs.Place.{capped}
-use Rattle.free_words.specs.declared.letter.Letter.{Letter}
 use Rattle.presentation.specs.Presented.{Presented, IsPresented}
-use Rattle.formal_sums.specs.FormalSum.{Same}
-use Rattle.module_vec.specs.declared.places.Place.{Place}
 use Rattle.module_vec.specs.declared.places.Term.{Term}
-use Rattle.module_vec.specs.declared.steps.Step.{Step}
-use Rattle.module_vec.specs.Modules.{vector_at, sum_of_steps, steps_at}
-use Rattle.module_vec.specs.Places.{same_place}
-use Rattle.module_vec.specs.Vectors.{coefficient_at, multiple}
-use Rattle.module_vec.proofs.FallingTerms.{all_join}
-use Rattle.step_lists.specs.Sums.{zero_vector}
-use Rattle.step_lists.proofs.AddingUp.{adding_adds_up, proven_vectors_are_sums}
-use Rattle.outcomes.specs.declared.verdicts.Verdict.{Verdict}
-use Rattle.outcomes.specs.declared.verdicts.Verdict.TheVariants as verdicts
-use Rattle.session_text.specs.declared.question.Question.{Question}
-use Rattle.session_text.specs.Questions.{subjects}
-use Rattle.basis_entry.specs.declared.recipes.Recipe.{Recipe}
-use Rattle.basis_entry.specs.declared.recipes.Recipe.TheVariants as recipes
-use Rattle.report_lines.specs.declared.lines.Made.{Made}
-use Rattle.report_lines.specs.declared.lines.Made.TheVariants.{Gen, Sum}
+use Rattle.module_vec.specs.Vectors.{coefficient_at}
 use Rattle.report_lines.specs.declared.lines.Line.{Line}
 use Rattle.report_lines.specs.declared.lines.Line.TheVariants as lines
-use Rattle.report_lines.specs.Lines.{IsLineOf, IsMadeOf as IsMadeLine}
-use Rattle.report_lines.specs.Texts.{title, pres_line, line_text, lines_text}
-use Rattle.report_lines.proofs.Pairs.{literal}
+use Rattle.report_lines.specs.declared.trimmed.TrimmedLine.{TrimmedLine}
+use Rattle.report_lines.specs.declared.trimmed.TrimmedLine.TheVariants.{Entry, Other}
+use Rattle.report_lines.specs.Texts.{title, pres_line}
+use Rattle.report_lines.specs.Trimmed.{trimmed_title, items_line, trimmed_line_text}
+use Rattle.report_lines.proofs.Pairs.{clash, literal}
 use Rattle.report_lines.proofs.ReadingBack.{one_line}
+use Rattle.report_lines.proofs.TrimmedTexts.{one_trimmed_line, one_items_line}
 use Rattle.report_reading.specs.declared.data.ReportData.{ReportData}
 use Rattle.report_reading.specs.declared.entry.EntryData.{EntryData}
+use Rattle.report_reading.specs.declared.form.Form.{Form}
+use Rattle.report_reading.specs.declared.form.Form.TheVariants as forms
 use Rattle.report_reading.specs.declared.replies.ReplyData.{ReplyData}
-use Rattle.report_reading.specs.Telling.{Told, nothing, MayFollow as MayTell, recipe_of, with_proof, tell, Tell}
-use Rattle.report_reading.specs.Reading.{Answers as IsRead}
-use Rattle.report_reading.proofs.LineBytes.{whole_line, head_line}
+use Rattle.report_reading.specs.Telling.{Told, nothing, tell}
+use Rattle.report_reading.specs.Forms.{IsForm, form_of, LineIn, IsLineIn, text_in, lines_in, title_in, counted_in, headed_in, tell_in, TellIn, SaysIn}
+use Rattle.report_reading.specs.Reading.{IsReportIn, Answers as IsRead}
+use Rattle.report_reading.proofs.LineBytes.{whole_line_in, head_line, items_whole}
 use Rattle.cert_checker.specs.declared.checked.Checked.{Checked}
+use Rattle.cert_checker.specs.declared.version.Version.{Version}
+use Rattle.cert_checker.specs.declared.version.Version.TheVariants.{Whole, Trimmed}
 use Rattle.cert_checker.specs.declared.phase.Phase.{Phase}
-use Rattle.cert_checker.specs.declared.phase.Phase.TheVariants.{Title, Presentation, Entries, Sealed, Closing, Finished}
+use Rattle.cert_checker.specs.declared.phase.Phase.TheVariants.{Title, Presentation, Items, Entries, Sealed, Closing, Finished}
 use Rattle.cert_checker.specs.declared.faults.CertFault.{CertFault}
-use Rattle.cert_checker.specs.States.{State, start, IsSettled, MayFollow, IsInTurn, asked, next}
-use Rattle.cert_checker.specs.Checking.{Agrees, IsMadeOf, due, fox_at}
-use Rattle.cert_checker.specs.Texts.{BodyHolds, HoldsIn, BytesHold, Tells, Answers}
-use Rattle.flat_making.specs.Checked.{IsShownBy, ShowsSubjects, HasProofs, IsChecked}
-use Rattle.flat_making.specs.Making.{vectors_of, NameBelow, signed, IsValueOf}
+use Rattle.cert_checker.specs.States.{State, start, IsSettled, LineFollows, next, with_line}
+use Rattle.cert_checker.specs.Checking.{LineAgrees}
+use Rattle.cert_checker.specs.Texts.{TitleHolds, PresentationHolds, ItemsHold, BodyHolds, HoldsIn, BytesHold, Tells, Answers}
+use Rattle.cert_checker.specs.Texts as checked
+use Rattle.cert_checker.proofs.Versions.{same_version}
+use Rattle.flat_making.specs.Checked.{ShowsSubjects, HasProofs, IsChecked}
+use Rattle.flat_making.specs.Making.{vectors_of, IsValueOf}
+use Rattle.flat_making.proofs.Linking.{as_line, Linked, linked_in, all_full}
 
 -- ---- the first line of a text
 
@@ -58,395 +50,210 @@ some_same e = cc
 none_some : {X : Type 0} {x : X} → None ≡ Some x → ⊥
 none_some e = cc
 
-first_cut : (p : Presented) → IsPresented p → (text : List ℕ) (l : Line) (ls : List Line) (rest : List ℕ) → IsLineOf p l
-    → text ≡ lines_text p (l ∷ ls) ++ rest → cut 10 text ≡ Some (line_text p l, lines_text p ls ++ rest)
-first_cut p known text l ls rest valid is =
+first_cut : (f : Form) (p : Presented) → IsPresented p → (text : List ℕ) (l : LineIn f) (ls : List (LineIn f)) (rest : List ℕ) → IsLineIn f p l
+    → text ≡ lines_in f p (l ∷ ls) ++ rest → cut 10 text ≡ Some (text_in f p l, lines_in f p ls ++ rest)
+first_cut f p known text l ls rest valid is =
     ap (cut 10) (is
-    ∙ (append_assoc (line_text p l ++ 10 ∷ []) (lines_text p ls) rest
-    ∙ append_assoc (line_text p l) (10 ∷ []) (lines_text p ls ++ rest)))
-    ∙ cut_here 10 (line_text p l) (lines_text p ls ++ rest) (whole_line p known l valid)
+    ∙ (append_assoc (text_in f p l ++ 10 ∷ []) (lines_in f p ls) rest
+    ∙ append_assoc (text_in f p l) (10 ∷ []) (lines_in f p ls ++ rest)))
+    ∙ cut_here 10 (text_in f p l) (lines_in f p ls ++ rest) (whole_line_in p known f l valid)
 
 append_nothing : (xs : List ℕ) → xs ≡ xs ++ []
 append_nothing xs = sym (append-nil xs)
 
-title_cut : (text others : List ℕ) → text ≡ title ++ 10 ∷ others → cut 10 text ≡ Some (title, others)
-title_cut text others is = ap (cut 10) is ∙ cut_here 10 title others (literal 10 title refl)
+title_cut : (f : Form) (text others : List ℕ) → text ≡ title_in f ++ 10 ∷ others → cut 10 text ≡ Some (title_in f, others)
+title_cut forms.Whole text others is = ap (cut 10) is ∙ cut_here 10 title others (literal 10 title refl)
+title_cut (forms.Trimmed n) text others is = ap (cut 10) is ∙ cut_here 10 trimmed_title others (literal 10 trimmed_title refl)
 
--- ---- lists with one more item
+titles_differ : title ≡ trimmed_title → ⊥
+titles_differ e = clash 14 title trimmed_title e refl
 
-at_end : {A : Type 0} (xs : List A) (x : A) (i : ℕ) (y : A) → slice_get (xs ++ x ∷ []) i ≡ Some y
-    → (slice_get xs i ≡ Some y) ⊎ ((i ≡ length xs) × (x ≡ y))
-at_end [] x zero y e = inr (refl, cc)
-at_end [] x (suc i) y e = absurd cc
-at_end (z ∷ xs) x zero y e = inl e
-at_end (z ∷ xs) x (suc i) y e = by (at_end xs x i y e)
-  where
-    by : (slice_get xs i ≡ Some y) ⊎ ((i ≡ length xs) × (x ≡ y)) → (slice_get (z ∷ xs) (suc i) ≡ Some y) ⊎ ((suc i ≡ length (z ∷ xs)) × (x ≡ y))
-    by (inl f) = inl f
-    by (inr f) = inr (omega (arith, f.0), f.1)
+-- ---- the two versions
 
-below_length : {A : Type 0} (xs : List A) (i : ℕ) (y : A) → slice_get xs i ≡ Some y → i < length xs
-below_length [] i y e = absurd cc
-below_length (x ∷ xs) zero y e = omega arith
-below_length (x ∷ xs) (suc i) y e = omega (arith, below_length xs i y e)
+-- the checker's word for the form, and for it before the number of items is told
+abbrev version_of : Form → Version
+version_of forms.Whole = Whole
+version_of (forms.Trimmed n) = Trimmed n
 
-length-vectors : (es : List EntryData) → length (vectors_of es) ≡ length es
-length-vectors [] = refl
-length-vectors (e ∷ es) = omega (arith, length-vectors es)
+abbrev title_version : Form → Version
+title_version forms.Whole = Whole
+title_version (forms.Trimmed n) = Trimmed 0
 
-vectors-more : (es : List EntryData) (e : EntryData) → vectors_of (es ++ e ∷ []) ≡ vectors_of es ++ e.vector ∷ []
-vectors-more es e = map-append (λ (d : EntryData). d.vector) es (e ∷ [])
-
-names_rise : (n k : ℕ) (ss : List Step) → n ≤ k → NameBelow n ss → NameBelow k ss
-names_rise n k [] le below = tt
-names_rise n k (s ∷ ss) le below = (omega (arith, le, below.0), names_rise n k ss le below.1)
-
--- steps don't see later vectors
-sum_longer : (b : List (List Term)) (v : List Term) (ss : List Step) → NameBelow (length b) ss → sum_of_steps (b ++ v ∷ []) ss ≡ sum_of_steps b ss
-sum_longer b v [] below = refl
-sum_longer b v (s ∷ ss) below =
-    λ i. multiple s.q s.t (get_or_append_left b (v ∷ []) [] s.by below.0 i) ++ sum_longer b v ss below.1 i
-
--- ---- the checker's state, and what was told
-
--- the last reply is the one whose subjects are shown
-abbrev LastIs : List (List Letter) → ℕ → List ReplyData → Type 0
-LastIs subjects shown [] = subjects ≡ []
-LastIs subjects shown (r ∷ []) = (subjects ≡ asked r.question r.verdict) × (shown ≡ length r.proofs)
-LastIs subjects shown (r ∷ q ∷ rs) = LastIs subjects shown (q ∷ rs)
-
-last_new : (rs : List ReplyData) (r : ReplyData) → r.proofs ≡ [] → LastIs (asked r.question r.verdict) 0 (rs ++ r ∷ [])
-last_new [] r none = (refl, sym (ap length none))
-last_new (q ∷ []) r none = (refl, sym (ap length none))
-last_new (q ∷ s ∷ rs) r none = last_new (s ∷ rs) r none
-
--- each reply but the last has all its proofs
-abbrev FullButLast : List ReplyData → Type 0
-FullButLast [] = Unit {0}
-FullButLast (r ∷ []) = Unit {0}
-FullButLast (r ∷ q ∷ rs) = HasProofs r × FullButLast (q ∷ rs)
-
-full_more : (words : List (List Letter)) (shown : ℕ) (rs : List ReplyData) (r : ReplyData) → LastIs words shown rs → shown ≡ length words → FullButLast rs
-    → FullButLast (rs ++ r ∷ [])
-full_more words shown [] r last all full = tt
-full_more words shown (q ∷ []) r last all full = (sym last.1 ∙ all ∙ ap length last.0, tt)
-full_more words shown (q ∷ s ∷ rs) r last all full = (full.0, full_more words shown (s ∷ rs) r last all full.1)
-
-full_proof : (steps : List Step) (rs : List ReplyData) → FullButLast rs → FullButLast (with_proof steps rs)
-full_proof steps [] full = tt
-full_proof steps (r ∷ []) full = tt
-full_proof steps (r ∷ q ∷ rs) full = by rs (full_proof steps (q ∷ rs) full.1)
-  where
-    by : (rs : List ReplyData) → FullButLast (with_proof steps (q ∷ rs)) → FullButLast (r ∷ with_proof steps (q ∷ rs))
-    by [] rest = (full.0, rest)
-    by (s ∷ ss) rest = (full.0, rest)
-
-all_full : (words : List (List Letter)) (shown : ℕ) (rs : List ReplyData) → LastIs words shown rs → shown ≡ length words → FullButLast rs
-    → AllByRecursion HasProofs rs
-all_full words shown [] last all full = tt
-all_full words shown (r ∷ []) last all full = (sym last.1 ∙ all ∙ ap length last.0, tt)
-all_full words shown (r ∷ q ∷ rs) last all full = (full.0, all_full words shown (q ∷ rs) last all full.1)
-
-subjects_of : (q : Question) (v : Verdict) → 0 < length (asked q v) → asked q v ≡ subjects q
-subjects_of q verdicts.Trivial some = refl
-subjects_of q verdicts.NotTrivial some = absurd (omega (arith, some))
-subjects_of q (verdicts.Normal v) some = absurd (omega (arith, some))
-subjects_of q verdicts.Extends some = refl
-subjects_of q (verdicts.Fails subject) some = absurd (omega (arith, some))
-subjects_of q (verdicts.Unknown subject) some = absurd (omega (arith, some))
-subjects_of q (verdicts.Stop subject stop) some = absurd (omega (arith, some))
+-- the text of a line is that of no other
+line_is : (f : Form) (p : Presented) → IsPresented p → (k : TrimmedLine) (l : LineIn f) → checked.IsLineIn (version_of f) p k → IsLineIn f p l
+    → trimmed_line_text p k ≡ text_in f p l → k ≡ as_line f l
+line_is forms.Whole p known (Entry number from made vector) l h v e = absurd h
+line_is forms.Whole p known (Other m) l h v e = ap (λ (x : Line). Other x) (one_line p m l known h v e)
+line_is (forms.Trimmed n) p known k l h v e = one_trimmed_line p k l known h v e
 
 module _ (p : Presented) (known : IsPresented p) (gens : List (List Term)) where
-  record Linked (s : State) (t : Told) : Type 0 where
-    entries : s.entries ≡ vectors_of t.entries
-    values : (i : ℕ) (e : EntryData) → slice_get t.entries i ≡ Some e
-        → IsValueOf p gens (vectors_of t.entries) i e.recipe (coefficient_at e.vector)
-    proofs : AllByRecursion (ShowsSubjects p t.entries) t.replies
-    last : LastIs s.subjects s.shown t.replies
-    most : s.shown ≤ length s.subjects
-    full : FullButLast t.replies
-
-  -- ---- an entry
-
-  value_stays : (es : List EntryData) (e : EntryData) (i : ℕ) (r : Recipe) (f : Place → ℤ) → i < length es → IsValueOf p gens (vectors_of es) i r f
-      → IsValueOf p gens (vectors_of (es ++ e ∷ [])) i r f
-  value_stays es e i (recipes.Gen number negated) f lt is = is
-  value_stays es e i (recipes.Sum steps) f lt is =
-      let below : NameBelow (length (vectors_of es)) steps = names_rise i (length (vectors_of es)) steps (omega (arith, lt, length-vectors es)) is.1 in
-      let longer : sum_of_steps (vectors_of (es ++ e ∷ [])) steps ≡ sum_of_steps (vectors_of es) steps =
-      ap (λ b. sum_of_steps b steps) (vectors-more es e) ∙ sum_longer (vectors_of es) e.vector steps below in
-      (is.0, is.1, λ x. is.2 x ∙ ap (λ v. Rattle.formal_sums.specs.FormalSum.coefficient same_place v x) (sym longer))
-
-  value_new : (es : List EntryData) (number : ℕ) (made : Made) (vector : List Term) (b : List (List Term)) → b ≡ vectors_of es → number ≡ length es
-      → IsMadeLine (length p.names) made → IsInTurn gens b made → IsMadeOf gens b made (coefficient_at vector)
-      → IsValueOf p gens (vectors_of (es ++ record { recipe = recipe_of number made; vector = vector } ∷ [])) (length es) (recipe_of number made)
-      (coefficient_at vector)
-  value_new es number (Gen negated) vector b same here line turn is =
-      let count : length b ≡ number = ap length same ∙ length-vectors es ∙ sym here in
-      (omega (arith, turn, count), λ x. is x ∙ ap (λ n. signed negated (vector_at gens n) x) count)
-  value_new es number (Sum steps) vector b same here line turn is =
-      let e : EntryData = record { recipe = recipes.Sum steps; vector = vector } in
-      let below : NameBelow (length (vectors_of es)) steps = subst (λ a. NameBelow (length a) steps) same is.0 in
-      let longer : sum_of_steps (vectors_of (es ++ e ∷ [])) steps ≡ sum_of_steps (vectors_of es) steps =
-      ap (λ a. sum_of_steps a steps) (vectors-more es e) ∙ sum_longer (vectors_of es) vector steps below in (
-        line,
-        names_rise (length (vectors_of es)) (length es) steps (omega (arith, length-vectors es)) below,
-        λ x. (let sum : coefficient_at vector x ≡ pos 0 +ℤ steps_at b steps x = adding_adds_up b zero_vector (coefficient_at vector) steps is.1 x in
-            let end : coefficient_at vector x ≡ steps_at b steps x = omega (arith, ints, sum) in end)
-            ∙ ap (λ a. steps_at a steps x) same ∙ ap (λ v. Rattle.formal_sums.specs.FormalSum.coefficient same_place v x) (sym longer),
-      )
-
-  shown_stays : (es : List EntryData) (e : EntryData) (w : List Letter) (steps : List Step) → IsShownBy p es w steps → IsShownBy p (es ++ e ∷ []) w steps
-  shown_stays es e w steps shown =
-      let below : NameBelow (length (vectors_of es)) steps =
-      names_rise (length es) (length (vectors_of es)) steps (omega (arith, length-vectors es)) shown.proof.named in
-      let longer : sum_of_steps (vectors_of (es ++ e ∷ [])) steps ≡ sum_of_steps (vectors_of es) steps =
-      ap (λ b. sum_of_steps b steps) (vectors-more es e) ∙ sum_longer (vectors_of es) e.vector steps below in
-      record {
-        proof = record {
-          steps = shown.proof.steps;
-          named = names_rise (length es) (length (es ++ e ∷ [])) steps (omega (arith, length-append es (e ∷ []))) shown.proof.named;
-        };
-        sum = λ x. ap (λ v. Rattle.formal_sums.specs.FormalSum.coefficient same_place v x) longer ∙ shown.sum x;
-      }
-
-  all_shown_stay : (es : List EntryData) (e : EntryData) (rs : List ReplyData) → AllByRecursion (ShowsSubjects p es) rs
-      → AllByRecursion (ShowsSubjects p (es ++ e ∷ [])) rs
-  all_shown_stay es e [] all = tt
-  all_shown_stay es e (r ∷ rs) all = (
-    (λ j steps is. let h = all.0 j steps is in (h.0, shown_stays es e (slice_index_or (subjects r.question) j []) steps h.1)),
-    all_shown_stay es e rs all.1,
-  )
-
-  -- ---- a proof
-
-  shows_more : (es : List EntryData) (r : ReplyData) (steps : List Step) → ShowsSubjects p es r
-      → (length r.proofs < length (subjects r.question)) × IsShownBy p es (slice_index_or (subjects r.question) (length r.proofs) []) steps
-      → ShowsSubjects p es (record r { proofs = r.proofs ++ steps ∷ [] })
-  shows_more es r steps old new j ss is = by (at_end r.proofs steps j ss is)
-    where
-      by : (slice_get r.proofs j ≡ Some ss) ⊎ ((j ≡ length r.proofs) × (steps ≡ ss))
-          → (j < length (subjects r.question)) × IsShownBy p es (slice_index_or (subjects r.question) j []) ss
-      by (inl f) = old j ss f
-      by (inr f) =
-          subst (λ k. (k < length (subjects r.question)) × IsShownBy p es (slice_index_or (subjects r.question) k []) ss) (sym f.0)
-          (subst (λ tt. (length r.proofs < length (subjects r.question)) × IsShownBy p es (slice_index_or (subjects r.question) (length r.proofs) []) tt)
-          f.1 new)
-
-  -- what a proof line shows of a subject
-  abbrev NextShown : List EntryData → List (List Letter) → ℕ → List Step → Type 0
-  NextShown es words shown steps = (shown < length words) × IsShownBy p es (slice_index_or words shown []) steps
-
-  proof_taken : (es : List EntryData) (words : List (List Letter)) (shown : ℕ) (steps : List Step) (rs : List ReplyData) → LastIs words shown rs
-      → NextShown es words shown steps → AllByRecursion (ShowsSubjects p es) rs
-      → AllByRecursion (ShowsSubjects p es) (with_proof steps rs) × LastIs words (shown + 1) (with_proof steps rs)
-  proof_taken es words shown steps [] last new all = (tt, last)
-  proof_taken es words shown steps (r ∷ []) last new all =
-      let some : 0 < length (asked r.question r.verdict) = omega (arith, new.0, ap length last.0) in
-      let are : words ≡ subjects r.question = last.0 ∙ subjects_of r.question r.verdict some in (
-        (
-          shows_more es r steps all.0 (subst (λ k. NextShown es (subjects r.question) k steps) last.1 (subst (λ ws. NextShown es ws shown steps) are new)),
-          tt,
-        ),
-        (last.0, omega (arith, last.1, length-append r.proofs (steps ∷ []))),
-      )
-  proof_taken es words shown steps (r ∷ q ∷ rs) last new all =
-      let rest = proof_taken es words shown steps (q ∷ rs) last new all.1 in
-      ((all.0, rest.0), later rest.1)
-    where
-      -- the reply with the proof stands behind r
-      later : LastIs words (shown + 1) (with_proof steps (q ∷ rs)) → LastIs words (shown + 1) (r ∷ with_proof steps (q ∷ rs))
-      later = by rs
-        where
-          by : (rs : List ReplyData) → LastIs words (shown + 1) (with_proof steps (q ∷ rs)) → LastIs words (shown + 1) (r ∷ with_proof steps (q ∷ rs))
-          by [] h = h
-          by (s ∷ ss) h = h
-
-  -- ---- one line
-
-  line_linked : (s : State) (t : Told) (l : Line) → Linked s t → IsLineOf p l → MayTell t l → MayFollow gens s l → Agrees gens s l
-      → Linked (next s l) (tell t l)
-  line_linked s t (lines.Entry number made vector) linked valid tells follows agrees =
-      let e : EntryData = record { recipe = recipe_of number made; vector = vector } in record {
-        entries = ap (λ b. b ++ vector ∷ []) linked.entries ∙ sym (vectors-more t.entries e);
-        values = λ i d is. by i d (at_end t.entries e i d is);
-        proofs = all_shown_stay t.entries e t.replies linked.proofs;
-        last = linked.last;
-        most = linked.most;
-        full = linked.full;
-      }
-    where
-      new : IsValueOf p gens (vectors_of (t.entries ++ record { recipe = recipe_of number made; vector = vector } ∷ [])) (length t.entries)
-          (recipe_of number made) (coefficient_at vector)
-      new = value_new t.entries number made vector s.entries linked.entries tells.2 valid.1.0 follows.3 agrees
-
-      by : (i : ℕ) (d : EntryData)
-          → (slice_get t.entries i ≡ Some d) ⊎ ((i ≡ length t.entries) × (Path EntryData (record { recipe = recipe_of number made; vector = vector }) d))
-          → IsValueOf p gens (vectors_of (t.entries ++ record { recipe = recipe_of number made; vector = vector } ∷ [])) i d.recipe (coefficient_at d.vector)
-      by i d (inl f) =
-          value_stays t.entries (record { recipe = recipe_of number made; vector = vector }) i d.recipe (coefficient_at d.vector)
-          (below_length t.entries i d f) (linked.values i d f)
-      by i d (inr f) =
-          subst (λ k. IsValueOf p gens (vectors_of (t.entries ++ record { recipe = recipe_of number made; vector = vector } ∷ [])) k d.recipe
-          (coefficient_at d.vector)) (sym f.0)
-          (subst (λ (c : EntryData). IsValueOf p gens (vectors_of (t.entries ++ record { recipe = recipe_of number made; vector = vector } ∷ []))
-          (length t.entries) c.recipe (coefficient_at c.vector)) f.1 new)
-  line_linked s t lines.Seal linked valid tells follows agrees =
-      record {
-        entries = linked.entries;
-        values = linked.values;
-        proofs = linked.proofs;
-        last = linked.last;
-        most = linked.most;
-        full = linked.full;
-      }
-  line_linked s t (lines.Live session number front question verdict) linked valid tells follows agrees = record {
-    entries = linked.entries;
-    values = linked.values;
-    proofs = all_join (ShowsSubjects p t.entries) t.replies _ linked.proofs ((λ j steps is. absurd cc), tt);
-    last = last_new t.replies _ refl;
-    most = omega arith;
-    full = full_more s.subjects s.shown t.replies _ linked.last (omega (arith, linked.most, follows.1)) linked.full;
-  }
-  line_linked s t (lines.Proof subject steps) linked valid tells follows agrees =
-      let taken = proof_taken t.entries s.subjects s.shown steps t.replies linked.last new linked.proofs in
-      record {
-        entries = linked.entries;
-        values = linked.values;
-        proofs = taken.0;
-        last = taken.1;
-        most = omega (arith, follows.0);
-        full = full_proof steps t.replies linked.full;
-      }
-    where
-      new : NextShown t.entries s.subjects s.shown steps
-      new = (
-        follows.0,
-        record {
-          proof = record {
-            steps = valid.1;
-            named = names_rise (length s.entries) (length t.entries) steps (omega (arith, ap length linked.entries, length-vectors t.entries)) agrees.0;
-          };
-          sum = λ x. ap (λ b. steps_at b steps x) (sym linked.entries)
-              ∙ sym (proven_vectors_are_sums s.entries (fox_at (due s)) steps agrees.1 x);
-        },
-      )
-  line_linked s t (lines.End end) linked valid tells follows agrees =
-      record {
-        entries = linked.entries;
-        values = linked.values;
-        proofs = linked.proofs;
-        last = linked.last;
-        most = linked.most;
-        full = linked.full;
-      }
-  line_linked s t (lines.Close session number question verdict) linked valid tells follows agrees = record {
-    entries = linked.entries;
-    values = linked.values;
-    proofs = all_join (ShowsSubjects p t.entries) t.replies _ linked.proofs ((λ j steps is. absurd cc), tt);
-    last = last_new t.replies _ refl;
-    most = omega arith;
-    full = full_more s.subjects s.shown t.replies _ linked.last (omega (arith, linked.most, follows.1)) linked.full;
-  }
-  line_linked s t lines.Done linked valid tells follows agrees =
-      record {
-        entries = linked.entries;
-        values = linked.values;
-        proofs = linked.proofs;
-        last = linked.last;
-        most = linked.most;
-        full = linked.full;
-      }
-
   -- ---- all lines
 
   abbrev IsBehindHead : Phase → Type 0
   IsBehindHead Title = ⊥
   IsBehindHead Presentation = ⊥
+  IsBehindHead Items = ⊥
   IsBehindHead Entries = Unit {0}
   IsBehindHead Sealed = Unit {0}
   IsBehindHead Closing = Unit {0}
   IsBehindHead Finished = Unit {0}
 
-  stays_behind : (s : State) (l : Line) → IsBehindHead s.phase → IsBehindHead (next s l).phase
-  stays_behind s (lines.Entry number made vector) h = h
-  stays_behind s lines.Seal h = tt
-  stays_behind s (lines.Live session number front question verdict) h = h
-  stays_behind s (lines.Proof subject steps) h = h
-  stays_behind s (lines.End end) h = tt
-  stays_behind s (lines.Close session number question verdict) h = h
-  stays_behind s lines.Done h = tt
+  next_behind : (s : State) (l : Line) → IsBehindHead s.phase → IsBehindHead (next s l).phase
+  next_behind s (lines.Entry number made vector) h = h
+  next_behind s lines.Seal h = tt
+  next_behind s (lines.Live session number front question verdict) h = h
+  next_behind s (lines.Proof subject steps) h = h
+  next_behind s (lines.End end) h = tt
+  next_behind s (lines.Close session number question verdict) h = h
+  next_behind s lines.Done h = tt
+
+  stays_behind : (s : State) (l : TrimmedLine) → IsBehindHead s.phase → IsBehindHead (with_line s l).phase
+  stays_behind s (Entry number from made vector) h = h
+  stays_behind s (Other l) h = next_behind s l h
 
   as_body : (f : Phase) (s taken : State) (bytes : List ℕ) → IsBehindHead f → HoldsIn f p gens s bytes taken → BodyHolds p gens s bytes taken
   as_body Title s taken bytes h b = absurd h
   as_body Presentation s taken bytes h b = absurd h
+  as_body Items s taken bytes h b = absurd h
   as_body Entries s taken bytes h b = b
   as_body Sealed s taken bytes h b = b
   as_body Closing s taken bytes h b = b
   as_body Finished s taken bytes h b = b
 
-  all_linked : (n : ℕ) (s : State) (text : List ℕ) (r : Result Checked CertFault) (c : Checked) → Tells p gens n s text r → r ≡ Ok c
-      → IsBehindHead s.phase → (t u : Told) (ls : List Line) → AllByRecursion (IsLineOf p) ls → Tell t ls u → text ≡ lines_text p ls ++ []
-      → Linked s t → (last : State) × Linked last u × IsSettled last
-  all_linked n s text _ c (Tells.complete _ _ _ none whole) e behind t u [] valid tells is linked = (s, subst (Linked s) tells linked, whole.settled)
-  all_linked n s text _ c (Tells.complete _ _ _ none whole) e behind t u (l ∷ ls) valid tells is linked =
-      absurd (none_some (sym none ∙ first_cut p known text l ls [] valid.0 is))
-  all_linked n s text _ c (Tells.missing _ _ _ none not) e behind t u ls valid tells is linked = absurd cc
-  all_linked n s text _ c (Tells.fails _ _ _ line others k cuts f) e behind t u ls valid tells is linked = absurd cc
-  all_linked n s text r c (Tells.goes_on _ _ taken _ line others _ cuts holds later) e behind t u [] valid tells is linked =
-      absurd (none_some (ap (cut 10) (sym is) ∙ cuts))
-  all_linked n s text r c (Tells.goes_on _ _ taken _ line others _ cuts holds later) e behind t u (l ∷ ls) valid tells is linked =
+  -- what comes of lines that tell u
+  abbrev Ending : Told → Type 0
+  Ending u = (last : State) × Linked p gens last u × IsSettled last
+
+  body_linked : (f : Form) (s taken : State) (line : List ℕ) (t : Told) (l : LineIn f) → s.version ≡ version_of f → IsLineIn f p l → line ≡ text_in f p l
+      → Linked p gens s t → BodyHolds p gens s line taken → Linked p gens taken (tell_in f t l)
+  body_linked f s taken line t l is valid spelled linked b =
+      let one : b.line ≡ as_line f l =
+      line_is f p known b.line l (subst (λ v. checked.IsLineIn v p b.line) is b.valid) valid (sym b.spelled ∙ spelled) in
+      subst (λ v. Linked p gens v (tell_in f t l)) (sym (b.holds.is ∙ ap (with_line s) one))
+      (linked_in p gens f s t l linked valid (subst (LineFollows gens s) one b.holds.follows) (subst (LineAgrees gens s) one b.holds.agrees))
+
+  all_linked : (f : Form) (n : ℕ) (s : State) (text : List ℕ) (r : Result Checked CertFault) (c : Checked) → Tells p gens n s text r → r ≡ Ok c
+      → s.version ≡ version_of f → IsBehindHead s.phase → (t u : Told) (ls : List (LineIn f)) → AllByRecursion (IsLineIn f p) ls → TellIn f t ls u
+      → text ≡ lines_in f p ls ++ [] → Linked p gens s t → Ending u
+  all_linked f n s text _ c (Tells.complete _ _ _ none whole) e is behind t u [] valid tells spelled linked =
+      (s, subst (Linked p gens s) tells linked, whole.settled)
+  all_linked f n s text _ c (Tells.complete _ _ _ none whole) e is behind t u (l ∷ ls) valid tells spelled linked =
+      absurd (none_some (sym none ∙ first_cut f p known text l ls [] valid.0 spelled))
+  all_linked f n s text _ c (Tells.missing _ _ _ none not) e is behind t u ls valid tells spelled linked = absurd cc
+  all_linked f n s text _ c (Tells.fails _ _ _ line others k cuts fault) e is behind t u ls valid tells spelled linked = absurd cc
+  all_linked f n s text r c (Tells.goes_on _ _ taken _ line others _ cuts holds later) e is behind t u [] valid tells spelled linked =
+      absurd (none_some (ap (cut 10) (sym spelled) ∙ cuts))
+  all_linked f n s text r c (Tells.goes_on _ _ taken _ line others _ cuts holds later) e is behind t u (l ∷ ls) valid tells spelled linked =
       let b : BodyHolds p gens s line taken = as_body s.phase s taken line behind holds in
       let on : IsBehindHead taken.phase = subst (λ (v : State). IsBehindHead v.phase) (sym b.holds.is) (stays_behind s b.line behind) in
-      let same = some_same (sym cuts ∙ first_cut p known text l ls [] valid.0 is) in
-      let one : b.line ≡ l = one_line p b.line l known b.valid valid.0 (sym b.spelled ∙ ap (λ x. x.0) same) in
-      let step : Linked (next s b.line) (tell t b.line) =
-      line_linked s t b.line linked b.valid (subst (MayTell t) (sym one) tells.0) b.holds.follows b.holds.agrees in
-      let here : Linked taken (tell t l) = subst (λ v. Linked v (tell t l)) (sym b.holds.is) (subst (λ k. Linked (next s b.line) (tell t k)) one step) in
-      all_linked (capped (n + 1)) taken others r c later e on (tell t l) u ls valid.1 tells.1 (ap (λ x. x.1) same) here
+      let stays : taken.version ≡ version_of f = ap (λ (v : State). v.version) b.holds.is ∙ same_version s b.line ∙ is in
+      let same = some_same (sym cuts ∙ first_cut f p known text l ls [] valid.0 spelled) in
+      all_linked f (capped (n + 1)) taken others r c later e stays on (tell_in f t l) u ls valid.1 tells.1 (ap (λ x. x.1) same)
+      (body_linked f s taken line t l is valid.0 (ap (λ x. x.0) same) linked b)
 
   -- ---- the head
 
-  second_linked : (n : ℕ) (s : State) (text : List ℕ) (r : Result Checked CertFault) (c : Checked) → Tells p gens n s text r → r ≡ Ok c
-      → s ≡ record start { phase = Presentation } → (u : Told) (ls : List Line) → AllByRecursion (IsLineOf p) ls → Tell nothing ls u
-      → text ≡ pres_line p ++ 10 ∷ lines_text p ls → (last : State) × Linked last u × IsSettled last
-  second_linked n s text _ c (Tells.complete _ _ _ none whole) e is u ls valid tells spelled = let wrong : Presentation ≡ Finished =
-      ap (λ (t : State). t.phase) (sym is) ∙ whole.finished in absurd cc
-  second_linked n s text _ c (Tells.missing _ _ _ none not) e is u ls valid tells spelled = absurd cc
-  second_linked n s text _ c (Tells.fails _ _ _ line others k cuts f) e is u ls valid tells spelled = absurd cc
-  second_linked n s text r c (Tells.goes_on _ _ taken _ line others _ cuts holds later) e is u ls valid tells spelled =
-      let h : (line ≡ pres_line p) × (taken ≡ record start { phase = Entries }) = subst (λ (t : State). BytesHold p gens t line taken) is holds in
-      let same = some_same (sym cuts ∙ ap (cut 10) spelled ∙ cut_here 10 (pres_line p) (lines_text p ls) (head_line p known)) in
-      all_linked (capped (n + 1)) (record start { phase = Entries }) others r c (subst (λ (t : State). Tells p gens (capped (n + 1)) t others r) h.1 later) e tt
-      nothing u ls valid tells (ap (λ x. x.1) same ∙ append_nothing (lines_text p ls))
+  abbrev begun : Phase → Version → State
+  begun phase version = record start { phase = phase; version = version }
+
+  lines_linked : (f : Form) (n : ℕ) (s : State) (text : List ℕ) (r : Result Checked CertFault) (c : Checked) → Tells p gens n s text r → r ≡ Ok c
+      → s ≡ begun Entries (version_of f) → (u : Told) (ls : List (LineIn f)) → AllByRecursion (IsLineIn f p) ls → TellIn f nothing ls u
+      → text ≡ lines_in f p ls → Ending u
+  lines_linked f n s text r c tells e is u ls valid told spelled =
+      all_linked f n (begun Entries (version_of f)) text r c (subst (λ (t : State). Tells p gens n t text r) is tells) e refl tt nothing u ls valid told
+      (spelled ∙ append_nothing (lines_in f p ls))
       (record { entries = refl; values = λ i d is. absurd cc; proofs = tt; last = refl; most = omega arith; full = tt })
 
-  first_linked : (n : ℕ) (s : State) (text : List ℕ) (r : Result Checked CertFault) (c : Checked) → Tells p gens n s text r → r ≡ Ok c → s ≡ start
-      → (u : Told) (ls : List Line) → AllByRecursion (IsLineOf p) ls → Tell nothing ls u
-      → text ≡ title ++ 10 ∷ (pres_line p ++ 10 ∷ lines_text p ls) → (last : State) × Linked last u × IsSettled last
-  first_linked n s text _ c (Tells.complete _ _ _ none whole) e is u ls valid tells spelled = let wrong : Title ≡ Finished =
+  -- the third line of a trimmed report
+  items_linked : (items n : ℕ) (s : State) (text : List ℕ) (r : Result Checked CertFault) (c : Checked) → Tells p gens n s text r → r ≡ Ok c
+      → s ≡ begun Items (Trimmed 0) → IsForm (forms.Trimmed items) → (u : Told) (ls : List TrimmedLine)
+      → AllByRecursion (IsLineIn (forms.Trimmed items) p) ls → TellIn (forms.Trimmed items) nothing ls u
+      → text ≡ items_line items ++ 10 ∷ lines_in (forms.Trimmed items) p ls → Ending u
+  items_linked items n s text _ c (Tells.complete _ _ _ none whole) e is small u ls valid told spelled = let wrong : Items ≡ Finished =
       ap (λ (t : State). t.phase) (sym is) ∙ whole.finished in absurd cc
-  first_linked n s text _ c (Tells.missing _ _ _ none not) e is u ls valid tells spelled = absurd cc
-  first_linked n s text _ c (Tells.fails _ _ _ line others k cuts f) e is u ls valid tells spelled = absurd cc
-  first_linked n s text r c (Tells.goes_on _ _ taken _ line others _ cuts holds later) e is u ls valid tells spelled =
-      let h : (line ≡ title) × (taken ≡ record start { phase = Presentation }) = subst (λ (t : State). BytesHold p gens t line taken) is holds in
-      let same = some_same (sym cuts ∙ title_cut text (pres_line p ++ 10 ∷ lines_text p ls) spelled) in
-      second_linked (capped (n + 1)) taken others r c later e h.1 u ls valid tells (ap (λ x. x.1) same)
+  items_linked items n s text _ c (Tells.missing _ _ _ none not) e is small u ls valid told spelled = absurd cc
+  items_linked items n s text _ c (Tells.fails _ _ _ line others k cuts fault) e is small u ls valid told spelled = absurd cc
+  items_linked items n s text r c (Tells.goes_on _ _ taken _ line others _ cuts holds later) e is small u ls valid told spelled =
+      let h : ItemsHold (begun Items (Trimmed 0)) line taken = subst (λ (t : State). BytesHold p gens t line taken) is holds in
+      let same = some_same (sym cuts ∙ ap (cut 10) spelled
+      ∙ cut_here 10 (items_line items) (lines_in (forms.Trimmed items) p ls) (items_whole items small)) in
+      let count : h.items ≡ items = one_items_line h.items items h.small small (sym h.spelled ∙ ap (λ x. x.0) same) in
+      lines_linked (forms.Trimmed items) (capped (n + 1)) taken others r c later e
+      (h.is ∙ ap (λ k. begun Entries (Trimmed k)) count) u ls valid told (ap (λ x. x.1) same)
 
--- WHAT IS READ HOLDS
-pub is_checked : (p : Presented) (text : List ℕ) (c : Checked) (d : ReportData) → IsPresented p → Answers p text (Ok c) → IsRead p text (Ok d) → IsChecked p d
-is_checked p text c d known told report =
-    let (last, linked, settled) = first_linked p known told.generators 1 start text (Ok c) c told.tells refl refl report.told report.ls report.begins.valid
-    report.begins.tells report.spelled in
+  behind_linked : (f : Form) (n : ℕ) (taken : State) (line others : List ℕ) (r : Result Checked CertFault) (c : Checked)
+      → PresentationHolds p (begun Presentation (title_version f)) line taken → Tells p gens n taken others r → r ≡ Ok c → IsForm f
+      → (u : Told) (ls : List (LineIn f)) → AllByRecursion (IsLineIn f p) ls → TellIn f nothing ls u → others ≡ counted_in f (lines_in f p ls) → Ending u
+  behind_linked forms.Whole n taken line others r c h later e small u ls valid told spelled =
+      lines_linked forms.Whole n taken others r c later e h.1 u ls valid told spelled
+  behind_linked (forms.Trimmed items) n taken line others r c h later e small u ls valid told spelled =
+      items_linked items n taken others r c later e h.1 small u ls valid told spelled
+
+  second_linked : (f : Form) (n : ℕ) (s : State) (text : List ℕ) (r : Result Checked CertFault) (c : Checked) → Tells p gens n s text r → r ≡ Ok c
+      → s ≡ begun Presentation (title_version f) → IsForm f → (u : Told) (ls : List (LineIn f)) → AllByRecursion (IsLineIn f p) ls → TellIn f nothing ls u
+      → text ≡ pres_line p ++ 10 ∷ counted_in f (lines_in f p ls) → Ending u
+  second_linked f n s text _ c (Tells.complete _ _ _ none whole) e is small u ls valid told spelled = let wrong : Presentation ≡ Finished =
+      ap (λ (t : State). t.phase) (sym is) ∙ whole.finished in absurd cc
+  second_linked f n s text _ c (Tells.missing _ _ _ none not) e is small u ls valid told spelled = absurd cc
+  second_linked f n s text _ c (Tells.fails _ _ _ line others k cuts fault) e is small u ls valid told spelled = absurd cc
+  second_linked f n s text r c (Tells.goes_on _ _ taken _ line others _ cuts holds later) e is small u ls valid told spelled =
+      let h : PresentationHolds p (begun Presentation (title_version f)) line taken = subst (λ (t : State). BytesHold p gens t line taken) is holds in
+      let same = some_same (sym cuts ∙ ap (cut 10) spelled ∙ cut_here 10 (pres_line p) (counted_in f (lines_in f p ls)) (head_line p known)) in
+      behind_linked f (capped (n + 1)) taken line others r c h later e small u ls valid told (ap (λ x. x.1) same)
+
+  -- the version that the title tells
+  titled : (f : Form) (taken : State) (line : List ℕ) → line ≡ title_in f → TitleHolds start line taken → taken ≡ begun Presentation (title_version f)
+  titled forms.Whole taken line is (inl h) = h.1
+  titled forms.Whole taken line is (inr h) = absurd (titles_differ (sym is ∙ h.0))
+  titled (forms.Trimmed n) taken line is (inl h) = absurd (titles_differ (sym h.0 ∙ is))
+  titled (forms.Trimmed n) taken line is (inr h) = h.1
+
+  first_linked : (f : Form) (n : ℕ) (s : State) (text : List ℕ) (r : Result Checked CertFault) (c : Checked) → Tells p gens n s text r → r ≡ Ok c
+      → s ≡ start → IsForm f → (u : Told) (ls : List (LineIn f)) → AllByRecursion (IsLineIn f p) ls → TellIn f nothing ls u
+      → text ≡ headed_in f p (lines_in f p ls) → Ending u
+  first_linked f n s text _ c (Tells.complete _ _ _ none whole) e is small u ls valid told spelled = let wrong : Title ≡ Finished =
+      ap (λ (t : State). t.phase) (sym is) ∙ whole.finished in absurd cc
+  first_linked f n s text _ c (Tells.missing _ _ _ none not) e is small u ls valid told spelled = absurd cc
+  first_linked f n s text _ c (Tells.fails _ _ _ line others k cuts fault) e is small u ls valid told spelled = absurd cc
+  first_linked f n s text r c (Tells.goes_on _ _ taken _ line others _ cuts holds later) e is small u ls valid told spelled =
+      let h : TitleHolds start line taken = subst (λ (t : State). BytesHold p gens t line taken) is holds in
+      let same = some_same (sym cuts ∙ title_cut f text (pres_line p ++ 10 ∷ counted_in f (lines_in f p ls)) spelled) in
+      second_linked f (capped (n + 1)) taken others r c later e (titled f taken line (ap (λ x. x.0) same) h) small u ls valid told (ap (λ x. x.1) same)
+
+-- ---- what is read
+
+said_entries : (f : Form) (t : Told) (d : ReportData) → SaysIn f t d → d.entries ≡ t.entries
+said_entries forms.Whole t d h = h.entries
+said_entries (forms.Trimmed n) t d h = h.0.entries
+
+said_replies : (f : Form) (t : Told) (d : ReportData) → SaysIn f t d → d.replies ≡ t.replies
+said_replies forms.Whole t d h = h.replies
+said_replies (forms.Trimmed n) t d h = h.0.replies
+
+small_form : (f : Form) (t : Told) (d : ReportData) → SaysIn f t d → IsForm f
+small_form forms.Whole t d h = tt
+small_form (forms.Trimmed n) t d h = h.1
+
+checked_in : (f : Form) (p : Presented) (text : List ℕ) (c : Checked) (d : ReportData) → IsPresented p → Answers p text (Ok c) → IsReportIn f p text d
+    → IsChecked p d
+checked_in f p text c d known told report =
+    let (last, linked, settled) = first_linked p known told.generators f 1 start text (Ok c) c told.tells refl refl
+    (small_form f report.told d report.says) report.told report.ls report.begins.valid report.begins.tells report.spelled in
+    let entries : d.entries ≡ report.told.entries = said_entries f report.told d report.says in
+    let replies : d.replies ≡ report.told.replies = said_replies f report.told d report.says in
     record {
       log = record {
         gens = told.generators;
         generators = told.are;
         values = subst (λ (es : List EntryData). (i : ℕ) (e : EntryData) → slice_get es i ≡ Some e
-            → IsValueOf p told.generators (vectors_of es) i e.recipe (coefficient_at e.vector)) (sym report.says.entries) linked.values;
+            → IsValueOf p told.generators (vectors_of es) i e.recipe (coefficient_at e.vector)) (sym entries) linked.values;
       };
-      proofs = subst (λ (es : List EntryData). AllByRecursion (ShowsSubjects p es) d.replies) (sym report.says.entries)
-          (subst (λ (rs : List ReplyData). AllByRecursion (ShowsSubjects p report.told.entries) rs) (sym report.says.replies) linked.proofs);
-      complete = subst (AllByRecursion HasProofs) (sym report.says.replies)
+      proofs = subst (λ (es : List EntryData). AllByRecursion (ShowsSubjects p es) d.replies) (sym entries)
+          (subst (λ (rs : List ReplyData). AllByRecursion (ShowsSubjects p report.told.entries) rs) (sym replies) linked.proofs);
+      complete = subst (AllByRecursion HasProofs) (sym replies)
           (all_full last.subjects last.shown report.told.replies linked.last (omega (arith, linked.most, settled)) linked.full);
     }
+
+-- WHAT IS READ HOLDS
+pub is_checked : (p : Presented) (text : List ℕ) (c : Checked) (d : ReportData) → IsPresented p → Answers p text (Ok c) → IsRead p text (Ok d) → IsChecked p d
+is_checked p text c d known told report = checked_in (form_of d) p text c d known told report

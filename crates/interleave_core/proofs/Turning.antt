@@ -42,7 +42,7 @@ use Rattle.pair_book.proofs.Keeping.{task_in, task_out, open_unclosed, taken_unc
 use Rattle.pair_work.proofs.Reading.{get_left}
 use Rattle.interleave_core.proofs.Tasks.{not_both, either}
 use Rattle.interleave_core.proofs.Tasks.{task_of, unclosed_not_never}
-use Rattle.interleave_core.proofs.Resting.{undivided}
+use Rattle.pair_book.proofs.Undivided.{undivided}
 use Rattle.interleave_core.proofs.Resting.{rest_known}
 use Rattle.interleave_core.specs.declared.hands.Hand.{Hand}
 use Rattle.interleave_core.specs.declared.hands.Hand.TheVariants.{Idle, Holds, Stopped}

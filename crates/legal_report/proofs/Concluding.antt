@@ -1,5 +1,5 @@
 -- From answered sessions to a report that is solved.
-use Rattle.std.proofs.Common.{◌≡◌, ℕ, ◌+◌, ◌<◌, ◌≤◌, ◌^◌, List, [], ◌∷◌, ◌++◌, length, sym, ap, subst, ◌∙◌}
+use Rattle.std.proofs.Common.{◌≡◌, ℕ, suc, ◌+◌, ◌<◌, ◌≤◌, ◌^◌, List, [], ◌∷◌, ◌++◌, length, slice_get, Some, sym, ap, subst, ◌∙◌, arith, refl}
 use Rattle.std.specs.List.{AllByRecursion}
 use Rattle.std.specs.Prelude.{Ok}
 use Rattle.presentation.specs.Presented.{Presented, IsPresented}
@@ -16,8 +16,10 @@ use Rattle.report_text.specs.Histories.{History}
 use Rattle.report_text.specs.Reports.{Reported, IsReportable, IsHistoryOf, text_of}
 use Rattle.report_acceptance.specs.Accepting.{told_amount}
 use Rattle.legal_report.specs.Legal.{IsLegal, AreByAll}
+use Rattle.legal_report.specs.TrueAnswers.{IsAfterSeal, AreTrueAnswers}
 use Rattle.legal_report.specs.Gathering.{questions_of, AreAskers, AreAnsweredOn, AreReplies}
 use Rattle.legal_report.specs.Solutions.{IsNewSession, AreNewSessions, IsConclusion, IsSolution}
+use Rattle.legal_report.proofs.Accepted.{holds_over}
 use Rattle.legal_report.proofs.TrueAnswers.{solved_answers}
 use Rattle.legal_report.proofs.Reportable.{all_from, stands}
 
@@ -39,6 +41,41 @@ askers p limits h ss opened new i s at =
 pub sourced : (ss : List SessionState) → AllByRecursion IsSession ss → AllByRecursion (AllByRecursion HasSource) (questions_of ss)
 sourced [] all = tt
 sourced (s ∷ ss) all = (all.0.sources, sourced ss all.1)
+
+-- the questions over which a report is legal are those of its sessions
+questions_told : (p : Presented) (limits : Limits) (questions : List (List Question)) (r : Reported) → IsLegal p limits questions r
+    → questions_of r.sessions ≡ questions
+questions_told p limits questions r legal = same r.sessions questions legal.count (λ i qs s here at. (legal.sessions i qs s here at).questions)
+  where
+    same : (ss : List SessionState) (qss : List (List Question)) → length ss ≡ length qss
+        → ((i : ℕ) (qs : List Question) (s : SessionState) → slice_get qss i ≡ Some qs → slice_get ss i ≡ Some s → s.questions ≡ qs)
+        → questions_of ss ≡ qss
+    same [] [] count each = refl
+    same [] (qs ∷ qss) count each = absurd (omega (arith, count))
+    same (s ∷ ss) [] count each = absurd (omega (arith, count))
+    same (s ∷ ss) (qs ∷ qss) count each =
+        let first : s.questions ≡ qs = each 0 qs s refl refl in
+        let rest : questions_of ss ≡ qss = same ss qss (omega (arith, count)) (λ i x t here at. each (suc i) x t here at) in
+        rw (first, rest) refl
+
+-- a legal report is a conclusion
+pub conclusion : (p : Presented) (limits : Limits) (questions : List (List Question)) (r : Reported) (h : History)
+    → IsPresented r.pres → AllByRecursion IsSession r.sessions
+    → ((p : Presented) (limits : Limits) (questions : List (List Question)) (r : Reported) (h : History) → IsPresented p
+    → AllByRecursion (AllByRecursion HasSource) questions → IsLegal p limits questions r → IsHistoryOf r h → AreTrueAnswers p (IsAfterSeal r) h)
+    → IsReportable r → IsLegal p limits questions r → IsHistoryOf r h → TellsWhole r.pres (text_of r h) (Ok (told_amount r h))
+    → IsConclusion p limits questions r
+conclusion p limits questions r h known sources law can legal told checked = record {
+  reportable = can;
+  history = h;
+  is_true = record {
+    legal = legal;
+    told = told;
+    answers = law p limits questions r h (subst IsPresented legal.pres known)
+        (subst (AllByRecursion (AllByRecursion HasSource)) (questions_told p limits questions r legal) (sourced r.sessions sources)) legal told;
+    checked = holds_over p r h legal.pres checked;
+  };
+}
 
 -- a conclusion of new sessions that were answered
 pub solution : (limits : Limits) (p : Presented) (least : ℕ) (ss : List SessionState) (r : Reported)

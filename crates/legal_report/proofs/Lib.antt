@@ -1,5 +1,7 @@
 pub mod Fronts
+mod Prefixes
 mod Legality
+mod Actors
 mod Completed
 mod Asking
 mod Answering

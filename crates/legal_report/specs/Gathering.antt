@@ -13,6 +13,7 @@ use Rattle.session_core.specs.Replies.{IsReply}
 use Rattle.session_core.specs.Sessions.{SessionState, IsSession, last_front}
 use Rattle.completion_solo.specs.Ends.{Ends}
 use Rattle.basis_entry.specs.Items.{seal_below}
+use Rattle.pair_book.specs.declared.limits.Limits.{Limits}
 use Rattle.legal_report.specs.Legal.{seal_at, AreByAll}
 
 abbrev pub questions_of : List SessionState → List (List Question)
@@ -23,13 +24,19 @@ abbrev pub AreReplies : Presented → List BasisEntry → Option Seal → List Q
 AreReplies p es seal qs ks = (i : ℕ) (q : Question) (k : Kept) → slice_get qs i ≡ Some q → slice_get ks i ≡ Some k
     → IsReply p (take k.front es) (seal_below es seal k.front) q k
 
--- a session that asks the book: its questions can be asked, and its replies are by items of the book
-pub record IsAsker (h : Held) (n : ℕ) (s : SessionState) : Type 0 where
+-- A session that has asked over these items: its questions can be asked, each of its replies is by the items below its
+-- front, and no front passes them
+pub record HasAsked (p : Presented) (least : ℕ) (es : List BasisEntry) (seal : Option Seal) (n : ℕ)
+    (s : SessionState) : Type 0 where
   pub number : s.number ≡ n
-  pub base : s.base ≡ h.base
-  pub questions : AllByRecursion (CanBeAsked h.source) s.questions
-  pub replies : AreReplies h.source h.entries h.seal s.questions s.kept
-  pub fronts : AllByRecursion (λ k. k.front ≤ item_count h.entries h.seal) s.kept
+  pub base : s.base ≡ least
+  pub questions : AllByRecursion (CanBeAsked p) s.questions
+  pub replies : AreReplies p es seal s.questions s.kept
+  pub fronts : AllByRecursion (λ k. k.front ≤ item_count es seal) s.kept
+
+-- a session that asks the book: its replies are by items of the book
+abbrev pub IsAsker : Held → ℕ → SessionState → Type 0
+IsAsker h n s = HasAsked h.source h.base h.entries h.seal n s
 
 abbrev pub AreAskers : Held → List SessionState → Type 0
 AreAskers h ss = (i : ℕ) (s : SessionState) → slice_get ss i ≡ Some s → IsAsker h (i + 1) s
@@ -65,6 +72,12 @@ pub record AreAnsweredOn (p : Presented) (es : List BasisEntry) (seal : Option S
 abbrev pub CanGoOn : Presented → List BasisEntry → Option Seal → SessionState → Type 0
 CanGoOn p es seal s = AllByRecursion (CanBeAsked p) s.questions × (last_front s ≤ item_count es seal)
 
+-- items that begin with others: the entries go on, but behind a seal nothing is added
+pub record GoesOn (es : List BasisEntry) (seal : Option Seal) (es2 : List BasisEntry) (seal2 : Option Seal) : Type 0 where
+  pub more : List BasisEntry
+  pub entries : es2 ≡ es ++ more
+  pub sealed : seal ≢ None → (es2 ≡ es) × (seal2 ≡ seal)
+
 -- the log is completed: the old one begins it, and it ends so. A sealed one stays as it is
 pub record IsCompleted (p : Presented) (old : Held) (end : End) (new : Held) : Type 0 where
   pub source : new.source ≡ old.source
@@ -75,3 +88,10 @@ pub record IsCompleted (p : Presented) (old : Held) (end : End) (new : Held) : T
   pub ends : Ends p new.limits new.entries end
   pub seal : new.seal ≡ seal_at p new.entries end
   pub sealed : old.seal ≢ None → (new.entries ≡ old.entries) × (new.seal ≡ old.seal)
+
+-- a book of the presentation and of these limits whose completion has ended so
+pub record IsEnded (p : Presented) (limits : Limits) (end : End) (h : Held) : Type 0 where
+  pub source : h.source ≡ p
+  pub limited : h.limits ≡ limits
+  pub ends : Ends p limits h.entries end
+  pub seal : h.seal ≡ seal_at p h.entries end

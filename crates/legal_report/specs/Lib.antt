@@ -1,5 +1,6 @@
 pub mod Legal
 pub mod Gathering
+pub mod Seats
 pub mod TrueAnswers
 pub mod Solutions
 pub mod Last

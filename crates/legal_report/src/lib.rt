@@ -4,8 +4,9 @@
 mod gathering;
 mod last;
 pub mod laws;
+mod seating;
 mod solving;
 
-pub use gathering::gather;
+pub use gathering::{answered, gather, gather_alone, shared};
 pub use last::{Kind, last_kinds};
 pub use solving::{Solved, conclude, solve};

@@ -1,14 +1,18 @@
 //! What runs come to: a report, with the last verdicts on its questions.
 
-ghost use Rattle.std.specs.Prelude.{◌≡◌, ◌+◌, ◌<◌, ◌^◌, length, IfOk};
+ghost use Rattle.std.specs.Prelude.{◌≡◌, ◌+◌, ◌<◌, ◌^◌, List, length, IfOk};
 ghost use Rattle.std.specs.Arc.{arc_value};
+ghost use Rattle.presentation.specs.Presented.{Presented};
+ghost use Rattle.session_text.specs.declared.question.Question.{Question};
+ghost use Rattle.pair_book.specs.declared.limits.Limits.{Limits};
 ghost use Rattle.pair_book.specs.Books.{IsOpened};
-ghost use Rattle.report_text.specs.Reports.{reported};
+ghost use Rattle.report_text.specs.Reports.{reported, IsReportable};
+ghost use Rattle.legal_report.specs.Legal.{IsLegal};
 ghost use Rattle.legal_report.specs.Gathering.{questions_of, AreAskers};
 ghost use Rattle.legal_report.specs.Last.{AreLastKinds};
 ghost use Rattle.legal_report.specs.Solutions.{AreNewSessions, IsConclusion, GoesOnFrom, IsSolution};
 
-use crate::gathering::gather;
+use crate::gathering::gather_alone;
 use crate::last::{Kind, last_kinds};
 use crate::laws::answers_of_legal_reports_are_true;
 use pair_book::{Book, Limits};
@@ -26,7 +30,26 @@ pub struct Solved {
     pub last: Vec<Kind>,
 }
 
-/// Ends a run over a book of the presentation and of these limits, as [`gather`] does, and finds the last verdicts.
+impl Solved {
+    /// Finds the last verdicts of a report. It is a conclusion over all that it is legal over.
+    pub fn of(alloc: Global, report: Report) -> Result<Solved, AllocError>
+        requires { IsReportable (reported report) }
+        ensures conclusion { IfOk result (λ s. (p : Presented) (limits : Limits) (questions : List (List Question))
+            → IsLegal p limits questions (reported report) → IsConclusion p limits questions (reported s.report)) }
+        ensures last { IfOk result (λ s. AreLastKinds (reported s.report) s.last.items) }
+        ensures same { IfOk result (λ s. s.report ≡ report) }
+    {
+        // The proof needs what the types keep, and the laws of legal reports; these calls say so, and do nothing.
+        report.pres.known();
+        Session::all_known(&report.sessions);
+        answers_of_legal_reports_are_true();
+        report_is_accepted(&report);
+        let last = last_kinds(alloc, &report)?;
+        Ok(Solved { report, last })
+    }
+}
+
+/// Ends a run over a book of the presentation and of these limits, as [`gather_alone`] does, and finds the last verdicts.
 pub fn conclude(
     alloc: Global,
     p: &Arc<Presentation>,
@@ -44,14 +67,9 @@ pub fn conclude(
         (reported s.report)) }
     ensures last { IfOk result (λ s. AreLastKinds (reported s.report) s.last.items) }
 {
-    // The proof needs what the types keep, and the laws of legal reports; these calls say so, and do nothing.
-    p.known();
-    Session::all_known(&sessions);
-    answers_of_legal_reports_are_true();
-    let report = gather(alloc, p, book, sessions, limits)?;
-    let last = last_kinds(alloc, &report)?;
-    report_is_accepted(&report);
-    Ok(Solved { report, last })
+    let _ = limits;
+    let report = gather_alone(alloc, p, book, sessions)?;
+    Solved::of(alloc, report)
 }
 
 /// The report of a completion and of the answers to all questions, over a book that was opened with these limits, and

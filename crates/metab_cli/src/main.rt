@@ -1,8 +1,9 @@
 //! The program: real files, the standard output, and the status.
 #![tactic(auto)]
 
+use completion_workers::OpenGate;
 use mb_io::{FsShelf, OutSink};
-use metab_run::metab_alone;
+use metab_run::metab;
 use std::process::ExitCode;
 use std::{env, io};
 
@@ -23,6 +24,13 @@ fn main(rt: HostRuntime) -> ExitCode {
     };
     let mut shelf = FsShelf::new(&rt);
     let mut out = OutSink::new(io::writer(&rt));
-    let status = metab_alone(alloc, words.as_slice(), &mut shelf, &mut out);
+    let status = metab(
+        &rt,
+        alloc,
+        words.as_slice(),
+        &mut shelf,
+        &mut out,
+        &OpenGate,
+    );
     ExitCode::from(status as u8)
 }

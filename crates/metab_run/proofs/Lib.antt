@@ -1,2 +1,4 @@
 mod ReportEnds
+mod FileEnds
+mod RunEnds
 mod Held

@@ -7,14 +7,17 @@ use Rattle.command_floor.specs.declared.status.Status.{Status}
 use Rattle.command_floor.specs.declared.status.Status.TheVariants.{Done, Open, WriteFault, ReadFault}
 use Rattle.command_floor.specs.Answers.{Answer}
 use Rattle.command_floor.specs.Ends.{Ends}
+use Rattle.basis_entry.specs.Seals.{Seal}
 use Rattle.legal_report.specs.declared.solving.Solved.{Solved}
 use Rattle.solve_commands.specs.Runs.{ShowsSettled, WritesReport, DeliversReport, IsDue}
 use Rattle.solve_commands.specs.Solo.{SoloAsked, SoloLeads}
 use Rattle.solve_commands.specs.Replay.{ReplayAsked, ReplayLeads}
+use Rattle.solve_commands.specs.Save.{SaveAsked, SaveLeads, IsDueBasis}
+use Rattle.solve_commands.specs.Load.{LoadAsked, LoadLeads, AskedStrong}
 use Rattle.solve_commands.proofs.Settled as settled
-use Rattle.metab_run.specs.Words.{Request, Solo, Replay}
+use Rattle.metab_run.specs.Words.{Request, Solo, Replay, Save, Load}
 use Rattle.metab_run.specs.Owed.{Owed, owed}
-use Rattle.metab_run.specs.Top.{IsDueReport, EndsOwed}
+use Rattle.metab_run.specs.Top.{IsDueReport, IsDueFile, EndsOwed}
 
 -- what `solo` finds is due to it
 pub solo_due : (counted : Type 0) (under : List ℕ → Option (List ℕ)) (asked : Option Request) (q : SoloAsked) (s : Solved)
@@ -28,9 +31,26 @@ pub replay_due : (counted : Type 0) (under : List ℕ → Option (List ℕ)) (as
 replay_due counted under asked q s is due =
     subst (λ (c : Option Request). IsDueReport (owed counted under c) s) (sym is) (record { reports = tt; promises = tt; due = due })
 
-pub ruleset reports_due = (solo_due, replay_due)
+-- what `save` finds to it: the report of a completion that isn't sealed, or the basis file of one that is
+pub save_due : (counted : Type 0) (under : List ℕ → Option (List ℕ)) (asked : Option Request) (q : SaveAsked) (s : Solved)
+    → asked ≡ Some (Save q) → IsDue (SaveLeads counted under q) s → IsDueReport (owed counted under asked) s
+save_due counted under asked q s is due =
+    subst (λ (c : Option Request). IsDueReport (owed counted under c) s) (sym is) (record { reports = tt; promises = tt; due = due })
 
-take_front : (xs ys : List ℕ) → take (length xs) (xs ++ ys) ≡ xs
+pub file_due : (counted : Type 0) (under : List ℕ → Option (List ℕ)) (asked : Option Request) (q : SaveAsked) (s : Seal)
+    → asked ≡ Some (Save q) → IsDueBasis (SaveLeads counted under q) s → IsDueFile (owed counted under asked) s
+file_due counted under asked q s is due =
+    subst (λ (c : Option Request). IsDueFile (owed counted under c) s) (sym is) (record { reports = tt; promises = tt; due = due })
+
+-- and what `load` finds to it
+pub load_due : (counted : Type 0) (under : List ℕ → Option (List ℕ)) (asked : Option Request) (q : LoadAsked) (s : Solved)
+    → asked ≡ Some (Load q) → AskedStrong under q → IsDue (LoadLeads counted under q) s → IsDueReport (owed counted under asked) s
+load_due counted under asked q s is strong due =
+    subst (λ (c : Option Request). IsDueReport (owed counted under c) s) (sym is) (record { reports = tt; promises = strong; due = due })
+
+pub ruleset reports_due = (solo_due, replay_due, save_due, file_due, load_due)
+
+pub take_front : (xs ys : List ℕ) → take (length xs) (xs ++ ys) ≡ xs
 take_front [] ys = refl
 take_front (x ∷ xs) ys = ap (λ (zs : List ℕ). x ∷ zs) (take_front xs ys)
 

@@ -1,6 +1,9 @@
 //! What no clause says: that the runs below end as a user expects, with ample memory.
 
+mod flats;
 mod replays;
+mod runs;
+mod saved;
 
 use super::{DERIVATION_BYTES, PRESENTATION_BYTES, Status, metab_alone};
 use mb_io::{MemShelf, MemSink, NamedBytes};

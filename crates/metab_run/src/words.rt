@@ -3,14 +3,20 @@
 ghost use Rattle.std.specs.Prelude.{◌≡◌, map, string_bytes, option_map, IfOk, IfSome};
 ghost use Rattle.command_floor.specs.Parsing.{shown_given};
 ghost use Rattle.command_floor.specs.Settings.{AreInRange};
-ghost use Rattle.metab_run.specs.Words.{request, request_by, request_of, HasLimits};
+ghost use Rattle.solve_commands.specs.Run.{run_asked, IsWithinTable};
+ghost use Rattle.metab_run.specs.Words.{request, request_by, request_of, asked_run, HasLimits};
 
 use check_commands::check::{self, CheckWords};
+use check_commands::flat::{self, FlatWords};
 use check_commands::fox::{self, FoxWords};
 use check_commands::steps::{self, StepsWords};
+use check_commands::sum::{self, SumWords};
 use command_floor::{Asked, Command, read_command};
 use solve_commands::generate;
+use solve_commands::load::{self, LoadWords};
 use solve_commands::replay::{self, ReplayWords};
+use solve_commands::run::{self, RunWords};
+use solve_commands::save::{self, SaveWords};
 use solve_commands::solo::{self, SoloWords};
 use std::alloc::{AllocError, Global};
 
@@ -22,8 +28,13 @@ pub enum Asks<'a> {
     Check(CheckWords<'a>),
     Solo(SoloWords<'a>),
     Replay(ReplayWords<'a>),
+    Run(RunWords<'a>),
     /// The seed.
     Gen(u32),
+    Flat(FlatWords<'a>),
+    Sum(SumWords<'a>),
+    Save(SaveWords<'a>),
+    Load(LoadWords<'a>),
 }
 
 /// What a command asks by what is given behind its name, if that is of its form.
@@ -46,10 +57,23 @@ fn asked_by<'a>(alloc: Global, asked: &Asked<'a>) -> Result<Option<Asks<'a>>, Al
             None => Ok(None),
             Some(words) => Ok(Some(Asks::Replay(words))),
         },
+        Command::Run => match run::words(alloc, given)? {
+            None => Ok(None),
+            Some(words) => Ok(Some(Asks::Run(words))),
+        },
         Command::Gen => match generate::words(given) {
             None => Ok(None),
             Some(seed) => Ok(Some(Asks::Gen(seed))),
         },
+        Command::Flat => Ok(flat::words(given).map(Asks::Flat)),
+        Command::Sum => Ok(sum::words(given).map(Asks::Sum)),
+        Command::Save => Ok(save::words(given).map(Asks::Save)),
+        Command::Load => match load::words(alloc, given)? {
+            None => Ok(None),
+            Some(words) => Ok(Some(Asks::Load(words))),
+        },
+        // Not built yet.
+        Command::Trim | Command::Extend => Ok(None),
     }
 }
 
@@ -61,5 +85,16 @@ pub fn read_words(alloc: Global, words: &[String]) -> Result<Option<Asks<'_>>, A
     match read_command(alloc, words)? {
         None => Ok(None),
         Some(asked) => asked_by(alloc, &asked),
+    }
+}
+
+/// What `run` is asked by the words, if they ask for `run`.
+pub fn read_run(alloc: Global, words: &[String]) -> Result<Option<RunWords<'_>>, AllocError>
+    ensures is { IfOk result (λ found. option_map run_asked found ≡ asked_run (request (map string_bytes words.now))) }
+    ensures within { IfOk result (λ found. IfSome found IsWithinTable) }
+{
+    match read_words(alloc, words)? {
+        Some(Asks::Run(words)) => Ok(Some(words)),
+        _ => Ok(None),
     }
 }

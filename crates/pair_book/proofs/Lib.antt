@@ -10,3 +10,4 @@ pub mod Growing
 pub mod Dues
 pub mod Linking
 pub mod Walking
+pub mod Undivided

@@ -12,18 +12,23 @@ use Rattle.basis_entry.proofs.Vectors.{are_entries}
 use Rattle.outcomes.specs.declared.ends.End.{End}
 use Rattle.report_lines.specs.declared.lines.Line.TheVariants as lines
 use Rattle.report_lines.specs.Lines.{IsEndOf, IsLineOf}
+use Rattle.report_lines.specs.Texts.{title, pres_line}
 use Rattle.cert_checker.specs.declared.checked.Checked.{Checked}
 use Rattle.cert_checker.specs.declared.faults.CertFault.{CertFault}
 use Rattle.cert_checker.specs.declared.faults.CertFault.TheVariants as faults
 use Rattle.cert_checker.specs.declared.phase.Phase.TheVariants.{Entries, Closing, Finished}
-use Rattle.cert_checker.specs.States.{start, IsOpen}
+use Rattle.cert_checker.specs.declared.version.Version.{Version}
+use Rattle.cert_checker.specs.declared.version.Version.TheVariants.{Whole}
+use Rattle.cert_checker.specs.States.{start, IsOpen, HasGeneratorsIn}
+use Rattle.cert_checker.specs.Truth.{report_text}
 use Rattle.cert_checker.specs.Texts.{IsComplete, counts, Tells, TellsWhole, Answers}
 use Rattle.report_text.specs.Histories.{SessionAnswers, History, item_lines, told_from, closing_of, lines_of}
 use Rattle.report_text.specs.Reports.{Reported, IsReportable, IsHistoryOf, text_of}
 use Rattle.report_acceptance.specs.Accepting.{IsKnown, IsAccepted, told_amount, proof_count}
 use Rattle.report_acceptance.proofs.Generating.{one_generating}
-use Rattle.report_acceptance.proofs.Taking.{after, Leads, one, both, proofs_after, all_valid}
-use Rattle.report_acceptance.proofs.Told.{told_whole, alone_whole}
+use Rattle.report_acceptance.proofs.Taking.{after, whole, Leads, one, both, proofs_after, all_valid}
+use Rattle.report_acceptance.proofs.Told.{whole_text, told_in}
+use Rattle.report_acceptance.proofs.Alone.{alone}
 use Rattle.report_acceptance.proofs.Proving.{IsAt}
 use Rattle.report_acceptance.proofs.Sessions.{IsSessionTold, sessions_told}
 use Rattle.report_acceptance.proofs.Answering.{all_closed}
@@ -51,10 +56,14 @@ module _ (p : Presented) (gens : List (List Term)) (pres : IsPresented p) (es : 
       let number = length-map es (λ (e : BasisEntry). e.vector) in
       let all = known.generators in
       let within = known.within in
-      one p gens (IsAt (phase_of seal) (vectors_of es)) (IsAt Closing (vectors_of es)) (lines.End end) valid
+      one p gens (IsAt (phase_of seal) (vectors_of es)) (IsAt Closing (vectors_of es)) (lines.End end) valid (λ s h. h.whole)
       (λ s h. let same : length s.entries ≡ length (vectors_of es) = ap length h.entries in (
-        (subst IsOpen (sym h.phase) (is_open seal), h.settled, omega (arith, same, number, all, within)),
-        (tt, record { phase = refl; entries = h.entries; settled = h.settled }),
+        (
+          subst IsOpen (sym h.phase) (is_open seal),
+          h.settled,
+          subst (λ (v : Version). HasGeneratorsIn v gens s.entries) (sym h.whole) (omega (arith, same, number, all, within)),
+        ),
+        (tt, record { phase = refl; whole = h.whole; entries = h.entries; settled = h.settled }),
       ))
 
   closed : Leads p gens (IsAt Closing (vectors_of es)) (closing_of ts) (IsAt Closing (vectors_of es))
@@ -65,8 +74,8 @@ module _ (p : Presented) (gens : List (List Term)) (pres : IsPresented p) (es : 
       (omega (arith, number, few)) (ap vectors_of (all_below es seal)) ts told
 
   done : Leads p gens (IsAt Closing (vectors_of es)) (lines.Done ∷ []) (IsAt Finished (vectors_of es))
-  done = one p gens (IsAt Closing (vectors_of es)) (IsAt Finished (vectors_of es)) lines.Done tt
-      (λ s h. ((h.phase, h.settled), (tt, record { phase = refl; entries = h.entries; settled = h.settled })))
+  done = one p gens (IsAt Closing (vectors_of es)) (IsAt Finished (vectors_of es)) lines.Done tt (λ s h. h.whole)
+      (λ s h. ((h.phase, h.settled), (tt, record { phase = refl; whole = h.whole; entries = h.entries; settled = h.settled })))
 
   all_taken : Leads p gens (IsAt Entries []) (told_from ts 0 (item_lines es seal) ++ (lines.End end ∷ (closing_of ts ++ lines.Done ∷ [])))
       (IsAt Finished (vectors_of es))
@@ -80,7 +89,7 @@ module _ (p : Presented) (gens : List (List Term)) (pres : IsPresented p) (es : 
 -- ---- reports that can be written
 
 module _ (r : Reported) (h : History) (known : IsKnown r) (can : IsReportable r) (is : IsHistoryOf r h) where
-  are_known : AreKnown r.pres can.entries.begins.gens can.base r.entries
+  pub are_known : AreKnown r.pres can.entries.begins.gens can.base r.entries
   are_known = record {
     entries = known.entries;
     over = can.over;
@@ -102,41 +111,45 @@ module _ (r : Reported) (h : History) (known : IsKnown r) (can : IsReportable r)
       (all_taken r.pres can.entries.begins.gens known.presented r.entries r.seal can.base are_known h.sessions all_told r.end known.end)
 
   begun : IsAt Entries [] (record start { phase = Entries })
-  begun = record { phase = refl; entries = refl; settled = omega arith }
+  begun = record { phase = refl; whole = refl; entries = refl; settled = omega arith }
 
   -- each of the lines is one of a report
   pub valid_lines : AllByRecursion (IsLineOf r.pres) (lines_of h)
   valid_lines = all_valid r.pres can.entries.begins.gens (record start { phase = Entries }) (lines_of h)
       (history_taken.hold (record start { phase = Entries }) begun)
 
-  last : IsAt Finished (vectors_of r.entries) (after (record start { phase = Entries }) (lines_of h))
+  last : IsAt Finished (vectors_of r.entries) (after (record start { phase = Entries }) (whole (lines_of h)))
   last = history_taken.then_is (record start { phase = Entries }) begun
 
-  whole : IsComplete (after (record start { phase = Entries }) (lines_of h)) []
-  whole = record { finished = last.phase; settled = last.settled; nothing = refl }
+  all_read : IsComplete (after (record start { phase = Entries }) (whole (lines_of h))) []
+  all_read = record { finished = last.phase; settled = last.settled; nothing = refl }
 
-  amount : counts (after (record start { phase = Entries }) (lines_of h)) ≡ told_amount r h
+  amount : counts (after (record start { phase = Entries }) (whole (lines_of h))) ≡ told_amount r h
   amount =
-      let entries : length (after (record start { phase = Entries }) (lines_of h)).entries ≡ length r.entries =
+      let entries : length (after (record start { phase = Entries }) (whole (lines_of h))).entries ≡ length r.entries =
       ap length last.entries ∙ length-map r.entries (λ (e : BasisEntry). e.vector) in
-      let proofs : (after (record start { phase = Entries }) (lines_of h)).proofs ≡ capped (proof_count (lines_of h)) =
+      let proofs : (after (record start { phase = Entries }) (whole (lines_of h))).proofs ≡ capped (proof_count (lines_of h)) =
       proofs_after (record start { phase = Entries }) (lines_of h) 0 refl ∙ ap capped (omega arith) in
       λ i. record { entries = capped (entries i); proofs = proofs i }
 
+  written : report_text Whole r.pres (whole (lines_of h)) ≡ text_of r h
+  written = sym (ap (λ text. title ++ 10 ∷ (pres_line r.pres ++ 10 ∷ text)) (whole_text r.pres (lines_of h)))
+
+  tells : Tells r.pres can.entries.begins.gens 1 start (text_of r h) (Ok (told_amount r h))
+  tells =
+      subst (λ text. Tells r.pres can.entries.begins.gens 1 start text (Ok (told_amount r h))) written
+      (subst (λ c. Tells r.pres can.entries.begins.gens 1 start (report_text Whole r.pres (whole (lines_of h))) (Ok c)) amount
+      (told_in r.pres can.entries.begins.gens known.presented Whole (whole (lines_of h)) tt (history_taken.hold (record start { phase = Entries }) begun)
+      all_read))
+
   pub is_told : TellsWhole r.pres (text_of r h) (Ok (told_amount r h))
-  is_told = record {
-    generators = can.entries.begins.gens;
-    are = can.entries.begins.generators;
-    tells = subst (λ c. Tells r.pres can.entries.begins.gens 1 start (text_of r h) (Ok c)) amount
-        (told_whole r.pres can.entries.begins.gens known.presented (lines_of h) (history_taken.hold (record start { phase = Entries }) begun) whole);
-  }
+  is_told = record { generators = can.entries.begins.gens; are = can.entries.begins.generators; tells = tells }
 
   told_so : (c : Result Checked CertFault) → TellsWhole r.pres (text_of r h) c → c ≡ Ok (told_amount r h)
   told_so c t =
       let same : t.generators ≡ can.entries.begins.gens = one_generating r.pres t.generators can.entries.begins.gens t.are can.entries.begins.generators in
-      let tells : Tells r.pres can.entries.begins.gens 1 start (text_of r h) c = subst (λ g. Tells r.pres g 1 start (text_of r h) c) same t.tells in
-      alone_whole r.pres can.entries.begins.gens known.presented (lines_of h) c tells (history_taken.hold (record start { phase = Entries }) begun) whole
-      ∙ ap Ok amount
+      alone r.pres known.presented can.entries.begins.gens 1 start (text_of r h) (Ok (told_amount r h)) c (told_amount r h) tells refl
+      (subst (λ g. Tells r.pres g 1 start (text_of r h) c) same t.tells)
 
   pub is_accepted : (c : Result Checked CertFault) → Answers r.pres (text_of r h) c → IsAccepted r h c
   is_accepted (Ok c) answers = let e : Ok c ≡ Ok (told_amount r h) = told_so (Ok c) answers in cc

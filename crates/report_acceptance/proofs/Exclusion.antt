@@ -13,10 +13,13 @@ use Rattle.report_lines.specs.declared.lines.Made.{Made}
 use Rattle.report_lines.specs.declared.lines.Made.TheVariants.{Gen, Sum}
 use Rattle.report_lines.specs.declared.lines.Line.{Line}
 use Rattle.report_lines.specs.declared.lines.Line.TheVariants as lines
+use Rattle.report_lines.specs.declared.trimmed.TrimmedLine.{TrimmedLine}
+use Rattle.report_lines.specs.declared.trimmed.TrimmedLine.TheVariants.{Entry, Other}
 use Rattle.cert_checker.specs.declared.faults.CertKind.{CertKind}
 use Rattle.cert_checker.specs.declared.faults.CertKind.TheVariants.{Text, NoEntry, NotEqual, NotZero, Wide, Long}
-use Rattle.cert_checker.specs.States.{State, MayFollow}
-use Rattle.cert_checker.specs.Checking.{StepFails, StepsFail, StepsLead, IsMadeOf, RecipeFails, EntryFails, PartAt, fox_at, due, Agrees, Disagrees, LineFails}
+use Rattle.cert_checker.specs.States.{State, LineFollows}
+use Rattle.cert_checker.specs.Checking.{StepFails, StepsFail, StepsLead, IsMadeAt, RecipeFails, EntryFailsAt, PartAt, fox_at, due, Agrees, LineAgrees, Disagrees}
+use Rattle.cert_checker.specs.Checking.{LineDisagrees, LineFails}
 
 -- ---- steps
 
@@ -43,24 +46,24 @@ module _ (way : Way) (b : List (List Term)) where
 
 -- ---- entries and proofs
 
-one_made : (gens entries : List (List Term)) (made : Made) (f g : Coefficients) → IsMadeOf gens entries made f → IsMadeOf gens entries made g
+one_made : (gens entries : List (List Term)) (i : ℕ) (made : Made) (f g : Coefficients) → IsMadeAt gens entries i made f → IsMadeAt gens entries i made g
     → (x : Place) → f x ≡ g x
-one_made gens entries (Gen negated) f g h k x = h x ∙ sym (k x)
-one_made gens entries (Sum steps) f g h k x = one_end Add entries zero_vector steps f g h.1 k.1 x
+one_made gens entries i (Gen negated) f g h k x = h x ∙ sym (k x)
+one_made gens entries i (Sum steps) f g h k x = one_end Add entries zero_vector steps f g h.1 k.1 x
 
-recipe_passes : (gens entries : List (List Term)) (made : Made) (f : Coefficients) (k : CertKind) → IsMadeOf gens entries made f
+recipe_passes : (gens entries : List (List Term)) (i : ℕ) (made : Made) (f : Coefficients) (k : CertKind) → IsMadeAt gens entries i made f
     → RecipeFails entries made k → ⊥
-recipe_passes gens entries (Gen negated) f k h bad = bad
-recipe_passes gens entries (Sum steps) f k h bad = steps_pass Add entries zero_vector steps f k h bad
+recipe_passes gens entries i (Gen negated) f k h bad = bad
+recipe_passes gens entries i (Sum steps) f k h bad = steps_pass Add entries zero_vector steps f k h bad
 
-entry_passes : (gens entries : List (List Term)) (made : Made) (v : List Term) (k : CertKind) → IsMadeOf gens entries made (coefficient_at v)
-    → EntryFails gens entries made v k → ⊥
-entry_passes gens entries made v Text h bad = bad
-entry_passes gens entries made v NoEntry h bad = recipe_passes gens entries made (coefficient_at v) NoEntry h bad
-entry_passes gens entries made v (NotEqual at) h bad = bad.2.here (one_made gens entries made bad.0 (coefficient_at v) bad.1 h at)
-entry_passes gens entries made v (NotZero at) h bad = bad
-entry_passes gens entries made v Wide h bad = recipe_passes gens entries made (coefficient_at v) Wide h bad
-entry_passes gens entries made v Long h bad = recipe_passes gens entries made (coefficient_at v) Long h bad
+entry_passes : (gens entries : List (List Term)) (i : ℕ) (made : Made) (v : List Term) (k : CertKind) → IsMadeAt gens entries i made (coefficient_at v)
+    → EntryFailsAt gens entries i made v k → ⊥
+entry_passes gens entries i made v Text h bad = bad
+entry_passes gens entries i made v NoEntry h bad = recipe_passes gens entries i made (coefficient_at v) NoEntry h bad
+entry_passes gens entries i made v (NotEqual at) h bad = bad.2.here (one_made gens entries i made bad.0 (coefficient_at v) bad.1 h at)
+entry_passes gens entries i made v (NotZero at) h bad = bad
+entry_passes gens entries i made v Wide h bad = recipe_passes gens entries i made (coefficient_at v) Wide h bad
+entry_passes gens entries i made v Long h bad = recipe_passes gens entries i made (coefficient_at v) Long h bad
 
 proof_passes : (entries : List (List Term)) (f : Coefficients) (ss : List Step) (at : Place) (g : Coefficients) → StepsLead Take entries f ss zero_vector
     → StepsLead Take entries f ss g → PartAt g zero_vector at → ⊥
@@ -69,7 +72,7 @@ proof_passes entries f ss at g h k part = part.here (one_end Take entries f ss g
 -- ---- lines
 
 agrees_only : (gens : List (List Term)) (s : State) (l : Line) (k : CertKind) → Agrees gens s l → Disagrees gens s l k → ⊥
-agrees_only gens s (lines.Entry number made vector) k h bad = entry_passes gens s.entries made vector k h bad
+agrees_only gens s (lines.Entry number made vector) k h bad = entry_passes gens s.entries (length s.entries) made vector k h bad
 agrees_only gens s lines.Seal k h bad = bad
 agrees_only gens s (lines.Live session number front question verdict) k h bad = bad
 agrees_only gens s (lines.Proof subject steps) Text h bad = bad
@@ -82,10 +85,14 @@ agrees_only gens s (lines.End end) k h bad = bad
 agrees_only gens s (lines.Close session number question verdict) k h bad = bad
 agrees_only gens s lines.Done k h bad = bad
 
-pub never_fails : (gens : List (List Term)) (s : State) (l : Line) (k : CertKind) → MayFollow gens s l → Agrees gens s l → LineFails gens s l k → ⊥
+so_only : (gens : List (List Term)) (s : State) (l : TrimmedLine) (k : CertKind) → LineAgrees gens s l → LineDisagrees gens s l k → ⊥
+so_only gens s (Entry number from made vector) k h bad = entry_passes gens s.entries from made vector k h bad
+so_only gens s (Other l) k h bad = agrees_only gens s l k h bad
+
+pub never_fails : (gens : List (List Term)) (s : State) (l : TrimmedLine) (k : CertKind) → LineFollows gens s l → LineAgrees gens s l → LineFails gens s l k → ⊥
 never_fails gens s l Text follows h bad = bad follows
-never_fails gens s l NoEntry follows h bad = agrees_only gens s l NoEntry h bad.1
-never_fails gens s l (NotEqual at) follows h bad = agrees_only gens s l (NotEqual at) h bad.1
-never_fails gens s l (NotZero at) follows h bad = agrees_only gens s l (NotZero at) h bad.1
-never_fails gens s l Wide follows h bad = agrees_only gens s l Wide h bad.1
-never_fails gens s l Long follows h bad = agrees_only gens s l Long h bad.1
+never_fails gens s l NoEntry follows h bad = so_only gens s l NoEntry h bad.1
+never_fails gens s l (NotEqual at) follows h bad = so_only gens s l (NotEqual at) h bad.1
+never_fails gens s l (NotZero at) follows h bad = so_only gens s l (NotZero at) h bad.1
+never_fails gens s l Wide follows h bad = so_only gens s l Wide h bad.1
+never_fails gens s l Long follows h bad = so_only gens s l Long h bad.1

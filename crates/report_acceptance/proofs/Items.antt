@@ -15,8 +15,10 @@ use Rattle.basis_entry.specs.Entries.{BasisEntry, IsBasisEntry, vectors_of}
 use Rattle.basis_entry.specs.Seals.{Seal}
 use Rattle.basis_entry.proofs.Vectors.{are_entries}
 use Rattle.report_lines.specs.declared.lines.Line.TheVariants as lines
+use Rattle.cert_checker.specs.declared.version.Version.{Version}
 use Rattle.cert_checker.specs.declared.phase.Phase.{Phase}
 use Rattle.cert_checker.specs.declared.phase.Phase.TheVariants.{Entries, Sealed}
+use Rattle.cert_checker.specs.States.{HasGeneratorsIn}
 use Rattle.report_text.specs.Histories.{SessionAnswers, made_by, live_at, entry_lines, seal_lines, told_from}
 use Rattle.report_text.specs.Reports.{IsSumOver, EntryIsOver}
 use Rattle.report_text.proofs.Lists.{all_first, at_place}
@@ -69,16 +71,16 @@ pub record AreKnown (p : Presented) (gens : List (List Term)) (base : ℕ) (es :
 
 module _ (p : Presented) (gens : List (List Term)) (pres : IsPresented p) (es : List BasisEntry) (seal : Option Seal) (base : ℕ)
     (known : AreKnown p gens base es) where
-  first_entries : (k : ℕ) → AreEntries (vectors_of (take k es))
+  pub first_entries : (k : ℕ) → AreEntries (vectors_of (take k es))
   first_entries k = are_entries (take k es) (all_first IsBasisEntry k es known.entries)
 
-  first_over : (k : ℕ) → AllByRecursion (VectorIsOver (length p.names)) (vectors_of (take k es))
+  pub first_over : (k : ℕ) → AllByRecursion (VectorIsOver (length p.names)) (vectors_of (take k es))
   first_over k = vectors_over (length p.names) (take k es) (all_first (EntryIsOver (length p.names)) k es known.over)
 
   first_length : (k : ℕ) → k ≤ length es → length (vectors_of (take k es)) ≡ k
   first_length k le = length-map (take k es) (λ (e : BasisEntry). e.vector) ∙ length_take es k le
 
-  next_by : (k : ℕ) (e : BasisEntry) (t : Bool) → nat_lt k base ≡ t → k < length es → slice_get es k ≡ Some e → IsNextEntry gens (vectors_of (take k es)) e
+  pub next_by : (k : ℕ) (e : BasisEntry) (t : Bool) → nat_lt k base ≡ t → k < length es → slice_get es k ≡ Some e → IsNextEntry gens (vectors_of (take k es)) e
   next_by k e true lt within has =
       let number = first_length k (omega (arith, within)) in
       let below : k < base = grind arith in
@@ -132,9 +134,15 @@ module _ (p : Presented) (gens : List (List Term)) (pres : IsPresented p) (es : 
         let number = length-map es (λ (e : BasisEntry). e.vector) in
         let all = known.generators in
         let within = known.within in
-        one p gens (IsAt Entries (vectors_of es)) (IsAt Sealed (vectors_of es)) lines.Seal tt
-        (λ s h. let same : length s.entries ≡ length (vectors_of es) = ap length h.entries in
-        ((h.phase, h.settled, omega (arith, same, number, all, within)), (tt, record { phase = refl; entries = h.entries; settled = h.settled })))
+        one p gens (IsAt Entries (vectors_of es)) (IsAt Sealed (vectors_of es)) lines.Seal tt (λ s h. h.whole)
+        (λ s h. let same : length s.entries ≡ length (vectors_of es) = ap length h.entries in (
+          (
+            h.phase,
+            h.settled,
+            subst (λ (v : Version). HasGeneratorsIn v gens s.entries) (sym h.whole) (omega (arith, same, number, all, within)),
+          ),
+          (tt, record { phase = refl; whole = h.whole; entries = h.entries; settled = h.settled }),
+        ))
 
     end_taken : (o : Option Seal) (k : ℕ) → k ≡ length es → Leads p gens (IsAt Entries (vectors_of es)) (told_from ts k (seal_lines o))
         (IsAt (phase_of o) (vectors_of es))

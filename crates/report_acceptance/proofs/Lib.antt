@@ -1,5 +1,6 @@
 pub mod Taking
 pub mod Exclusion
+pub mod Alone
 pub mod Told
 pub mod Generating
 pub mod Placing
@@ -20,3 +21,9 @@ pub mod Fronts
 pub mod Between
 pub mod Closings
 pub mod Whole
+-- trimmed reports
+pub mod Growing
+pub mod TrimmedTaking
+pub mod Renaming
+pub mod TrimmedRight
+pub mod TrimmedAcceptance

@@ -18,6 +18,7 @@ use Rattle.hom_check.specs.Shown.{fox_at, IsShown}
 use Rattle.hom_check.proofs.Fitting.{Fits}
 use Rattle.report_lines.specs.declared.lines.Line.TheVariants as lines
 use Rattle.report_lines.specs.Lines.{IsLineOf}
+use Rattle.cert_checker.specs.declared.version.Version.TheVariants.{Whole}
 use Rattle.cert_checker.specs.declared.phase.Phase.{Phase}
 use Rattle.cert_checker.specs.States.{State, IsSettled, AreNear}
 use Rattle.cert_checker.specs.Checking.{StepsLead, due}
@@ -31,12 +32,14 @@ use Rattle.report_acceptance.proofs.Taking.{Leads, one, both}
 -- these entries were taken in this phase, and no proof is due
 pub record IsAt (at : Phase) (b : List (List Term)) (s : State) : Type 0 where
   pub phase : s.phase ≡ at
+  pub whole : s.version ≡ Whole
   pub entries : s.entries ≡ b
   pub settled : IsSettled s
 
 -- of these subjects so many were shown
 pub record IsProving (at : Phase) (b : List (List Term)) (ws : List (List Letter)) (j : ℕ) (s : State) : Type 0 where
   pub phase : s.phase ≡ at
+  pub whole : s.version ≡ Whole
   pub entries : s.entries ≡ b
   pub subjects : s.subjects ≡ ws
   pub shown : s.shown ≡ j
@@ -75,11 +78,11 @@ module _ (p : Presented) (gens : List (List Term)) (known : IsPresented p) (b : 
   word_placed w fits = fox_placed w (IsOver-more (length p.names) 24 w known.few_names fits.0) fits.1
 
   -- what a proof has to be
-  record IsProof (w : List Letter) (ss : List Step) : Type 0 where
-    near : AreNear b ss
-    leads : StepsLead Take b (fox_at w) ss zero_vector
+  pub record IsProof (w : List Letter) (ss : List Step) : Type 0 where
+    pub near : AreNear b ss
+    pub leads : StepsLead Take b (fox_at w) ss zero_vector
 
-  is_proof : (w : List Letter) (ss : List Step) → Fits (length p.names) w → IsRest b (fox_at w) [] ss → IsProof w ss
+  pub is_proof : (w : List Letter) (ss : List Step) → Fits (length p.names) w → IsRest b (fox_at w) [] ss → IsProof w ss
   is_proof w ss fits is = record {
     near = runs_near b (fox_at w) (coefficient_at []) ss entries (word_placed w fits) is.runs;
     leads = (steps_there b ss is.are, runs_lead b (fox_at w) (coefficient_at []) ss is.runs);
@@ -102,7 +105,7 @@ module _ (p : Presented) (gens : List (List Term)) (known : IsPresented p) (b : 
         let word : (s : State) → IsProving phase b ws j s → due s ≡ w = λ s h. (λ i. get_or (h.subjects i) (h.shown i) []) ∙ (λ i. get_or (parts i) (at i) [])
         ∙ middle before w others in
         one p gens (IsProving phase b ws j) (IsProving phase b ws (j + 1)) (lines.Proof (j + 1) ss)
-        (proof_line (j + 1) w ss (omega (arith, long, at, count)) fits is)
+        (proof_line (j + 1) w ss (omega (arith, long, at, count)) fits is) (λ s h. h.whole)
         (λ s h.
         let own : length s.subjects ≡ length ws = ap length h.subjects in
         let number = h.shown in (
@@ -110,7 +113,7 @@ module _ (p : Presented) (gens : List (List Term)) (known : IsPresented p) (b : 
           (
             subst (λ c. StepsLead Take c (fox_at (due s)) ss zero_vector) (sym h.entries)
                 (subst (λ v. StepsLead Take b (fox_at v) ss zero_vector) (sym (word s h)) proof.leads),
-            record { phase = h.phase; entries = h.entries; subjects = h.subjects; shown = ap (λ n. n + 1) h.shown },
+            record { phase = h.phase; whole = h.whole; entries = h.entries; subjects = h.subjects; shown = ap (λ n. n + 1) h.shown },
           ),
         ))
 
@@ -118,7 +121,7 @@ module _ (p : Presented) (gens : List (List Term)) (known : IsPresented p) (b : 
     all_shown j before parts at s h =
         let own : length s.subjects ≡ length before = ap length (h.subjects ∙ parts) in
         let number = h.shown in
-        record { phase = h.phase; entries = h.entries; settled = omega (arith, own, number, at) }
+        record { phase = h.phase; whole = h.whole; entries = h.entries; settled = omega (arith, own, number, at) }
 
     pub proofs_taken : (before others : List (List Letter)) (proofs : List (List Step)) (j : ℕ) → ws ≡ before ++ others → j ≡ length before
         → AllByRecursion (Fits (length p.names)) others

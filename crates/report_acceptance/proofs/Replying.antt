@@ -14,9 +14,10 @@ use Rattle.basis_entry.specs.Seals.{Seal}
 use Rattle.report_lines.specs.declared.lines.Line.TheVariants as lines
 use Rattle.session_core.specs.Questions.{CanBeAsked}
 use Rattle.session_core.specs.Verdicts.{IsVerdict}
+use Rattle.cert_checker.specs.declared.version.Version.{Version}
 use Rattle.cert_checker.specs.declared.phase.Phase.{Phase}
 use Rattle.cert_checker.specs.declared.phase.Phase.TheVariants.{Closing}
-use Rattle.cert_checker.specs.States.{IsOpen, seals}
+use Rattle.cert_checker.specs.States.{IsOpen, IsFrontIn, seals}
 use Rattle.report_text.specs.Answers.{to_show, AreProofsOf}
 use Rattle.report_text.specs.Histories.{proof_lines}
 use Rattle.report_text.proofs.Verdicts.{yes_is_shown}
@@ -40,10 +41,17 @@ module _ (p : Presented) (gens : List (List Term)) (known : IsPresented p) (b : 
           small_s,
           (small_n, (small_front, is_answer p known b seal q ask source entries over v is)),
         )
+        (λ st h. h.whole)
         (λ st h.
         let own : length st.entries ≡ length b = ap length h.entries in (
-          (subst IsOpen (sym h.phase) opened, h.settled, omega (arith, own, low), is_front ∙ sym (λ i. length (h.entries i) + seals (h.phase i)), ask.1),
-          (tt, record { phase = h.phase; entries = h.entries; subjects = asked_is q v; shown = refl }),
+          (
+            subst IsOpen (sym h.phase) opened,
+            h.settled,
+            subst (λ (v : Version). IsFrontIn v gens st front) (sym h.whole)
+                (omega (arith, own, low), is_front ∙ sym (λ i. length (h.entries i) + seals (h.phase i))),
+            ask.1,
+          ),
+          (tt, record { phase = h.phase; whole = h.whole; entries = h.entries; subjects = asked_is q v; shown = refl }),
         ))
 
     pub live_taken : (at : Phase) (s n front : ℕ) → IsSmall s → IsSmall n → IsSmall front → IsOpen at → length gens ≤ length b → front ≡ length b + seals at
@@ -55,8 +63,8 @@ module _ (p : Presented) (gens : List (List Term)) (known : IsPresented p) (b : 
     close_line : (s n : ℕ) → IsSmall s → IsSmall n → Leads p gens (IsAt Closing b) (lines.Close s n q v ∷ []) (IsProving Closing b (to_show q v) 0)
     close_line s n small_s small_n =
         one p gens (IsAt Closing b) (IsProving Closing b (to_show q v) 0) (lines.Close s n q v)
-        (small_s, (small_n, is_answer p known b seal q ask source entries over v is))
-        (λ st h. ((h.phase, h.settled, ask.1), (tt, record { phase = h.phase; entries = h.entries; subjects = asked_is q v; shown = refl })))
+        (small_s, (small_n, is_answer p known b seal q ask source entries over v is)) (λ st h. h.whole)
+        (λ st h. ((h.phase, h.settled, ask.1), (tt, record { phase = h.phase; whole = h.whole; entries = h.entries; subjects = asked_is q v; shown = refl })))
 
     pub close_taken : (s n : ℕ) → IsSmall s → IsSmall n → Leads p gens (IsAt Closing b) (lines.Close s n q v ∷ proof_lines 1 proofs) (IsAt Closing b)
     close_taken s n small_s small_n =

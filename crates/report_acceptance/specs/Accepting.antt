@@ -11,6 +11,8 @@ use Rattle.session_core.specs.Sessions.{IsSession}
 use Rattle.cert_checker.specs.declared.checked.Checked.{Checked}
 use Rattle.cert_checker.specs.declared.faults.CertFault.{CertFault}
 use Rattle.cert_checker.specs.declared.faults.CertFault.TheVariants.{Line as AtLine, NoMemory}
+use Rattle.report_reading.specs.declared.replies.ReplyData.{ReplyData}
+use Rattle.report_reading.specs.declared.data.ReportData.{ReportData}
 use Rattle.report_text.specs.Histories.{History, lines_of}
 use Rattle.report_text.specs.Reports.{Reported}
 
@@ -46,3 +48,20 @@ abbrev pub IsAccepted : Reported → History → Result Checked CertFault → Ty
 IsAccepted r h (Ok c) = c ≡ told_amount r h
 IsAccepted r h (Err (AtLine number kind)) = ⊥
 IsAccepted r h (Err NoMemory) = Unit {0}
+
+-- ---- what is answered of a trimmed report
+
+-- how many proofs the replies have
+abbrev pub proofs_in : List ReplyData → ℕ
+proofs_in [] = 0
+proofs_in (r ∷ rs) = length r.proofs + proofs_in rs
+
+-- the number of its entries and that of its proofs, each at most 2^32 - 1
+abbrev pub data_amount : ReportData → Checked
+data_amount d = record { entries = capped (length d.entries); proofs = capped (proofs_in d.replies) }
+
+-- all lines were taken, unless memory ran out
+abbrev pub IsTrimmedAccepted : ReportData → Result Checked CertFault → Type 0
+IsTrimmedAccepted d (Ok c) = c ≡ data_amount d
+IsTrimmedAccepted d (Err (AtLine number kind)) = ⊥
+IsTrimmedAccepted d (Err NoMemory) = Unit {0}

@@ -13,3 +13,5 @@ pub mod AnswerTexts
 -- lines
 pub mod LineTexts
 pub mod ReadingBack
+-- lines of trimmed reports
+pub mod TrimmedTexts

@@ -34,19 +34,19 @@ use Rattle.report_lines.proofs.AnswerTexts.{answer, IsPair, answer_same}
 abbrev Behind : Type 0
 Behind = Question × Verdict
 
-abbrev Recipe : Type 0
+abbrev pub Recipe : Type 0
 Recipe = Made × List Term
 
-abbrev recipe : Presented → Recipe → List ℕ
+abbrev pub recipe : Presented → Recipe → List ℕ
 recipe p = paired (made_text p.names) (codes " : ") (vector_text p.names)
 
-abbrev IsRecipe : Presented → Recipe → Type 0
+abbrev pub IsRecipe : Presented → Recipe → Type 0
 IsRecipe p = AreBoth (IsMadeOf (length p.names)) (IsVectorOf (length p.names))
 
-abbrev entry : Presented → ℕ × Recipe → List ℕ
+abbrev pub entry : Presented → ℕ × Recipe → List ℕ
 entry p = paired decimal (codes " ") (recipe p)
 
-abbrev IsEntry : Presented → ℕ × Recipe → Type 0
+abbrev pub IsEntry : Presented → ℕ × Recipe → Type 0
 IsEntry p = AreBoth IsSmall (IsRecipe p)
 
 -- an answer behind one number, behind two, and behind three
@@ -76,7 +76,7 @@ IsProof p = AreBoth IsSmall (AreStepsOf (length p.names))
 
 -- ---- which line a text begins like
 
-is_entry : (p : Presented) (rest : List ℕ) (l : Line) → codes "entry " ++ rest ≡ line_text p l
+pub is_entry : (p : Presented) (rest : List ℕ) (l : Line) → codes "entry " ++ rest ≡ line_text p l
     → (x : ℕ × Recipe) × (l ≡ Entry x.0 x.1.0 x.1.1) × (rest ≡ entry p x)
 is_entry p rest (Entry number made vector) e = ((number, (made, vector)), refl, ap (drop 6) e)
 is_entry p rest Seal e = absurd (clash 3 _ _ e refl)
@@ -362,7 +362,7 @@ behind_word p text word rest r is h = let P : List ℕ → Type 0 = λ t. Reads 
 
 -- ---- a text is that of one line
 
-recipe_same : (p : Presented) → IsPresented p → (x y : Recipe) → IsRecipe p x → IsRecipe p y → recipe p x ≡ recipe p y → x ≡ y
+pub recipe_same : (p : Presented) → IsPresented p → (x y : Recipe) → IsRecipe p x → IsRecipe p y → recipe p x ≡ recipe p y → x ≡ y
 recipe_same p known x y h k e =
     let names = names_of p known in
     let first = colon_first (made_text p.names) (IsMadeOf (length p.names)) (made_lacks p.names names) (λ m o a b f. made_same p.names names m o a b f) in

@@ -35,7 +35,7 @@ steps_are_over : (n : ℕ) (ss : List Step) → AreStepsOf n ss → StepsAreOver
 steps_are_over n [] h = tt
 steps_are_over n (s ∷ ss) h = (record { nonzero = h.0.nonzero; range = h.0.range; mono = h.0.mono.over }, steps_are_over n ss h.1)
 
-made_is_over : (n : ℕ) (m : Made) → IsMadeOf n m → MadeIsOver n m
+pub made_is_over : (n : ℕ) (m : Made) → IsMadeOf n m → MadeIsOver n m
 made_is_over n (Gen negated) h = tt
 made_is_over n (Sum steps) h = steps_are_over n steps h
 

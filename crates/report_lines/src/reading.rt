@@ -28,7 +28,7 @@ pub fn read_line(alloc: Global, p: &Presentation, text: &[u8]) -> Result<Option<
 }
 
 /// The line that the text spells.
-fn line_of(alloc: Global, p: &Presentation, text: &[u8]) -> Result<Line, SpellFault>
+pub(crate) fn line_of(alloc: Global, p: &Presentation, text: &[u8]) -> Result<Line, SpellFault>
     ensures { Reads (line_text p.now) (IsLineOf p.now) text.now result }
 {
     if text == b"seal".as_slice() {

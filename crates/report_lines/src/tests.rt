@@ -2,9 +2,13 @@
 
 ghost use Rattle.std.specs.Prelude.{IfOk};
 ghost use Rattle.report_lines.specs.Lines.{LineIsOver};
+ghost use Rattle.report_lines.specs.Trimmed.{TrimmedIsOver};
 
-use super::{Line, is_pres_line, is_title, read_line, write_line};
-use crate::laws::line_is_over;
+use super::{
+    Line, TrimmedLine, is_pres_line, is_title, is_trimmed_title, put_items_line, read_items_line,
+    read_line, read_trimmed_line, write_line, write_trimmed_line,
+};
+use crate::laws::{line_is_over, trimmed_line_is_over};
 use outcomes::Verdict;
 use presentation::{Presentation, read_presentation};
 use std::alloc::Global;
@@ -95,5 +99,56 @@ fn heads(rt: HostRuntime) -> Result<(), Fail> {
     assert!(rt; !is_title(b"metab report 2"));
     assert!(rt; is_pres_line(rt.alloc(), &p, b"pres <a, b | a b a^-1 b^-1> modulus 2")?);
     assert!(rt; !is_pres_line(rt.alloc(), &p, b"pres <a, b | a b a^-1 b^-1>")?);
+    Ok(())
+}
+
+/// The line of a trimmed report that the text spells, which can be written again.
+fn trimmed_line_of(alloc: Global, p: &Presentation, text: &str) -> Result<TrimmedLine, Fail>
+    ensures { IfOk result (λ line. TrimmedIsOver p.now line) }
+{
+    trimmed_line_is_over();
+    match read_trimmed_line(alloc, p, text.as_bytes())? {
+        Some(line) => Ok(line),
+        None => Err(Fail::from("no line")),
+    }
+}
+
+#[test]
+fn lines_of_trimmed_reports(rt: HostRuntime) -> Result<(), Fail> {
+    let p = read_presentation(rt.alloc(), PRES.as_bytes())?;
+    for text in [
+        "entry 0 from 0 gen - : +1*a@t +1*a'@a -1*t@a -1*1@t +1*1@a",
+        "entry 3 from 7 sum -1*a@1 +1*1@2 : +1*a@a -1*1@a",
+        "live 1 2 11 normal a : normal +1*1@a",
+        "done",
+    ] {
+        let line = trimmed_line_of(rt.alloc(), &p, text)?;
+        let out = write_trimmed_line(rt.alloc(), &p, &line)?;
+        assert_eq!(rt; out.as_slice(), text.as_bytes(), "{text}");
+    }
+    for text in [
+        "entry 0 gen + : +1*a'@a -1*1@a",
+        "entry 0 from gen + : +1*a'@a -1*1@a",
+        "entry 0 from 01 gen + : +1*a'@a -1*1@a",
+        "entry 0  from 1 gen + : +1*a'@a -1*1@a",
+        "entry 0 from 1 gen +: +1*a'@a -1*1@a",
+        "seal 1",
+    ] {
+        let line = read_trimmed_line(rt.alloc(), &p, text.as_bytes())?;
+        assert!(rt; line.is_none(), "{text}");
+    }
+    Ok(())
+}
+
+#[test]
+fn heads_of_trimmed_reports(rt: HostRuntime) -> Result<(), Fail> {
+    assert!(rt; is_trimmed_title(b"metab report 2"));
+    assert!(rt; !is_trimmed_title(b"metab report 1"));
+    assert!(rt; read_items_line(b"items 11") == Some(11));
+    assert!(rt; read_items_line(b"items 011").is_none());
+    assert!(rt; read_items_line(b"items").is_none());
+    let mut out = Vec::new(rt.alloc());
+    put_items_line(&mut out, 4_294_967_295)?;
+    assert_eq!(rt; out.as_slice(), b"items 4294967295".as_slice());
     Ok(())
 }

@@ -38,6 +38,12 @@ use Rattle.report_lines.specs.declared.lines.Line.TheVariants as lines
 use Rattle.report_lines.specs.Texts.{pres_line, spaced, coloned, made_text, stop_text, kind_text, task_text, measure_text, end_text, verdict_text, answer_text}
 use Rattle.report_lines.specs.Texts.{line_text}
 use Rattle.report_lines.specs.Lines.{IsStopOf, IsMadeOf, IsTask, IsEndOf, IsVerdictOf, IsAnswer, IsLineOf}
+use Rattle.report_lines.specs.declared.trimmed.TrimmedLine.{TrimmedLine}
+use Rattle.report_lines.specs.declared.trimmed.TrimmedLine.TheVariants as trimmed
+use Rattle.report_lines.specs.Trimmed.{items_line, recipe_text, trimmed_line_text, IsTrimmedLineOf}
+use Rattle.report_reading.specs.declared.form.Form.{Form}
+use Rattle.report_reading.specs.declared.form.Form.TheVariants.{Whole, Trimmed}
+use Rattle.report_reading.specs.Forms.{LineIn, IsLineIn, text_in}
 use Rattle.report_lines.proofs.Pairs.{literal}
 use Rattle.report_reading.proofs.WordBytes.{IsOneLine, number_line, join_line, presentation_line, question_line}
 
@@ -168,3 +174,23 @@ module _ (p : Presented) (known : IsPresented p) where
 
   pub head_line : IsOneLine (pres_line p)
   head_line = join_line (codes "pres ") (written_presentation p) (literal 10 (codes "pres ") refl) (presentation_line p known)
+
+  whole_trimmed_line : (l : TrimmedLine) → IsTrimmedLineOf p l → IsOneLine (trimmed_line_text p l)
+  whole_trimmed_line (trimmed.Entry number from made vector) h =
+      let last : IsOneLine (recipe_text p made vector) =
+      coloned_line (made_text p.names made) (vector_text p.names vector) (made_line p.names (names_of p known) made h.1.1.0)
+      (vector_line p.names (names_of p known) vector h.1.1.1) in
+      let placed : IsOneLine (codes "from " ++ spaced (decimal from) (recipe_text p made vector)) =
+      join_line (codes "from ") (spaced (decimal from) (recipe_text p made vector)) (literal 10 (codes "from ") refl)
+      (spaced_line (decimal from) (recipe_text p made vector) (small_line from h.1.0) last) in
+      join_line (codes "entry ") (spaced (decimal number) (codes "from " ++ spaced (decimal from) (recipe_text p made vector)))
+      (literal 10 (codes "entry ") refl)
+      (spaced_line (decimal number) (codes "from " ++ spaced (decimal from) (recipe_text p made vector)) (small_line number h.0) placed)
+  whole_trimmed_line (trimmed.Other l) h = whole_line l h.1
+
+  pub whole_line_in : (f : Form) (l : LineIn f) → IsLineIn f p l → IsOneLine (text_in f p l)
+  whole_line_in Whole l h = whole_line l h
+  whole_line_in (Trimmed n) l h = whole_trimmed_line l h
+
+pub items_whole : (n : ℕ) → IsSmall n → IsOneLine (items_line n)
+items_whole n h = join_line (codes "items ") (decimal n) (literal 10 (codes "items ") refl) (small_line n h)

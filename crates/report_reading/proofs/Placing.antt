@@ -4,13 +4,14 @@ use Rattle.std.specs.Prelude.{Option, Some, None, Result, Ok, Err, IfOk}
 use Rattle.presentation.specs.Presented.{Presented, IsPresented}
 use Rattle.module_vec.specs.declared.steps.Step.{Step}
 use Rattle.session_text.specs.declared.question.Question.{Question}
-use Rattle.report_lines.specs.declared.lines.Line.{Line}
-use Rattle.report_lines.specs.Lines.{IsLineOf}
-use Rattle.report_lines.specs.Texts.{line_text}
 use Rattle.report_lines.proofs.ReadingBack.{one_line}
+use Rattle.report_lines.proofs.TrimmedTexts.{one_trimmed_line}
 use Rattle.report_reading.specs.declared.replies.ReplyData.{ReplyData}
-use Rattle.report_reading.specs.Telling.{Told, MayFollow, IsNextOpen, with_proof}
-use Rattle.report_reading.specs.Reading.{TakesLine, TakesBytes}
+use Rattle.report_reading.specs.declared.form.Form.{Form}
+use Rattle.report_reading.specs.declared.form.Form.TheVariants.{Whole, Trimmed}
+use Rattle.report_reading.specs.Telling.{Told, IsNextOpen, with_proof}
+use Rattle.report_reading.specs.Forms.{LineIn, IsLineIn, text_in, FollowsIn, tell_in}
+use Rattle.report_reading.specs.Reading.{Takes, TakesBytes}
 
 -- the last reply gets one more proof
 pub proof_behind : (steps : List Step) (rs : List ReplyData) (r : ReplyData)
@@ -54,10 +55,15 @@ no_reply t s n place at q first none = (
     never_true wrong = cc
 
 -- the bytes of a line are those of no other
-pub line_taken : {E : Type 0} (p : Presented) (t : Told) (bytes : List ℕ) (line : Line) (r : Result (Option Told) E) → IsPresented p → IsLineOf p line
-    → bytes ≡ line_text p line
-    → IfOk r (TakesLine t line) → IfOk r (TakesBytes p t bytes)
-line_taken p t bytes line (Ok None) known valid is never =
-    λ l v follows spelled. never (subst (MayFollow t) (one_line p l line known v valid (sym spelled ∙ is)) follows)
-line_taken p t bytes line (Ok (Some u)) known valid is taken = record { line = line; valid = valid; spelled = is; follows = taken.0; is = taken.1 }
-line_taken p t bytes line (Err e) known valid is h = tt
+pub one_line_in : (f : Form) (p : Presented) (l m : LineIn f) → IsPresented p → IsLineIn f p l → IsLineIn f p m → text_in f p l ≡ text_in f p m → l ≡ m
+one_line_in Whole p l m known h k e = one_line p l m known h k e
+one_line_in (Trimmed n) p l m known h k e = one_trimmed_line p l m known h k e
+
+pub line_taken : {E : Type 0} (f : Form) (p : Presented) (t : Told) (bytes : List ℕ) (line : LineIn f) (r : Result (Option Told) E) → IsPresented p
+    → IsLineIn f p line
+    → bytes ≡ text_in f p line
+    → IfOk r (Takes (FollowsIn f) (tell_in f) t line) → IfOk r (TakesBytes f p t bytes)
+line_taken f p t bytes line (Ok None) known valid is never =
+    λ l v follows spelled. never (subst (FollowsIn f t) (one_line_in f p l line known v valid (sym spelled ∙ is)) follows)
+line_taken f p t bytes line (Ok (Some u)) known valid is taken = record { line = line; valid = valid; spelled = is; follows = taken.0; is = taken.1 }
+line_taken f p t bytes line (Err e) known valid is h = tt

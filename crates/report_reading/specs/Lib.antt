@@ -1,2 +1,4 @@
 pub mod Telling
+pub mod Trimmed
+pub mod Forms
 pub mod Reading

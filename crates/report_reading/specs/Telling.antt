@@ -1,4 +1,4 @@
--- What the lines of a report tell, and which line may follow them.
+-- What the lines of a whole report tell, and which line may follow them.
 use Rattle.std.specs.Prelude.{◌≡◌, ◌↔◌, ℕ, ◌+◌, ◌-◌, ◌<◌, ◌≤◌, Bool, true, false, if◌then◌else◌, List, [], ◌∷◌, ◌++◌}
 use Rattle.std.specs.Prelude.{length, drop, slice_get, Option, Some, None, IsSome}
 use Rattle.std.specs.Option.{unwrap_or}
@@ -7,6 +7,7 @@ use Rattle.std.specs.Ordering.{nat_cmp, ordering_then}
 use Rattle.std.specs.BTreeMap.{insert_entry, is_at}
 use Rattle.std.specs.Map.{lookup}
 use Rattle.word_text.specs.Place.{capped}
+use Rattle.module_vec.specs.declared.places.Term.{Term}
 use Rattle.module_vec.specs.declared.steps.Step.{Step}
 use Rattle.outcomes.specs.declared.ends.End.{End}
 use Rattle.outcomes.specs.declared.ends.End.TheVariants as ends
@@ -152,15 +153,33 @@ with_proof steps [] = []
 with_proof steps (r ∷ []) = record r { proofs = r.proofs ++ steps ∷ [] } ∷ []
 with_proof steps (r ∷ s ∷ rs) = r ∷ with_proof steps (s ∷ rs)
 
-abbrev pub tell : Told → Line → Told
-tell t (lines.Entry number made vector) =
+-- one more entry, whose number among the items is `from`
+abbrev pub tell_entry : Told → ℕ → Made → List Term → Told
+tell_entry t from made vector =
     record t {
-      from = t.from ++ number ∷ [];
+      from = t.from ++ from ∷ [];
       entries = t.entries ++ record {
-        recipe = recipe_of number made;
+        recipe = recipe_of from made;
         vector = vector;
       } ∷ [];
     }
+
+-- what is answered behind the end to the first question that is open
+abbrev pub tell_closing : Told → ℕ → ℕ → Question → Verdict → Told
+tell_closing t session front q v = record t {
+  replies = t.replies ++ record {
+    session = session;
+    question = q;
+    live = false;
+    front = front;
+    verdict = v;
+    proofs = [];
+  } ∷ [];
+  left_open = drop 1 t.left_open;
+}
+
+abbrev pub tell : Told → Line → Told
+tell t (lines.Entry number made vector) = tell_entry t number made vector
 tell t lines.Seal = record t { sealed = true }
 tell t (lines.Live session number front q v) = record t {
   replies = t.replies ++ record {
@@ -177,32 +196,28 @@ tell t (lines.Live session number front q v) = record t {
 }
 tell t (lines.Proof subject steps) = record t { replies = with_proof steps t.replies }
 tell t (lines.End end) = record t { end = Some end }
-tell t (lines.Close session number q v) = record t {
-  replies = t.replies ++ record {
-    session = session;
-    question = q;
-    live = false;
-    front = capped (item_count t);
-    verdict = v;
-    proofs = [];
-  } ∷ [];
-  left_open = drop 1 t.left_open;
-}
+tell t (lines.Close session number q v) = tell_closing t session (capped (item_count t)) q v
 tell t lines.Done = record t { finished = true }
 
 -- ---- all lines
 
 -- each of the lines may follow those before it, and from the first on they tell this
-abbrev pub Tell : Told → List Line → Told → Type 0
-Tell s [] t = s ≡ t
-Tell s (l ∷ ls) t = MayFollow s l × Tell (tell s l) ls t
+abbrev pub TellBy : {L : Type 0} → (Told → L → Type 0) → (Told → L → Told) → Told → List L → Told → Type 0
+TellBy May told s [] t = s ≡ t
+TellBy May told s (l ∷ ls) t = May s l × TellBy May told (told s l) ls t
 
--- the last line was told, and this is what was told
-pub record IsDataOf (t : Told) (d : ReportData) : Type 0 where
+abbrev pub Tell : Told → List Line → Told → Type 0
+Tell s ls t = TellBy MayFollow tell s ls t
+
+-- the last line was told, and this is what was told, of version v with n items
+pub record IsDataAs (v n : ℕ) (t : Told) (d : ReportData) : Type 0 where
   pub finished : t.finished ≡ true
-  pub version : d.version ≡ 1
-  pub items : d.items ≡ capped (item_count t)
+  pub version : d.version ≡ v
+  pub items : d.items ≡ n
   pub from : d.from ≡ t.from
   pub entries : d.entries ≡ t.entries
   pub replies : d.replies ≡ t.replies
   pub end : t.end ≡ Some d.end
+
+abbrev pub IsDataOf : Told → ReportData → Type 0
+IsDataOf t d = IsDataAs 1 (capped (item_count t)) t d

@@ -42,4 +42,11 @@ impl EntryList {
     {
         &self.list
     }
+
+    /// The entries themselves.
+    pub fn into_list(self) -> Vec<EntryData>
+        ensures { result.items ≡ self }
+    {
+        self.list
+    }
 }

@@ -71,7 +71,7 @@ impl Reader {
     }
 
     /// Whether the end isn't told yet, and no proof is due.
-    fn may_go_on(&self) -> bool
+    pub(crate) fn may_go_on(&self) -> bool
         ensures { IsTrue result ↔ MayGoOn self.now }
     {
         self.end.is_none() && self.is_shown()
@@ -108,7 +108,7 @@ impl Reader {
     }
 
     /// Whether the session's next question has this number.
-    fn is_next_number(&self, session: u32, number: u32) -> bool
+    pub(crate) fn is_next_number(&self, session: u32, number: u32) -> bool
         ensures { IsTrue result ↔ (number ≡ last_number self.now session + 1) }
     {
         number as u64 == self.last_number(session) as u64 + 1
@@ -125,7 +125,7 @@ impl Reader {
     }
 
     /// Whether no later session was answered at this front.
-    fn is_in_order(&self, session: u32, front: u32) -> bool
+    pub(crate) fn is_in_order(&self, session: u32, front: u32) -> bool
         ensures { IsTrue result ↔ IsInOrder session front (last_reply self.now) }
     {
         match self.replies.last() {

@@ -2,8 +2,10 @@
 
 ghost use Rattle.std.specs.Prelude.{◌≡◌, MatchOption, [], List, ℕ};
 ghost use Rattle.report_reading.specs.declared.data.ReportData.{ReportData};
-ghost use Rattle.report_reading.specs.Telling.{nothing, IsDataOf};
+ghost use Rattle.report_reading.specs.Telling.{nothing, IsDataAs};
+ghost use Rattle.report_reading.specs.Forms.{SaysIn};
 
+use crate::form::Form;
 use crate::{EntryData, EntryList, Numbers, ReplyData, ReplyList, ReportData};
 use outcomes::End;
 use std::alloc::Global;
@@ -60,10 +62,24 @@ impl Reader {
         }
     }
 
-    /// The data, if the last line was taken and no bytes are left.
-    pub fn into_data(self, rest: &[u8]) -> Option<ReportData>
-        ensures { MatchOption result ((d : ReportData) → rest.now ≡ [] → IsDataOf self d
-            → ⊥) (λ d. (rest.now ≡ []) × IsDataOf self d) }
+    /// The data of a report of this form, if the last line was taken and no bytes are left.
+    pub fn into_data(self, form: Form, rest: &[u8]) -> Option<ReportData>
+        ensures { MatchOption result ((d : ReportData) → rest.now ≡ [] → SaysIn form self d
+            → ⊥) (λ d. (rest.now ≡ []) × SaysIn form self d) }
+    {
+        match form {
+            Form::Whole => {
+                let items = self.item_count().min(u32::MAX as usize) as u32;
+                self.data_as(1, items, rest)
+            }
+            Form::Trimmed { items } => self.data_as(2, items, rest),
+        }
+    }
+
+    /// The data with these numbers of the version and of items, if the last line was taken and no bytes are left.
+    fn data_as(self, version: u8, items: u32, rest: &[u8]) -> Option<ReportData>
+        ensures { MatchOption result ((d : ReportData) → rest.now ≡ [] → IsDataAs version items self d
+            → ⊥) (λ d. (rest.now ≡ []) × IsDataAs version items self d) }
     {
         if !self.finished {
             return None;
@@ -71,11 +87,10 @@ impl Reader {
         if !rest.is_empty() {
             return None;
         }
-        let items = self.item_count();
         let end = self.end?;
         Some(ReportData {
-            version: 1,
-            items: items.min(u32::MAX as usize) as u32,
+            version,
+            items,
             from: Numbers::of(self.from),
             entries: EntryList::of(self.entries),
             replies: ReplyList::of(self.replies),

@@ -50,4 +50,11 @@ impl ReplyList {
     {
         &self.list
     }
+
+    /// The answers themselves.
+    pub fn into_list(self) -> Vec<ReplyData>
+        ensures { result.items ≡ self }
+    {
+        self.list
+    }
 }

@@ -5,9 +5,12 @@ ghost use Rattle.std.specs.BTreeMap.{insert_entry};
 ghost use Rattle.presentation.specs.Presented.{Presented};
 ghost use Rattle.report_lines.specs.Lines.{IsLineOf};
 ghost use Rattle.report_lines.specs.declared.lines.Line.TheVariants as lines;
-ghost use Rattle.report_reading.specs.Telling.{MayFollow, is_open, by_number, recipe_of, with_proof, tell};
+ghost use Rattle.report_reading.specs.declared.form.Form.TheVariants as forms;
+ghost use Rattle.report_reading.specs.Telling.{is_open, by_number, recipe_of, with_proof};
+ghost use Rattle.report_reading.specs.Telling.{tell_entry, tell_closing, tell};
 ghost use Rattle.report_reading.specs.Reading.{TakesLine, TakesBytes};
 
+use crate::form::Form;
 use crate::reader::Reader;
 use crate::{EntryData, ProofList, ReplyData};
 use basis_entry::Recipe;
@@ -20,14 +23,31 @@ use std::alloc::{AllocError, Global};
 use step_lists::Steps;
 
 impl Reader {
-    /// Takes the bytes of a line; `None` exactly where they are those of no line that may follow.
+    /// Takes the bytes of a line of a report of this form; `None` exactly where they are those of no line that may
+    /// follow.
     pub fn take_bytes(
+        self,
+        alloc: Global,
+        p: &Presentation,
+        form: Form,
+        bytes: &[u8],
+    ) -> Result<Option<Reader>, AllocError>
+        ensures { IfOk result (TakesBytes form p.now self bytes.now) }
+    {
+        match form {
+            Form::Whole => self.take_whole(alloc, p, bytes),
+            Form::Trimmed { items } => self.take_trimmed(alloc, p, items, bytes),
+        }
+    }
+
+    /// Takes the bytes of a line of a whole report.
+    fn take_whole(
         self,
         alloc: Global,
         p: &Presentation,
         bytes: &[u8],
     ) -> Result<Option<Reader>, AllocError>
-        ensures { IfOk result (TakesBytes p.now self bytes.now) }
+        ensures { IfOk result (TakesBytes forms.Whole p.now self bytes.now) }
     {
         p.known();
         match read_line(alloc, p, bytes)? {
@@ -54,8 +74,7 @@ impl Reader {
     }
 
     /// What the lines tell with this one.
-    fn with(self, alloc: Global, line: Line) -> Result<Reader, AllocError>
-        requires { MayFollow self line }
+    pub(crate) fn with(self, alloc: Global, line: Line) -> Result<Reader, AllocError>
         ensures { IfOk result (λ taken. taken ≡ tell self line) }
     {
         match line {
@@ -80,20 +99,29 @@ impl Reader {
                 question,
                 verdict,
                 ..
-            } => self.with_closing(alloc, session, question, verdict),
+            } => {
+                let front = self.item_count().min(u32::MAX as usize) as u32;
+                self.with_closing(alloc, session, front, question, verdict)
+            }
             Line::Seal => Ok(self.with_seal()),
             Line::End(end) => Ok(self.with_end(end)),
             Line::Done => Ok(self.with_done()),
         }
     }
 
-    fn with_entry(self, number: u32, made: Made, vector: ModVec) -> Result<Reader, AllocError>
-        ensures { IfOk result (λ taken. taken ≡ tell self (lines.Entry number made vector)) }
+    /// Takes an entry with its number among the items.
+    pub(crate) fn with_entry(
+        self,
+        from: u32,
+        made: Made,
+        vector: ModVec,
+    ) -> Result<Reader, AllocError>
+        ensures { IfOk result (λ taken. taken ≡ tell_entry self from made vector) }
     {
         let mut reader = self;
-        let recipe = recipe_of(number, made);
+        let recipe = recipe_of(from, made);
         reader.entries.push(EntryData { recipe, vector })?;
-        reader.from.push(number)?;
+        reader.from.push(from)?;
         Ok(reader)
     }
 
@@ -145,16 +173,17 @@ impl Reader {
         Ok(reader)
     }
 
-    fn with_closing(
+    /// Takes the answer behind the end to the first question that is open.
+    pub(crate) fn with_closing(
         self,
         alloc: Global,
         session: u32,
+        front: u32,
         question: Question,
         verdict: Verdict,
     ) -> Result<Reader, AllocError>
-        ensures { (n : ℕ) → IfOk result (λ taken. taken ≡ tell self (lines.Close session n question verdict)) }
+        ensures { IfOk result (λ taken. taken ≡ tell_closing self session front question verdict) }
     {
-        let front = self.item_count().min(u32::MAX as usize) as u32;
         let mut reader = self;
         let _first = reader.left_open.pop_first();
         reader.replies.push(ReplyData {

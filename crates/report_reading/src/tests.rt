@@ -1,11 +1,32 @@
 //! Whole reports, and texts that aren't.
 
 use crate::{ReportData, ReportFault, read_report};
+use basis_entry::Recipe;
 use presentation::{Presentation, read_presentation};
 use std::alloc::Global;
 use std::test::Fail;
 
 const PRES: &str = "<a, t | t a t^-1 a^-2>";
+
+/// A trimmed report in which each kind of line stands.
+const TRIMMED: &str = "metab report 2
+pres <a, t | t a t^-1 a^-2>
+items 9
+entry 0 from 2 gen - : +1*a@t +1*a'@a -1*t@a -1*1@t +1*1@a
+live 1 1 4 trivial a : unknown 1
+live 2 1 4 hom <s | s^2> -> a : fails 1
+live 1 2 5 trivial a : unknown 1
+entry 1 from 5 sum -1*a@0 +1*1@0 : +1*a@a -1*1@a
+live 1 3 8 normal a : stop 1 deep
+seal
+live 1 4 9 equal a^2 = t a t^-1 : trivial
+proof 1 +1*a@0 -1*a@1
+end sealed
+close 1 1 trivial a : not-trivial
+close 1 2 trivial a : not-trivial
+close 1 3 normal a : normal +1*1@a
+done
+";
 
 /// A report in which each kind of line stands.
 const TEXT: &str = "metab report 1
@@ -110,7 +131,7 @@ fn a_report_is_read(rt: HostRuntime) -> Result<(), Fail> {
 fn the_first_line_that_cant_stand_is_named(rt: HostRuntime) -> Result<(), Fail> {
     let p = read_presentation(rt.alloc(), PRES.as_bytes())?;
     for (old, new, line) in [
-        ("report 1", "report 2", 1),
+        ("report 1", "report 2", 3),
         ("t a t^-1 a^-2>\n", "t a t^-1 a^-2> \n", 2),
         ("entry 1", "entry 2", 6),
         ("entry 0", "entry 00", 3),
@@ -128,6 +149,56 @@ fn the_first_line_that_cant_stand_is_named(rt: HostRuntime) -> Result<(), Fail> 
         ("normal a : stop", "normal \0 : stop", 7),
     ] {
         let text = TEXT.replacen(rt.alloc(), old, new, 1)?;
+        let found = line_of(rt.alloc(), &p, text.as_bytes())?;
+        assert_eq!(rt; found, line, "{new}");
+    }
+    Ok(())
+}
+
+#[test]
+fn a_trimmed_report_is_read(rt: HostRuntime) -> Result<(), Fail> {
+    let p = read_presentation(rt.alloc(), PRES.as_bytes())?;
+    let Ok(data) = read_report(rt.alloc(), &p, TRIMMED.as_bytes()) else {
+        return Err("no report".into());
+    };
+    assert_eq!(rt; (data.version, data.items), (2, 9));
+    assert_eq!(rt; data.from.numbers(), [2, 5].as_slice());
+    let entries = data.entries.entries();
+    assert_eq!(rt; entries.len(), 2);
+    let Recipe::Gen { number, negated } = entries[0].recipe else {
+        return Err("no generator".into());
+    };
+    assert_eq!(rt; (number, negated), (2, true));
+    let replies = data.replies.replies();
+    assert_eq!(rt; replies.len(), 8);
+    assert_eq!(rt; (replies[3].front, replies[7].front), (8, 9));
+    Ok(())
+}
+
+#[test]
+fn the_first_line_that_cant_stand_when_trimmed(rt: HostRuntime) -> Result<(), Fail> {
+    let p = read_presentation(rt.alloc(), PRES.as_bytes())?;
+    for (old, new, line) in [
+        ("report 2", "report 3", 1),
+        ("items 9", "items 09", 3),
+        ("items 9", "items 8", 10),
+        ("items 9", "items 10", 11),
+        ("from 5", "from 2", 8),
+        ("from 5", "from 4", 8),
+        ("from 5", "from 8", 9),
+        ("from 5", "from 9", 8),
+        ("entry 1 from", "entry 2 from", 8),
+        ("from 2 gen", "from 4 gen", 5),
+        ("live 2 1 4", "live 2 1 3", 6),
+        ("live 1 2 5", "live 1 2 4", 7),
+        ("live 1 3 8", "live 1 3 9", 10),
+        ("live 1 3 8", "live 1 3 5", 9),
+        ("live 1 4 9", "live 1 4 8", 11),
+        ("seal\n", "", 12),
+        ("close 1 2 trivial a", "close 1 3 trivial a", 15),
+        ("done\n", "done\n\n", 18),
+    ] {
+        let text = TRIMMED.replacen(rt.alloc(), old, new, 1)?;
         let found = line_of(rt.alloc(), &p, text.as_bytes())?;
         assert_eq!(rt; found, line, "{new}");
     }

@@ -1,11 +1,8 @@
 -- Lists by their places.
-use Rattle.std.proofs.Common.{◌≡◌, ℕ, zero, suc, ◌+◌, ◌<◌, ◌≤◌, List, [], ◌∷◌, length, min, take, drop, get_or, slice_get, Some, refl, sym, ap, subst, ◌∙◌}
+use Rattle.std.proofs.Common.{◌≡◌, ℕ, zero, suc, ◌+◌, ◌<◌, ◌≤◌, List, [], ◌∷◌, length, take, drop, get_or, slice_get, Some, refl, sym, ap, subst, ◌∙◌}
 use Rattle.std.proofs.Common.{arith}
 use Rattle.std.specs.List.{AllByRecursion}
-use Rattle.std.proofs.lemmas.List.{take_all, take_min}
-use Rattle.module_vec.specs.declared.places.Term.{Term}
-use Rattle.module_vec.specs.Reducers.{AreEntries}
-use Rattle.reduce_cofactor.proofs.Resting.{entries_take}
+use Rattle.std.proofs.lemmas.List.{take_all}
 use Rattle.vector_text.specs.Over.{VectorIsOver}
 use Rattle.report_text.specs.Reports.{EntryIsOver}
 use Rattle.basis_entry.specs.Entries.{BasisEntry, vectors_of}

@@ -1,16 +1,15 @@
 -- The text of a whole report, piece by piece.
-use Rattle.std.proofs.Common.{◌≡◌, ℕ, List, [], ◌∷◌, ◌++◌, Option, Result, sym, ap, subst, ◌∙◌, append_assoc, append-nil}
+use Rattle.std.proofs.Common.{◌≡◌, ℕ, List, [], ◌∷◌, ◌++◌, Option, Result, Ok, Err, sym, ap, subst, ◌∙◌, append_assoc, append-nil}
+use Rattle.std.specs.Prelude.{OnOk}
 use Rattle.mb_io.specs.Shelf.{TakesPrefix}
-use Rattle.presentation.specs.Presented.{Presented}
-use Rattle.basis_entry.specs.Entries.{BasisEntry}
-use Rattle.basis_entry.specs.Seals.{Seal}
 use Rattle.session_core.specs.Sessions.{SessionState}
 use Rattle.report_lines.specs.declared.lines.Line.TheVariants as lines
 use Rattle.report_lines.specs.Texts.{title, pres_line, lines_text}
 use Rattle.report_text.specs.declared.faults.WriteFault.{WriteFault}
 use Rattle.report_text.specs.Writing.{Stops, Puts}
 use Rattle.report_text.specs.Histories.{History, told_from, item_lines, closing_of, lines_of}
-use Rattle.report_text.specs.Reports.{Reported, IsHistoryOf, text_of}
+use Rattle.report_text.specs.Logs.{LogItems}
+use Rattle.report_text.specs.Reports.{Reported, reported_of, IsHistoryOf, text_of}
 use Rattle.report_text.proofs.Orders.{line_piece}
 use Rattle.report_text.proofs.Written.{Goes, goes_from, goes_more, goes_stops, goes_puts, lines_append}
 
@@ -98,9 +97,11 @@ module _ (r : Reported) (h : History) (is : IsHistoryOf r h) (o : Option (List �
                       goes_puts o d e (text_of r h) (line_piece r.pres lines.Done ++ []) result behind_closings
                       (subst (λ t. Puts d t result e) (sym (append-nil (line_piece r.pres lines.Done))) puts)
 
--- what is said of the same log under other names
-pub moved_in : (P : Presented → List BasisEntry → Option Seal → List SessionState
-    → Type 0) (r : Reported) (p : Presented) (es : List BasisEntry) (seal : Option Seal) (ss : List SessionState)
-    → p ≡ r.pres → es ≡ r.entries → seal ≡ r.seal → ss ≡ r.sessions → P p es seal ss → P r.pres r.entries r.seal r.sessions
-moved_in P r p es seal ss a b c d h =
-    subst (λ x. P r.pres r.entries r.seal x) d (subst (λ x. P r.pres r.entries x ss) c (subst (λ x. P r.pres x seal ss) b (subst (λ x. P x es seal ss) a h)))
+-- what is reported of the log of a report is that report
+pub of_log : (r : Reported) (log : LogItems) (ss : List SessionState) → log ≡ record { pres = r.pres; entries = r.entries; seal = r.seal } → ss ≡ r.sessions
+    → reported_of log r.end ss ≡ r
+of_log r log ss x sessions = λ i. record { pres = (x i).pres; entries = (x i).entries; seal = (x i).seal; end = r.end; sessions = sessions i }
+
+pub ok_weaker : {P Q : Type 0} (r : Result (Unit {0}) WriteFault) → (P → Q) → OnOk r P → OnOk r Q
+ok_weaker (Ok u) f h = f h
+ok_weaker (Err e) f h = tt

@@ -1,5 +1,5 @@
 -- Which answers are right.
-use Rattle.std.specs.Prelude.{◌≡◌, ℕ, List, [], length, take, slice_get, Option, Some, None}
+use Rattle.std.specs.Prelude.{◌≡◌, ℕ, List, [], length, slice_get, Option, Some, None}
 use Rattle.free_words.specs.declared.letter.Letter.{Letter}
 use Rattle.presentation.specs.Presented.{Presented}
 use Rattle.module_vec.specs.declared.places.Term.{Term}
@@ -8,7 +8,7 @@ use Rattle.outcomes.specs.declared.verdicts.Verdict.{Verdict}
 use Rattle.outcomes.specs.declared.verdicts.Verdict.TheVariants as verdicts
 use Rattle.session_text.specs.declared.question.Question.{Question}
 use Rattle.session_text.specs.Questions.{subjects}
-use Rattle.basis_entry.specs.Entries.{BasisEntry, vectors_of}
+use Rattle.basis_entry.specs.Entries.{BasisEntry}
 use Rattle.basis_entry.specs.Items.{vectors_below, seal_below}
 use Rattle.basis_entry.specs.Seals.{Seal, item_count}
 use Rattle.session_core.specs.declared.kept.Kept.{Kept}

@@ -24,6 +24,7 @@ use Rattle.session_core.specs.Replies.{IsReply}
 use Rattle.session_core.specs.Sessions.{SessionState}
 use Rattle.report_text.specs.declared.report.Report.{Report}
 use Rattle.report_text.specs.Histories.{History, made_by, lines_of}
+use Rattle.report_text.specs.Logs.{LogItems}
 use Rattle.report_text.specs.Answers.{AreAnswered}
 
 -- a report as its readers see it
@@ -41,6 +42,16 @@ reported r = record {
   seal = option_map arc_value r.sealed;
   end = r.end;
   sessions = r.sessions.items;
+}
+
+-- what is reported of a log, with its end and the sessions
+abbrev pub reported_of : LogItems → End → List SessionState → Reported
+reported_of log end sessions = record {
+  pres = log.pres;
+  entries = log.entries;
+  seal = log.seal;
+  end = end;
+  sessions = sessions;
 }
 
 -- ---- what is told

@@ -16,6 +16,7 @@ use Rattle.vector_text.proofs.PlaceTexts.{some_pair}
 use Rattle.report_lines.specs.declared.lines.Made.{Made}
 use Rattle.report_lines.specs.declared.lines.Line.{Line}
 use Rattle.report_lines.specs.declared.lines.Line.TheVariants as lines
+use Rattle.report_lines.specs.declared.trimmed.TrimmedLine.TheVariants.{Other}
 use Rattle.report_lines.specs.Lines.{IsLineOf}
 use Rattle.report_lines.specs.Texts.{pres_line, line_text, lines_text}
 use Rattle.report_lines.proofs.Pairs.{literal}
@@ -205,7 +206,7 @@ module _ (p : Presented) (gens : List (List Term)) (es : List BasisEntry) (b : I
       let most = b.within.entries in
       let taken = entry_taken p gens (vectors_of (take k es)) k e (sym number) (omega (arith, number, within, most))
       (all_get IsBasisEntry es k e b.entries at) (all_get (EntryIsOver (length p.names)) es k e b.over at) (next_at k e at) in
-      let h = taken.hold (reached (vectors_of (take k es))) (record { phase = refl; entries = refl; settled = omega arith }) in
+      let h = taken.hold (reached (vectors_of (take k es))) (record { phase = refl; whole = refl; entries = refl; settled = omega arith }) in
       record { valid = h.0; turn = (next_at k e at).turn; is = (next_at k e at).is }
 
   pub listed : AreListed p 0 es
@@ -231,13 +232,13 @@ module _ (p : Presented) (gens : List (List Term)) (known : IsPresented p) where
       by : (k : LineKind) → EntryFails gens (vectors_of xs) (made_by z.recipe) z.vector (as_checked k)
           → MayFollow gens (reached (vectors_of xs)) (lines.Entry (length xs) (made_by z.recipe) z.vector) → ⊥
       by Text f follows = f
-      by NoEntry f follows = never_fails gens (reached (vectors_of xs)) (lines.Entry (length xs) (made_by z.recipe) z.vector) (as_checked NoEntry)
+      by NoEntry f follows = never_fails gens (reached (vectors_of xs)) (Other (lines.Entry (length xs) (made_by z.recipe) z.vector)) (as_checked NoEntry)
           follows s.is (follows, f)
-      by (NotEqual at) f follows = never_fails gens (reached (vectors_of xs)) (lines.Entry (length xs) (made_by z.recipe) z.vector) (as_checked (NotEqual at))
+      by (NotEqual at) f follows = never_fails gens (reached (vectors_of xs)) (Other (lines.Entry (length xs) (made_by z.recipe) z.vector))
+          (as_checked (NotEqual at)) follows s.is (follows, f)
+      by Wide f follows = never_fails gens (reached (vectors_of xs)) (Other (lines.Entry (length xs) (made_by z.recipe) z.vector)) (as_checked Wide)
           follows s.is (follows, f)
-      by Wide f follows = never_fails gens (reached (vectors_of xs)) (lines.Entry (length xs) (made_by z.recipe) z.vector) (as_checked Wide)
-          follows s.is (follows, f)
-      by Long f follows = never_fails gens (reached (vectors_of xs)) (lines.Entry (length xs) (made_by z.recipe) z.vector) (as_checked Long)
+      by Long f follows = never_fails gens (reached (vectors_of xs)) (Other (lines.Entry (length xs) (made_by z.recipe) z.vector)) (as_checked Long)
           follows s.is (follows, f)
 
   entry_stands : (xs : List BasisEntry) (z : BasisEntry) (k : LineKind) → Stands p gens (vectors_of xs) (length xs) z

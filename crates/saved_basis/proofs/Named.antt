@@ -12,8 +12,6 @@ use Rattle.vector_text.specs.Over.{VectorIsOver}
 use Rattle.report_lines.specs.Lines.{StopIsOver}
 use Rattle.fox_calculus.specs.Generators.{AreGenerators}
 use Rattle.cert_checker.specs.declared.faults.CertKind.TheVariants as checked
-use Rattle.cert_checker.specs.declared.phase.Phase.TheVariants.{Entries}
-use Rattle.cert_checker.specs.States.{start}
 use Rattle.cert_checker.proofs.Named.{entry_over}
 use Rattle.basis_entry.specs.Entries.{BasisEntry, IsBasisEntry, AreOf, vectors_of}
 use Rattle.pair_work.specs.Works.{Stops}
@@ -37,7 +35,7 @@ module _ (p : Presented) (known : IsPresented p) (gens : List (List Term)) (are 
   line_over es bytes Text over h = tt
   line_over es bytes NoEntry over h = tt
   line_over es bytes (NotEqual at) over h =
-      entry_over p known gens are (record start { phase = Entries; entries = vectors_of es }) h.0 h.1 (checked.NotEqual at)
+      entry_over p known gens are (vectors_of es) (length (vectors_of es)) h.0 h.1 (checked.NotEqual at)
       (vectors_over (length p.names) es over) h.2.may.turn h.2.valid.1.0 h.2.valid.1.1.over h.3
   line_over es bytes Wide over h = tt
   line_over es bytes Long over h = tt

@@ -1,7 +1,9 @@
 mod Generated
 pub mod SessionFiles
-mod SoloFound
+mod Found
 mod Replayed
 mod ReplayFound
 mod GivenLimits
+mod SaveFound
+mod LoadFound
 pub mod Settled

@@ -2,6 +2,11 @@ pub mod Limits
 pub mod Presentations
 pub mod Runs
 pub mod SessionFiles
+pub mod Found
 pub mod Solo
+pub mod Run
 pub mod Replay
 pub mod Generate
+pub mod Bases
+pub mod Save
+pub mod Load

@@ -31,3 +31,4 @@ pub record AreInTable (l : Limits) : Type 0 where
   pub least : LEAST_ENTRIES ≤ l.entries
   pub most : l.entries ≤ MOST_ENTRIES
   pub terms : l.terms ≡ LOG_TERMS
+  pub steps : l.steps ≡ LOG_STEPS

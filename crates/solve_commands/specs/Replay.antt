@@ -1,7 +1,6 @@
 -- What the command `replay` answers.
-use Rattle.std.specs.Prelude.{◌≡◌, ◌≢◌, ◌≤◌, ◌⊎◌, ℕ, List, [], ◌∷◌, length, Option, None, IfSome, Ok, option_map}
+use Rattle.std.specs.Prelude.{◌≡◌, ◌≤◌, ◌⊎◌, ℕ, List, [], ◌∷◌, length, Option, None, IfSome, Ok, option_map}
 use Rattle.presentation.specs.Presented.{Presented}
-use Rattle.presentation.specs.Reading.{presentation_text}
 use Rattle.session_text.specs.declared.question.Event.{Event}
 use Rattle.session_text.specs.declared.question.Question.{Question}
 use Rattle.session_text.specs.Schedule.{schedule_text}
@@ -11,9 +10,7 @@ use Rattle.interleave_core.specs.Machine.{State}
 use Rattle.interleave_core.specs.Opening.{IsOpened}
 use Rattle.interleave_core.specs.Runs.{Run}
 use Rattle.report_text.specs.Histories.{History}
-use Rattle.report_text.specs.Reports.{Reported, IsReportable, text_of}
-use Rattle.command_floor.specs.declared.status.Status.TheVariants.{Done, Open}
-use Rattle.command_floor.specs.declared.TheConstants.{PRESENTATION_BYTES}
+use Rattle.report_text.specs.Reports.{Reported, IsReportable}
 use Rattle.command_floor.specs.Answers.{Answer}
 use Rattle.command_floor.specs.Files.{in_lines, FileFails}
 use Rattle.command_floor.specs.Parsing.{GivenWords, shown}
@@ -21,10 +18,9 @@ use Rattle.legal_report.specs.Gathering.{questions_of}
 use Rattle.legal_report.specs.Solutions.{AreNewSessions, IsTrueReport, GoesOnFrom}
 use Rattle.solve_commands.specs.declared.replay.ReplayWords.{ReplayWords}
 use Rattle.solve_commands.specs.declared.schedules.TheConstants.{SCHEDULE_BYTES}
-use Rattle.solve_commands.specs.declared.sessions.TheConstants.{SESSIONS}
-use Rattle.solve_commands.specs.Limits.{limits_given, AreInTable}
+use Rattle.solve_commands.specs.Found.{FitTable, ShowsReport, NothingReported}
+use Rattle.solve_commands.specs.Limits.{limits_given}
 use Rattle.solve_commands.specs.Presentations.{IsPresentedIn}
-use Rattle.solve_commands.specs.Runs.{ShowsSettled}
 use Rattle.solve_commands.specs.SessionFiles.{SessionsFail, AreQuestionsUnder, session_names}
 
 -- what `replay` is asked: limits, and the names of a presentation, of a schedule and of the sessions
@@ -56,10 +52,8 @@ replay_asked w = record {
   sessions = shown w.sessions.items;
 }
 
--- the limits are those that options can give, and there aren't too many sessions
-pub record IsWithinTable (w : ReplayWords) : Type 0 where
-  pub limits : AreInTable w.limits
-  pub few : length w.sessions.items ≤ SESSIONS
+abbrev pub IsWithinTable : ReplayWords → Type 0
+IsWithinTable w = FitTable w.limits (length w.sessions.items)
 
 -- ---- what is reported
 
@@ -106,14 +100,6 @@ pub record IsFound (under : List ℕ → Option (List ℕ)) (q : ReplayAsked) (r
   pub asked : AreQuestionsUnder under p q.sessions questions
   pub replayed : IsReplayed p q.limits questions events r h
 
--- the answer is the text of such a report, and is done exactly where the report is settled
-pub record ShowsReplay (under : List ℕ → Option (List ℕ)) (q : ReplayAsked) (a : Answer) : Type 0 where
-  pub report : Reported
-  pub history : History
-  pub found : IsFound under q report history
-  pub text : a.text ≡ text_of report history
-  pub status : ShowsSettled history a.status
-
 -- the schedule's text has no value, or it has one, and one of the sessions' texts has none
 abbrev pub ScheduleFails : Type 0 → (List ℕ → Option (List ℕ)) → ReplayAsked → Presented → Answer → Type 0
 ScheduleFails counted under q p a =
@@ -121,12 +107,7 @@ ScheduleFails counted under q p a =
     ⊎ ((events : List Event) × IsScheduledIn under q.schedule (length q.sessions) events
     × SessionsFail counted under p q.sessions a)
 
--- Nothing is reported: the presentation's text has no value, or it has one, and one of the other texts has none
-abbrev pub ReplayFails : Type 0 → (List ℕ → Option (List ℕ)) → ReplayAsked → Answer → Type 0
-ReplayFails counted under q a = (a.status ≢ Done) × (a.status ≢ Open) × (
-    FileFails counted PRESENTATION_BYTES q.presentation (under q.presentation) (in_lines presentation_text) a
-    ⊎ ((p : Presented) × IsPresentedIn under q.presentation p × ScheduleFails counted under q p a))
-
 -- the answer that is due to `replay` over these texts; `counted` says that the shelf has counted a failure
 abbrev pub ReplayLeads : Type 0 → (List ℕ → Option (List ℕ)) → ReplayAsked → Answer → Type 0
-ReplayLeads counted under q a = ShowsReplay under q a ⊎ ReplayFails counted under q a
+ReplayLeads counted under q a = ShowsReport (IsFound under q) a
+    ⊎ NothingReported counted under q.presentation (ScheduleFails counted under q) a

@@ -1,6 +1,6 @@
 //! The command `solo`: a completion, and then the answers to all questions.
 
-ghost use Rattle.std.specs.Prelude.{◌≡◌, ◌≤◌, length, option_map, IfOk, IfErr, IfSome};
+ghost use Rattle.std.specs.Prelude.{◌≡◌, ◌≤◌, option_map, IfOk, IfErr, IfSome};
 ghost use Rattle.mb_io.specs.Shelf.{CountRose};
 ghost use Rattle.command_floor.specs.Files.{HasCause};
 ghost use Rattle.command_floor.specs.Parsing.{shown_given};
@@ -8,15 +8,14 @@ ghost use Rattle.command_floor.specs.Settings.{AreInRange};
 ghost use Rattle.solve_commands.specs.Runs.{GivesReport};
 ghost use Rattle.solve_commands.specs.Solo.{SoloLeads, solo_in, solo_asked, IsWithinTable};
 
-use crate::limits::{limits_given, opened};
-use crate::sessions::{load_sessions, session_names};
-use command_floor::{Given, Halt, load_presentation};
+use crate::begun::{Begun, begin};
+use crate::limits::limits_given;
+use crate::sessions::session_names;
+use command_floor::{Given, Halt};
 use legal_report::{Solved, solve};
 use mb_io::Shelf;
-use module_vec::VecList;
 use pair_book::Limits;
 use std::alloc::{AllocError, Global};
-use std::sync::Arc;
 
 /// What the command `solo` is asked: limits, and the names of a presentation and of the sessions.
 #[derive(Drop)]
@@ -51,10 +50,9 @@ pub fn report<S: Shelf>(alloc: Global, shelf: &mut S, words: &SoloWords) -> Resu
     ensures cause { IfErr result (HasCause (CountRose (S.faults shelf.old) (S.faults shelf.new))) }
     ensures later { S.faults shelf.old ≤ S.faults shelf.new }
 {
-    let p = load_presentation(alloc, shelf, words.presentation)?;
-    let p = Arc::new(alloc, p)?;
-    let book = opened(alloc, &p, words.limits)?;
-    let sessions = load_sessions(alloc, shelf, &p, &words.sessions, book.count())?;
-    let solved = solve(alloc, &p, book, sessions, words.limits)?;
+    let limits = words.limits;
+    let begun = begin(alloc, shelf, words.presentation, &words.sessions, limits)?;
+    let Begun { p, book, sessions } = begun;
+    let solved = solve(alloc, &p, book, sessions, limits)?;
     Ok(solved)
 }

@@ -9,7 +9,7 @@ use Rattle.check_commands.specs.declared.TheConstants.{REPORT_BYTES}
 use Rattle.command_floor.specs.Files.{in_lines, BytesLead}
 use Rattle.check_commands.specs.Check.{ReportLeads}
 use Rattle.command_floor.proofs.Leading.{gives_lead, bytes_lead}
-use Rattle.check_commands.proofs.Reports.{found_true, asked_true}
+use Rattle.check_commands.proofs.TrueReports.{found_true, asked_true}
 use Rattle.check_commands.proofs.check.answer.Goals as goal
 
 pub returns-clause-exact : goal.returns-clause-exact

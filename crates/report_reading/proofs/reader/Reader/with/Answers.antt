@@ -4,7 +4,3 @@ use Rattle.report_reading.proofs.reader.Reader.with.Goals as goal
 
 pub returns-in-Proof : goal.returns-in-Proof
 returns-in-Proof c = subst (λ l. IfOk c.with_proof.result (λ taken. taken ≡ tell c.args.self l)) (sym c.in-Proof.is) (c.with_proof.ensures c.in-Proof.subject)
-
-pub returns-in-Close : goal.returns-in-Close
-returns-in-Close c = subst (λ l. IfOk c.with_closing.result (λ taken. taken ≡ tell c.args.self l)) (sym c.in-Close.is)
-    (c.with_closing.ensures c.in-Close.number)

@@ -1,0 +1,2 @@
+mod TrueAnswers
+mod Legality

@@ -1,0 +1,5 @@
+pub mod Marking
+pub mod Keeping
+pub mod Pairing
+pub mod Again
+pub mod Once
