@@ -79,6 +79,26 @@ impl Mono {
         })
     }
 
+    /// The monomial with these exponents, which add up to at most [`DEGREE`].
+    pub fn of_variables(exponents: &[u16; VARIABLES]) -> Mono
+        requires { degree exponents.now ≤ DEGREE }
+        ensures is { result ≡ exponents.now }
+        ensures monomial { IsMonomial result }
+    {
+        Mono {
+            total: total(exponents),
+            exponents: *exponents,
+        }
+    }
+
+    /// The exponents of all variables.
+    pub fn exponents(&self) -> &[u16; VARIABLES]
+        ensures is { result.now ≡ self.now }
+        ensures monomial { IsMonomial self.now }
+    {
+        &self.exponents
+    }
+
     /// The exponent of the variable numbered `at`.
     pub fn exp(&self, at: u8) -> u16
         requires { at < VARIABLES }

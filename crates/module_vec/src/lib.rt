@@ -27,6 +27,7 @@ pub use lists::VecList;
 pub use places::{Place, Term};
 pub use range::{checked_difference, checked_product};
 pub use steps::Step;
+pub use sums::WideSum;
 pub use vectors::ModVec;
 
 /// The greatest absolute value of a coefficient, 2^127 - 1.

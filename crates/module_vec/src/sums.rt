@@ -80,14 +80,14 @@ fn total(first: i128, terms: &[Term]) -> Option<i128>
 /// A sum on its way, in two words: `low`, and `high` times 2^128. A part of a sum may leave the range where the whole
 /// one doesn't.
 #[derive(Clone, Copy)]
-struct WideSum {
-    low: i128,
-    high: i64,
+pub struct WideSum {
+    pub low: i128,
+    pub high: i64,
 }
 
 impl WideSum {
     /// The sum with `k`.
-    fn plus(self, k: i128) -> WideSum
+    pub fn plus(self, k: i128) -> WideSum
         requires { unsigned_abs self.high < 2 ^ 62 }
         ensures value { value_of result ≡ value_of self +ℤ k }
         ensures carry { unsigned_abs result.high ≤ unsigned_abs self.high + 1 }
