@@ -6,6 +6,7 @@ use Rattle.presentation.specs.Presented.{Presented, IsPresented}
 use Rattle.session_text.specs.declared.question.Question.{Question}
 use Rattle.session_text.specs.Questions.{HasSource}
 use Rattle.basis_entry.specs.Seals.{item_count}
+use Rattle.outcomes.specs.declared.ends.End.TheVariants.{Sealed}
 use Rattle.pair_book.specs.declared.limits.Limits.{Limits}
 use Rattle.pair_book.specs.Books.{Held, IsOpened}
 use Rattle.session_core.specs.declared.kept.Kept.{Kept}
@@ -20,7 +21,7 @@ use Rattle.legal_report.specs.TrueAnswers.{IsAfterSeal, AreTrueAnswers}
 use Rattle.legal_report.specs.Gathering.{questions_of, AreAskers, AreAnsweredOn, AreReplies}
 use Rattle.legal_report.specs.Solutions.{IsNewSession, AreNewSessions, IsConclusion, IsSolution}
 use Rattle.legal_report.proofs.Accepted.{holds_over}
-use Rattle.legal_report.proofs.TrueAnswers.{solved_answers}
+use Rattle.legal_report.proofs.TrueAnswers.{solved_answers, legal_answers}
 use Rattle.legal_report.proofs.Reportable.{all_from, stands}
 
 -- new sessions ask the book that was opened
@@ -96,7 +97,8 @@ solution limits p least ss r known sources new conclusion on =
         legal = conclusion.is_true.legal;
         by_all = by_all;
         told = told;
-        answers = solved_answers p limits (questions_of ss) r conclusion.history known (sourced ss sources) conclusion.is_true.legal by_all told;
+        answers = solved_answers p (questions_of ss) r conclusion.history (λ a. r.end ≡ Sealed) (λ a e. e) known (sourced ss sources)
+            (legal_answers p limits (questions_of ss) r conclusion.is_true.legal) by_all told;
         checked = conclusion.is_true.checked;
       };
     }

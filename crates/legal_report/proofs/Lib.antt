@@ -8,6 +8,6 @@ mod Answering
 mod Ranges
 pub mod Reportable
 mod Lasting
-mod TrueAnswers
+pub mod TrueAnswers
 mod Accepted
 mod Concluding

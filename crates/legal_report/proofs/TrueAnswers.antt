@@ -1,4 +1,4 @@
--- The answers of legal reports are true.
+-- The answers of reports by their log are true.
 use Rattle.std.proofs.Common.{◌≡◌, ℕ, ◌+◌, ◌<◌, Bool, true, false, nat_lt, if◌then◌else◌, List, length, take, Option, Some, None, slice_get, sym, ap, subst}
 use Rattle.std.proofs.Common.{◌∙◌, arith, refl}
 use Rattle.std.specs.List.{AllByRecursion}
@@ -14,7 +14,6 @@ use Rattle.basis_entry.specs.Entries.{BasisEntry, IsBasisEntry, AreOf, vectors_o
 use Rattle.basis_entry.specs.Seals.{Seal, item_count, IsStrongBasis}
 use Rattle.basis_entry.proofs.Vectors.{are_entries}
 use Rattle.pair_book.specs.declared.limits.Limits.{Limits}
-use Rattle.pair_book.specs.Logs.{IsLawful}
 use Rattle.completion_solo.specs.Ends.{Ends}
 use Rattle.session_core.specs.Questions.{CanBeAsked}
 use Rattle.session_core.specs.Sessions.{SessionState}
@@ -31,6 +30,7 @@ use Rattle.legal_report.specs.Legal.{IsLegal, IsLegalSession, AreByAll, seal_at}
 use Rattle.legal_report.proofs.Fronts.{seal_all}
 use Rattle.legal_report.specs.TrueAnswers.{IsAfterSeal, IsTrueReply, IsTrueAnswer, AreTrueAnswers}
 use Rattle.legal_report.proofs.Reportable.{all_from, all_at, stands}
+use Rattle.legal_report.specs.Answering.{IsAnswering}
 
 -- ---- the seal
 
@@ -72,38 +72,35 @@ sealed_below p es end front some =
 
 -- ---- one reply
 
-module _ (p : Presented) (limits : Limits) (base : ℕ) (es : List BasisEntry) (end : End) (known : IsPresented p) (lawful : IsLawful p base es)
-    (ends : Ends p limits es end) where
-  strong : end ≡ Sealed → IsStrongBasis p (vectors_of es)
-  strong e = subst (Ends p limits es) e ends
-
+module _ (p : Presented) (es : List BasisEntry) (end : End) (known : IsPresented p) (source : AreOf p es)
+    (own : AllByRecursion IsBasisEntry es) (strong : end ≡ Sealed → IsStrongBasis p (vectors_of es)) where
   sealed_for : (seal : Option Seal) → seal ≡ Some (record { source = p; entries = es }) → IsSealedFor p seal
   sealed_for seal e = subst (IsSealedFor p) (sym e) refl
 
   exact_by : (q : Question) (v : Verdict) (front : ℕ) (seal : Option Seal) → CanBeAsked p q → HasSource q → IsSealedBelow p es end front seal
       → IsVerdict p (vectors_of (take front es)) seal q v → IsExact p q v
-  exact_by q v front seal asked source below is =
-      strong_verdict p q (vectors_of es) seal v known asked source (are_entries es lawful.entries) (strong below.is_end) (sealed_for seal below.is_seal)
+  exact_by q v front seal asked sourced below is =
+      strong_verdict p q (vectors_of es) seal v known asked sourced (are_entries es own) (strong below.is_end) (sealed_for seal below.is_seal)
       (subst (λ (xs : List BasisEntry). IsVerdict p (vectors_of xs) seal q v) below.all is)
 
   true_reply : (q : Question) (a : Reply) → CanBeAsked p q → HasSource q → IsReplyTo p es (seal_at p es end) q a
       → IsTrueReply p (λ b. IsSome (seal_below es (seal_at p es end) b.front)) q a
-  true_reply q a asked source reply =
+  true_reply q a asked sourced reply =
       let below : List BasisEntry = take a.front es in
-      let entries : AllByRecursion IsBasisEntry below = all_first IsBasisEntry a.front es lawful.entries in
-      let of : AreOf p below = all_first (λ (e : BasisEntry). e.source ≡ p) a.front es lawful.source in
+      let entries : AllByRecursion IsBasisEntry below = all_first IsBasisEntry a.front es own in
+      let of : AreOf p below = all_first (λ (e : BasisEntry). e.source ≡ p) a.front es source in
       let seal : Option Seal = seal_below es (seal_at p es end) a.front in
       record {
         trivial = λ e. trivial_verdict p below (vectors_of below) seal q a.verdict known entries of asked refl reply.verdict e;
         extends = λ e. extends_verdict p below (vectors_of below) seal q a.verdict known entries of asked refl reply.verdict e;
-        exact = λ some. exact_by q a.verdict a.front seal asked source (sealed_below p es end a.front some) reply.verdict;
+        exact = λ some. exact_by q a.verdict a.front seal asked sourced (sealed_below p es end a.front some) reply.verdict;
       }
 
 -- ---- the whole report
 
-module _ (p : Presented) (limits : Limits) (questions : List (List Question)) (r : Reported) (known : IsPresented p)
+module _ (p : Presented) (questions : List (List Question)) (r : Reported) (known : IsPresented p)
     (sources : AllByRecursion (AllByRecursion HasSource) questions)
-    (is : IsLegal p limits questions r) (IsFinal : Reply → Type 0)
+    (is : IsAnswering p questions r) (IsFinal : Reply → Type 0)
     (live_final : (a : Reply) (i j : ℕ) (s : SessionState) (k : Kept) → slice_get r.sessions i ≡ Some s → slice_get s.kept j ≡ Some k → a.front ≡ k.front
     → IsFinal a → IsAfterSeal r a)
     (closing_final : (a : Reply) → a.front ≡ item_count r.entries r.seal → IsFinal a → IsAfterSeal r a) where
@@ -114,7 +111,7 @@ module _ (p : Presented) (limits : Limits) (questions : List (List Question)) (r
       subst (λ (z : Option Seal). IsReplyTo p r.entries z q a) is.seal (subst (λ (x : Presented). IsReplyTo x r.entries r.seal q a) is.pres reply) in
       let made : IsTrueReply p (IsAfterSeal r) q a =
       subst (λ (z : Option Seal). IsTrueReply p (λ b. IsSome (seal_below r.entries z b.front)) q a) (sym is.seal)
-      (true_reply p limits is.base r.entries r.end known is.lawful is.ends q a asked source here) in
+      (true_reply p r.entries r.end known is.source is.entries is.strong q a asked source here) in
       record { trivial = made.trivial; extends = made.extends; exact = λ h. made.exact (final h) }
 
   closing_is : (q : Question) (v : Verdict) (closing : Option Reply) → CanBeAsked p q → HasSource q → IsClosing r.pres r.entries r.seal q v closing
@@ -148,12 +145,12 @@ module _ (p : Presented) (limits : Limits) (questions : List (List Question)) (r
       session_is i s.0 qs.0 (i + 1) t s.1 (all_at (AllByRecursion HasSource) questions i qs.0 sources qs.1) (is.sessions i qs.0 s.0 qs.1 s.1)
       (told.answered.each i s.0 t s.1 at))
 
--- what a legal report answers is true
-pub true_answers : (p : Presented) (limits : Limits) (questions : List (List Question)) (r : Reported) (h : History) → IsPresented p
+-- what a report answers by its log is true
+pub true_answers : (p : Presented) (questions : List (List Question)) (r : Reported) (h : History) → IsPresented p
     → AllByRecursion (AllByRecursion HasSource) questions
-    → IsLegal p limits questions r → IsHistoryOf r h → AreTrueAnswers p (IsAfterSeal r) h
-true_answers p limits questions r h known sources is told =
-    answers_are p limits questions r known sources is (IsAfterSeal r) (λ a i j s k here kept front after. after) (λ a front after. after) h told
+    → IsAnswering p questions r → IsHistoryOf r h → AreTrueAnswers p (IsAfterSeal r) h
+true_answers p questions r h known sources is told =
+    answers_are p questions r known sources is (IsAfterSeal r) (λ a i j s k here kept front after. after) (λ a front after. after) h told
 
 -- a reply by all items of a sealed log is one by items that end with the seal
 after_seal : (p : Presented) (r : Reported) (front : ℕ) → r.seal ≡ seal_at p r.entries r.end → front ≡ item_count r.entries r.seal → r.end ≡ Sealed
@@ -163,14 +160,35 @@ after_seal p r front seal all e =
     seal_all r.entries r.seal front all ∙ seal ∙ ap (seal_at p r.entries) e in
     subst IsSome (sym is) refl
 
--- where all replies are by all items, they are exact where the log is sealed
-pub solved_answers : (p : Presented) (limits : Limits) (questions : List (List Question)) (r : Reported) (h : History) → IsPresented p
-    → AllByRecursion (AllByRecursion HasSource) questions
-    → IsLegal p limits questions r → AllByRecursion (λ s. AreByAll r.entries r.seal s.kept) r.sessions → IsHistoryOf r h
-    → AreTrueAnswers p (λ a. r.end ≡ Sealed) h
-solved_answers p limits questions r h known sources is by_all told =
-    answers_are p limits questions r known sources is (λ a. r.end ≡ Sealed)
+-- where all replies are by all items, and a final one is of a sealed log, final replies are exact
+pub solved_answers : (p : Presented) (questions : List (List Question)) (r : Reported) (h : History) (IsFinal : Reply → Type 0)
+    → ((a : Reply) → IsFinal a → r.end ≡ Sealed) → IsPresented p → AllByRecursion (AllByRecursion HasSource) questions
+    → IsAnswering p questions r → AllByRecursion (λ s. AreByAll r.entries r.seal s.kept) r.sessions → IsHistoryOf r h
+    → AreTrueAnswers p IsFinal h
+solved_answers p questions r h IsFinal end known sources is by_all told =
+    answers_are p questions r known sources is IsFinal
     (λ a i j s k here kept front e. after_seal p r a.front is.seal
     (front ∙ all_at (λ (x : Kept). x.front ≡ item_count r.entries r.seal) s.kept j k
-    (all_at (λ (x : SessionState). AreByAll r.entries r.seal x.kept) r.sessions i s by_all here) kept) e)
-    (λ a front e. after_seal p r a.front is.seal front e) h told
+    (all_at (λ (x : SessionState). AreByAll r.entries r.seal x.kept) r.sessions i s by_all here) kept) (end a e))
+    (λ a front e. after_seal p r a.front is.seal front (end a e)) h told
+
+-- a legal report answers by its log
+pub legal_answers : (p : Presented) (limits : Limits) (questions : List (List Question)) (r : Reported) → IsLegal p limits questions r
+    → IsAnswering p questions r
+legal_answers p limits questions r is = record {
+  pres = is.pres;
+  base = is.base;
+  source = is.lawful.source;
+  entries = is.lawful.entries;
+  strong = λ e. subst (Ends p limits r.entries) e is.ends;
+  seal = is.seal;
+  count = is.count;
+  sessions = is.sessions;
+}
+
+-- and what it answers is true
+pub legal_truth : (p : Presented) (limits : Limits) (questions : List (List Question)) (r : Reported) (h : History) → IsPresented p
+    → AllByRecursion (AllByRecursion HasSource) questions
+    → IsLegal p limits questions r → IsHistoryOf r h → AreTrueAnswers p (IsAfterSeal r) h
+legal_truth p limits questions r h known sources is told =
+    true_answers p questions r h known sources (legal_answers p limits questions r is) told

@@ -12,8 +12,23 @@ ghost use Rattle.report_text.specs.Reports.{Reported, IsHistoryOf, text_of};
 ghost use Rattle.report_acceptance.specs.Accepting.{IsKnown, told_amount};
 ghost use Rattle.legal_report.specs.Legal.{IsLegal};
 ghost use Rattle.legal_report.specs.TrueAnswers.{IsAfterSeal, AreTrueAnswers};
+ghost use Rattle.legal_report.specs.Answering.{IsAnswering};
 
 use report_acceptance::laws::written_reports_hold;
+
+/// What a report answers by its log is true, and exact where the items of a reply end with the seal, a limit that is
+/// named aside (Magnus 1939, Lichtblau 2012). Nothing else is asked of the log.
+pub fn answers_by_logs_are_true()
+    ensures { (p : Presented) (questions : List (List Question)) (r : Reported) (h : History)
+        → IsPresented p → AllByRecursion (AllByRecursion HasSource) questions →
+        IsAnswering p questions r → IsHistoryOf r h → AreTrueAnswers p (IsAfterSeal r) h }
+{}
+
+/// A legal report answers by its log.
+pub fn legal_reports_answer()
+    ensures { (p : Presented) (limits : Limits) (questions : List (List Question)) (r : Reported)
+        → IsLegal p limits questions r → IsAnswering p questions r }
+{}
 
 /// What a legal report answers is true: a word is `trivial` only where moves carry it to the empty word, and a map
 /// `extends` only where it does. Where the items of a reply end with the seal, these two are answered wherever they

@@ -27,7 +27,8 @@ use Rattle.legal_report.specs.Solutions.{IsNewSession}
 use Rattle.legal_report.proofs.Fronts.{all_get, map_get, rising_low, seal_all, take_items}
 use Rattle.legal_report.proofs.Reportable.{all_from, stands}
 use Rattle.loaded_report.specs.Loaded.{IsLegalLoaded, IsLoadedSolution, AreUnasked}
-use Rattle.loaded_report.proofs.TrueAnswers.{exact_answers, loaded_answers}
+use Rattle.legal_report.proofs.TrueAnswers.{solved_answers}
+use Rattle.loaded_report.proofs.TrueAnswers.{loaded_answers}
 
 sourced : (ss : List SessionState) → AllByRecursion IsSession ss → AllByRecursion (AllByRecursion HasSource) (questions_of ss)
 sourced [] all = tt
@@ -166,8 +167,8 @@ module _ (p : Presented) (es : List BasisEntry) (saved : IsSaved p es) (ss : Lis
         entries = refl;
         by_all = all_replies;
         told = subst (λ (x : Reported). IsHistoryOf x h) is told;
-        answers = exact_answers p (questions_of ss) made h known (sourced ss sources) (loaded_answers p (questions_of ss) made legal) refl all_replies
-            (subst (λ (x : Reported). IsHistoryOf x h) is told);
+        answers = solved_answers p (questions_of ss) made h (λ a. Unit {0}) (λ a e. refl) known (sourced ss sources)
+            (loaded_answers p (questions_of ss) made legal) all_replies (subst (λ (x : Reported). IsHistoryOf x h) is told);
         checked = subst (λ (x : Reported). TellsWhole x.pres (text_of x h) (Ok (told_amount x h))) is checked;
       };
     })
