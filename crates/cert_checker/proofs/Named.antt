@@ -177,7 +177,8 @@ module _ (p : Presented) (ok : IsPresented p) (gens : List (List Term)) (are : A
 
   disagrees_over : (s : State) (l : Line) (k : CertKind) → AllByRecursion (VectorIsOver n) s.entries → AreWords p s.subjects → IsLineOf p l → MayFollow gens s l
       → Disagrees gens s l k → KindIsOver n k
-  disagrees_over s (lines.Entry number made v) k all words valid follows h = entry_over s.entries (length s.entries) made v k all follows.3 valid.1.0 valid.1.1.over h
+  disagrees_over s (lines.Entry number made v) k all words valid follows h =
+      entry_over s.entries (length s.entries) made v k all follows.3 valid.1.0 valid.1.1.over h
   disagrees_over s lines.Seal k all words valid follows h = absurd h
   disagrees_over s (lines.Live session number front question verdict) k all words valid follows h = absurd h
   disagrees_over s (lines.Proof subject steps) k all words valid follows h =

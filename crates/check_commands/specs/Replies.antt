@@ -22,10 +22,12 @@ answers_of session live rs = filter (is_of session live) rs
 abbrev pub left_open : List ReplyData → ℕ
 left_open rs = length (filter (λ r. is_open r.verdict) rs)
 
--- where a question is left open by the answer to it, it is answered behind the end: behind the answers to those before it
+-- where a question is left open by the answer to it, it is answered behind the end: behind the answers to those before
+-- it
 abbrev pub last_answer : ℕ → ℕ → List ReplyData → ReplyData → Option ReplyData
 last_answer session place rs r =
-    if is_open r.verdict then slice_get (answers_of session false rs) (left_open (take place (answers_of session true rs)))
+    if is_open r.verdict then slice_get (answers_of session false rs)
+        (left_open (take place (answers_of session true rs)))
     else Some r
 
 -- the last answer to the session's question at a place

@@ -40,8 +40,8 @@ abbrev pub CheckedReportLeads : Presented → List ℕ → (ReportData → Answe
 CheckedReportLeads p name next bytes a = (read : Result ReportData ReportFault) × IsRead p bytes read
     × ReadingLeads p name bytes next read a
 
--- the answer that is due to a command that goes by a report, over these texts: the presentation is read, then the report,
--- and what this says goes on; `counted` says that the shelf has counted a failure
+-- the answer that is due to a command that goes by a report, over these texts: the presentation is read, then the
+-- report, and what this says goes on; `counted` says that the shelf has counted a failure
 abbrev pub ReportCommandLeads : Type 0 → (List ℕ → Option (List ℕ)) → List ℕ → List ℕ
     → (Presented → ReportData → Answer → Type 0) → Answer → Type 0
 ReportCommandLeads counted under presentation report next a =

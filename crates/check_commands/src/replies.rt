@@ -7,8 +7,8 @@ ghost use Rattle.check_commands.specs.Replies.{is_of, answers_of, left_open, rep
 use outcomes::Verdict;
 use report_reading::ReplyData;
 
-/// The answer to a question of a session, whose questions are numbered from 1: the one that was made while the log grew;
-/// or, where that leaves the question open, the one behind the end.
+/// The answer to a question of a session, whose questions are numbered from 1: the one that was made while the log
+/// grew; or, where that leaves the question open, the one behind the end.
 pub fn reply_to(replies: &[ReplyData], session: u32, question: u32) -> Option<&ReplyData>
     ensures { MatchOption result (reply_to session question replies.now ≡ None)
         (λ r. reply_to session question replies.now ≡ Some r.now) }

@@ -27,8 +27,8 @@ abbrev pub IsReady : Presented → Actor → Type 0
 IsReady p (Worker number seat) = row_source seat.row ≡ p
 IsReady p (Session s seat dry) = IsFresh p s seat dry
 
--- what a run leaves of a session and its seat: each reply that is kept is by the items below its front, and fronts are at
--- least the base and don't fall
+-- what a run leaves of a session and its seat: each reply that is kept is by the items below its front, and fronts are
+-- at least the base and don't fall
 pub record IsLeft (p : Presented) (s : SessionState) (seat : Seen) : Type 0 where
   pub source : row_source seat.row ≡ p
   pub questions : AllByRecursion (CanBeAsked p) s.questions

@@ -22,8 +22,8 @@ pub enum Actor<'r> {
         number: u32,
         seat: Seat<'r>,
     },
-    /// A session asks its questions, each by what its seat then sees. `dry` says that memory ran out, and the rest of the
-    /// questions is unasked.
+    /// A session asks its questions, each by what its seat then sees. `dry` says that memory ran out, and the rest of
+    /// the questions is unasked.
     Session {
         session: Session,
         seat: Seat<'r>,
@@ -54,8 +54,8 @@ impl<'r> Actor<'r> {
         }
     }
 
-    /// Asks the questions of a session. A pattern lends one part of an actor alone: while the session asks over its seat
-    /// it stands outside, and an empty one in its place.
+    /// Asks the questions of a session. A pattern lends one part of an actor alone: while the session asks over its
+    /// seat it stands outside, and an empty one in its place.
     fn ask<G: Gate, R: Wait>(
         &mut self,
         rt: &R,

@@ -15,12 +15,12 @@ use std::alloc::Global;
 use std::sync::{Arc, Mutex, Wait};
 use std::thread::{Threads, for_each_mut};
 
-/// Runs workers and sessions over a book and a row of the presentation, each in a call of its own, and so in a thread of
-/// its own where one can be made. It returns when all have ended.
+/// Runs workers and sessions over a book and a row of the presentation, each in a call of its own, and so in a thread
+/// of its own where one can be made. It returns when all have ended.
 ///
 /// Before it the sessions have kept no reply, and their questions can be asked. Each actor's own part is told: a seat's
-/// list only grows, a session is as it was but for its replies, each of which is the verdict by the items below its front,
-/// and `dry` is set exactly where a question has none. Where memory runs out in an actor that actor alone ends.
+/// list only grows, a session is as it was but for its replies, each of which is the verdict by the items below its
+/// front, and `dry` is set exactly where a question has none. Where memory runs out in an actor that actor alone ends.
 pub fn run_actors<'r, G: Gate + Sync, R: Threads + Wait + Sync>(
     rt: &R,
     alloc: Global,

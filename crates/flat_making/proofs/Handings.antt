@@ -260,7 +260,8 @@ all_get P (y ∷ xs) zero x all lt e = subst P (sym e) all.0
 all_get P (y ∷ xs) (suc n) x all lt e = all_get P xs n x all.1 (omega (arith, lt)) e
 
 -- where handing on fails, handing down does
-pub down_fails : (es : List EntryData) (first old new : Totals) (n : ℕ) (e : FlatFault) → ((handed : FormalSum Place) → Holds first handed → Reached es (suc n) old handed)
+pub down_fails : (es : List EntryData) (first old new : Totals) (n : ℕ) (e : FlatFault)
+    → ((handed : FormalSum Place) → Holds first handed → Reached es (suc n) old handed)
     → EntryAdds es n old new (Err e) → HandsDown es first new (Err e)
 down_fails es first old new n Beyond reached adds = λ handed held. reached_beyond es n old new handed (reached handed held) adds
 down_fails es first old new n NoMemory reached adds = tt

@@ -61,7 +61,8 @@ put_named old new k b e pushed f z gs ks h =
 -- ---- one after another
 
 pub names_none : (old : Kinds) → Names old [] [] old
-names_none old gs ks h = subst (λ (l : Sums). AreNamed l (ks ++ []) old) (sym (append-nil gs)) (subst (λ (l : Kinds). AreNamed gs l old) (sym (append-nil ks)) h)
+names_none old gs ks h =
+    subst (λ (l : Sums). AreNamed l (ks ++ []) old) (sym (append-nil gs)) (subst (λ (l : Kinds). AreNamed gs l old) (sym (append-nil ks)) h)
 
 pub names_both : (old mid new : Kinds) (a b : Sums) (j k : Kinds) → Names old a j mid → Names mid b k new → Names old (a ++ b) (j ++ k) new
 names_both old mid new a b j k f g gs ks h =
@@ -140,7 +141,8 @@ names_relators f g rs i r d j old mid new lt e number a b =
 pub names_up_to : (f : ℕ → Sums) (g : ℕ → Kinds) (i n : ℕ) (old new : Kinds) → i ≤ n → n ≤ i → Names old (f i) (g i) new → Names old (f n) (g n) new
 names_up_to f g i n old new le ge h = let e : i ≡ n = omega (arith, le, ge) in subst (λ (k : ℕ). Names old (f k) (g k) new) e h
 
-pub names_list : (f : List (List Letter) → Sums) (g : ℕ → Kinds) (xs ys : List (List Letter)) (i : ℕ) (old new : Kinds) → xs ≡ ys → length xs ≤ i → i ≤ length xs
+pub names_list : (f : List (List Letter) → Sums) (g : ℕ → Kinds) (xs ys : List (List Letter)) (i : ℕ) (old new : Kinds) → xs ≡ ys → length xs ≤ i
+    → i ≤ length xs
     → Names old (f (take i xs)) (g i) new → Names old (f ys) (g (length ys)) new
 names_list f g xs ys i old new e le ge h =
     let n : i ≡ length ys = omega (arith, le, ge, ap length e) in

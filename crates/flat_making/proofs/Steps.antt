@@ -75,7 +75,8 @@ pub shares_are : (number : ℕ) (row : List Share) (steps : List Step) → hands
 shares_are number [] steps = refl
 shares_are number (s ∷ row) steps = ap (λ v. handed_by s.k s.t steps ++ v) (shares_are number row steps)
 
-pub lines_are : (negated : Bool) (what : FlatKind) (number : ℕ) (row : List Share) → lines_of negated (Some what) (row_of number row) ≡ share_lines negated what row
+pub lines_are : (negated : Bool) (what : FlatKind) (number : ℕ) (row : List Share)
+    → lines_of negated (Some what) (row_of number row) ≡ share_lines negated what row
 lines_are negated what number [] = refl
 lines_are negated what number (s ∷ row) =
     ap (λ (ls : List Flat). (record { k = cond negated (neg_ℤ s.k) s.k; t = s.t; what = what }) ∷ ls) (lines_are negated what number row)

@@ -1,5 +1,5 @@
--- What a proof hands to entries, and entries to entries before them. A pair of an entry and an integer vector is written
--- as a place: the monomial of the vector, with the number of the entry as the component.
+-- What a proof hands to entries, and entries to entries before them. A pair of an entry and an integer vector is
+-- written as a place: the monomial of the vector, with the number of the entry as the component.
 use Rattle.std.specs.List.{AllByRecursion, flat_map}
 use Rattle.std.specs.Prelude.{◌≡◌, ◌≢◌, ℕ, zero, suc, ℤ, pos, List, [], ◌++◌, map, length, slice_index_or}
 use Rattle.std.specs.Prelude.{Result, Ok, Err}

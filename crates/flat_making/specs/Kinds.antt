@@ -32,9 +32,11 @@ candidate_kinds p = relator_kinds p ++ (binomial_kinds p ++ (unit_kinds p ++ mod
 -- of the kinds of these sums, those of the sums that aren't zero
 pub data AreNamed : List (FormalSum Place) → List (Option FlatKind) → List (Option FlatKind) → Type 0 where
   nothing : AreNamed [] [] []
-  left_out : (f : FormalSum Place) (kind : Option FlatKind) (fs : List (FormalSum Place)) (kinds : List (Option FlatKind))
+  left_out : (f : FormalSum Place) (kind : Option FlatKind) (fs : List (FormalSum Place))
+      (kinds : List (Option FlatKind))
       (named : List (Option FlatKind)) → IsZero f → AreNamed fs kinds named → AreNamed (f ∷ fs) (kind ∷ kinds) named
-  written : (f : FormalSum Place) (kind : Option FlatKind) (fs : List (FormalSum Place)) (kinds : List (Option FlatKind))
+  written : (f : FormalSum Place) (kind : Option FlatKind) (fs : List (FormalSum Place))
+      (kinds : List (Option FlatKind))
       (named : List (Option FlatKind)) → (IsZero f → ⊥) → AreNamed fs kinds named
       → AreNamed (f ∷ fs) (kind ∷ kinds) (kind ∷ named)
 

@@ -79,8 +79,8 @@ impl Handed {
         Ok(())
     }
 
-    /// Where something has `k` at `t`, hands it on by the steps: to the entry that a step names, `k` times its number at
-    /// the product of the monomials.
+    /// Where something has `k` at `t`, hands it on by the steps: to the entry that a step names, `k` times its number
+    /// at the product of the monomials.
     pub fn hand_on(&mut self, k: i128, t: &Mono, steps: &[Step]) -> Result<(), FlatFault>
         requires nonzero { k ≢ pos 0 }
         requires steps { AllByRecursion (λ s. s.q ≢ pos 0) steps.now }

@@ -48,5 +48,6 @@ pub fn certificates_of_proofs_are_accepted()
 #[tactic(auto, using(crate::proofs::Handings::handed_once, crate::proofs::Handings::handed_there))]
 pub fn what_is_handed_is_determined()
     ensures there { (es : List EntryData) (proof : List Step) → (all : FormalSum Place) × IsHanded es proof all }
-    ensures once { (es : List EntryData) (proof : List Step) (a b : FormalSum Place) → IsHanded es proof a → IsHanded es proof b → a ≡ b }
+    ensures once { (es : List EntryData) (proof : List Step) (a b : FormalSum Place)
+        → IsHanded es proof a → IsHanded es proof b → a ≡ b }
 {}

@@ -200,7 +200,8 @@ none_put p es seal s old = record {
   are = λ t h. sym (ap (λ (xs : List Answered). old ++ map last_kind xs) (take_none t.answers) ∙ append-nil old);
 }
 
-module _ (p : Presented) (es : List BasisEntry) (seal : Option Seal) (s : SessionState) (n : ℕ) (old now : List Kind) (to : ArePutTo p es seal s n old now) where
+module _ (p : Presented) (es : List BasisEntry) (seal : Option Seal) (s : SessionState) (n : ℕ) (old now : List Kind)
+    (to : ArePutTo p es seal s n old now) where
   pub one_put : IsReplied p es seal s → n < length s.questions → (kind : Kind) (next : List Kind) → IsLastKind p es seal s n kind → next ≡ now ++ kind ∷ []
       → ArePutTo p es seal s (n + 1) old next
   one_put replied lt kind next last is = record {

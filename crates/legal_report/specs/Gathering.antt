@@ -73,7 +73,8 @@ abbrev pub CanGoOn : Presented → List BasisEntry → Option Seal → SessionSt
 CanGoOn p es seal s = AllByRecursion (CanBeAsked p) s.questions × (last_front s ≤ item_count es seal)
 
 -- items that begin with others: the entries go on, but behind a seal nothing is added
-pub record GoesOn (es : List BasisEntry) (seal : Option Seal) (es2 : List BasisEntry) (seal2 : Option Seal) : Type 0 where
+pub record GoesOn (es : List BasisEntry) (seal : Option Seal) (es2 : List BasisEntry)
+    (seal2 : Option Seal) : Type 0 where
   pub more : List BasisEntry
   pub entries : es2 ≡ es ++ more
   pub sealed : seal ≢ None → (es2 ≡ es) × (seal2 ≡ seal)

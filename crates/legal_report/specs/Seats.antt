@@ -54,7 +54,8 @@ Keeps es seal old new = MatchOption old.1 (new ≡ old.0) (λ seat.
     (Begins seat es seal × (new ≡ old.0)) ⊎ ((Begins seat es seal → ⊥) × (new ≡ record old.0 { kept = [] })))
 
 -- so it is with each of them
-pub record AreKept (es : List BasisEntry) (seal : Option Seal) (olds : List Seated) (news : List SessionState) : Type 0 where
+pub record AreKept (es : List BasisEntry) (seal : Option Seal) (olds : List Seated)
+    (news : List SessionState) : Type 0 where
   pub count : length news ≡ length olds
   pub each : (i : ℕ) (old : Seated) (new : SessionState) → slice_get olds i ≡ Some old → slice_get news i ≡ Some new
       → Keeps es seal old new

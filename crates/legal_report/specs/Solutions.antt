@@ -17,8 +17,8 @@ use Rattle.legal_report.specs.Legal.{IsLegal, AreByAll}
 use Rattle.legal_report.specs.Gathering.{AreAnsweredOn}
 use Rattle.legal_report.specs.TrueAnswers.{IsAfterSeal, AreTrueAnswers}
 
--- The report is legal, and this is its history. What is answered is true, and exact by items that end with the seal. The
--- checker finds that all lines of the text hold, and counts its entries and proofs
+-- The report is legal, and this is its history. What is answered is true, and exact by items that end with the seal.
+-- The checker finds that all lines of the text hold, and counts its entries and proofs
 pub record IsTrueReport (p : Presented) (limits : Limits) (questions : List (List Question)) (r : Reported)
     (h : History) : Type 0 where
   pub legal : IsLegal p limits questions r
@@ -27,7 +27,8 @@ pub record IsTrueReport (p : Presented) (limits : Limits) (questions : List (Lis
   pub checked : TellsWhole p (text_of r h) (Ok (told_amount r h))
 
 -- the report can be written, and has a history, with which it is true
-pub record IsConclusion (p : Presented) (limits : Limits) (questions : List (List Question)) (r : Reported) : Type 0 where
+pub record IsConclusion (p : Presented) (limits : Limits) (questions : List (List Question))
+    (r : Reported) : Type 0 where
   pub reportable : IsReportable r
   pub history : History
   pub is_true : IsTrueReport p limits questions r history

@@ -1,7 +1,8 @@
 //! `gather`: the end of a run.
 
 ghost use Rattle.std.specs.List.{AllByRecursion};
-ghost use Rattle.std.specs.Prelude.{◌≡◌, ◌≢◌, ◌+◌, ◌≤◌, ◌++◌, ℕ, List, length, map, slice_get, Some, None, option_map, IfOk};
+ghost use Rattle.std.specs.Prelude.{◌≡◌, ◌≢◌, ◌+◌, ◌≤◌, ◌++◌, ℕ, List, length, map, slice_get, Some, None, option_map};
+ghost use Rattle.std.specs.Prelude.{IfOk};
 ghost use Rattle.std.specs.Prelude.{OnOk, ◌↔◌, IsTrue};
 ghost use Rattle.std.specs.Arc.{arc_value};
 ghost use Rattle.basis_entry.specs.Entries.{BasisEntry, AreOf, vectors_of};
@@ -199,9 +200,9 @@ fn reported_on(
     report(alloc, p, book, end, sessions)
 }
 
-/// Ends a run that waits for nobody, over a book of the presentation and sessions that have asked over it: gives back the
-/// tasks that are taken, completes the log, asks each question that has no reply yet by all items, and reports what was
-/// found.
+/// Ends a run that waits for nobody, over a book of the presentation and sessions that have asked over it: gives back
+/// the tasks that are taken, completes the log, asks each question that has no reply yet by all items, and reports what
+/// was found.
 pub fn gather_alone(
     alloc: Global,
     p: &Arc<Presentation>,

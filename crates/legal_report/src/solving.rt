@@ -49,7 +49,8 @@ impl Solved {
     }
 }
 
-/// Ends a run over a book of the presentation and of these limits, as [`gather_alone`] does, and finds the last verdicts.
+/// Ends a run over a book of the presentation and of these limits, as [`gather_alone`] does, and finds the last
+/// verdicts.
 pub fn conclude(
     alloc: Global,
     p: &Arc<Presentation>,

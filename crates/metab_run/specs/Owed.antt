@@ -23,9 +23,9 @@ pub record Owed : Type 1 where
   pub promises : Type 0
 
 -- A row for each command, over these texts; `counted` says that the shelf has counted a failure. Words that ask for no
--- command get no yes. A yes of `steps` or of `sum` promises that the word is trivial over the presentation that the file
--- spells, one of `check` that the report is true, and so does a certificate of `flat`; one of `load` promises that the
--- basis file holds a strong basis.
+-- command get no yes. A yes of `steps` or of `sum` promises that the word is trivial over the presentation that the
+-- file spells, one of `check` that the report is true, and so does a certificate of `flat`; one of `load` promises that
+-- the basis file holds a strong basis.
 abbrev pub owed : Type 0 → (List ℕ → Option (List ℕ)) → Option Request → Owed
 owed counted under None = record { leads = λ a. a ≡ refused_words; reports = ⊥; promises = ⊥ }
 owed counted under (Some (Steps q)) =

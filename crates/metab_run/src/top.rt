@@ -69,9 +69,9 @@ fn find<S: Shelf>(alloc: Global, words: &[String], shelf: &mut S) -> Result<Foun
 /// `replay` plays a schedule of workers and sessions first, and goes on as `solo` from the state to which that leads:
 /// the questions that were asked by then keep their answers, by the items of that moment.
 ///
-/// `flat` reads and checks a report, and writes the flat certificate of one of its proofs: lines over the relators alone,
-/// whose sum is the flat image of the subject's Fox vector. `sum` adds up such lines, and calls a word trivial where the
-/// sum is that of its Fox vector.
+/// `flat` reads and checks a report, and writes the flat certificate of one of its proofs: lines over the relators
+/// alone, whose sum is the flat image of the subject's Fox vector. `sum` adds up such lines, and calls a word trivial
+/// where the sum is that of its Fox vector.
 ///
 /// `save` writes the basis file of a completion that is sealed, and else its report. `load` tests such a file, line by
 /// line and task by task, whoever wrote it, and answers by its entries, with no completion.
@@ -89,9 +89,9 @@ pub fn metab_alone<S: Shelf, K: Sink>(
         (map string_bytes words.now)) (CountRose (K.faults out.old) (K.faults out.new)) (K.taken out.old)
         (K.taken out.new) result }
 
-    // A yes keeps what it promises: `steps` and `sum` say yes only to a word that moves carry to the empty word, `check`
-    // only to a report that is true, and `load` only by a file that holds a strong basis; `flat` writes certificates of
-    // true reports alone.
+    // A yes keeps what it promises: `steps` and `sum` say yes only to a word that moves carry to the empty word,
+    // `check` only to a report that is true, and `load` only by a file that holds a strong basis; `flat` writes
+    // certificates of true reports alone.
     ensures keeps { result ≡ Status.Done → (owed_alone (CountRose (S.faults shelf.old) (S.faults shelf.new))
         (S.under shelf.old) (map string_bytes words.now)).promises }
 
@@ -111,12 +111,13 @@ pub fn metab_alone<S: Shelf, K: Sink>(
 /// Does what the words of the command line ask, `run` as well, over the texts on the shelf, writes the answer, and says
 /// how it ended. Each command but `run` is left to [`metab_alone`].
 ///
-/// `run` has several workers complete the log while the sessions ask, each in a thread of its own where one can be made.
-/// However they take their turns, what it writes is one legal history. Each question is answered once, by the items below
-/// a front that is no shorter than any that its session was answered at before; where this leaves it open it is asked
-/// once more, of all items. A word is called trivial only where moves carry it to the empty word, with a proof that
-/// `check` accepts, and a map is said to extend only where it does. By items that end with the seal both are said
-/// wherever they hold, a limit that is named aside, and nothing is unknown (Fox 1953, Magnus 1939, Lichtblau 2012).
+/// `run` has several workers complete the log while the sessions ask, each in a thread of its own where one can be
+/// made. However they take their turns, what it writes is one legal history. Each question is answered once, by the
+/// items below a front that is no shorter than any that its session was answered at before; where this leaves it open
+/// it is asked once more, of all items. A word is called trivial only where moves carry it to the empty word, with a
+/// proof that `check` accepts, and a map is said to extend only where it does. By items that end with the seal both are
+/// said wherever they hold, a limit that is named aside, and nothing is unknown (Fox 1953, Magnus 1939, Lichtblau
+/// 2012).
 ///
 /// It holds for every presentation, every session and every order in which threads get the lock and read and set cells,
 /// if the call returns: each call that waits for another thread has to. That threads get on, how fast, in what order in

@@ -2,8 +2,8 @@
 //!
 //! A report says how completion went and what was answered: the entries with their recipes, the answers with their
 //! proofs, and the end. A trimmed report holds some of the entries, each with its number in the whole history. Here a
-//! line is taken by itself, without its line end, over the presentation of the report. Which lines may follow which, and
-//! whether they hold, is said elsewhere.
+//! line is taken by itself, without its line end, over the presentation of the report. Which lines may follow which,
+//! and whether they hold, is said elsewhere.
 #![tactic(auto)]
 
 mod answers;

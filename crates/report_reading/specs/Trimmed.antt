@@ -1,5 +1,5 @@
--- What the lines of a trimmed report tell, and which line may follow them. The items are those of the whole history, and
--- each entry that is kept has its number among them; the number of the seal is that of the items less 1.
+-- What the lines of a trimmed report tell, and which line may follow them. The items are those of the whole history,
+-- and each entry that is kept has its number among them; the number of the seal is that of the items less 1.
 use Rattle.std.specs.Prelude.{◌≡◌, ℕ, ◌+◌, ◌-◌, ◌<◌, ◌≤◌, true, false, length, slice_get, Option, Some, None}
 use Rattle.spelling.specs.Spelling.{IsSmall}
 use Rattle.session_text.specs.Questions.{first_long_image}

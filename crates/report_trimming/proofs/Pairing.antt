@@ -31,7 +31,8 @@ none_some e = cc
 some_same : {X : Type 0} {x y : X} → Some x ≡ Some y → x ≡ y
 some_same e = cc
 
-pub paired_first : {X Y : Type 0} (R : X → Y → Type 0) (xs : List X) (ys : List Y) (i : ℕ) (y : Y) → Pairwise R xs ys → slice_get ys i ≡ Some y → Paired R xs i y
+pub paired_first : {X Y : Type 0} (R : X → Y → Type 0) (xs : List X) (ys : List Y) (i : ℕ) (y : Y) → Pairwise R xs ys → slice_get ys i ≡ Some y
+    → Paired R xs i y
 paired_first R [] [] i y h is = absurd (none_some is)
 paired_first R [] (b ∷ ys) i y h is = absurd h
 paired_first R (a ∷ xs) [] i y h is = absurd h

@@ -35,7 +35,8 @@ pub data IsNeeded (Start : ℕ → Type 0) (es : List EntryData) : ℕ → Type 
   named : (j k : ℕ) (e : EntryData) → IsNeeded Start es j → slice_get es j ≡ Some e → Name (steps_in e.recipe) k
       → IsNeeded Start es k
 
--- so the used entries are the least set that holds each entry named in a proof, and each named in the recipe of a member
+-- so the used entries are the least set that holds each entry named in a proof, and each named in the recipe of a
+-- member
 abbrev pub IsUsed : ReportData → ℕ → Type 0
 IsUsed d k = IsNeeded (NamedInProof d.replies) d.entries k
 

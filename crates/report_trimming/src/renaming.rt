@@ -4,7 +4,8 @@ ghost use Rattle.std.specs.Prelude.{◌≡◌, ℕ, IfOk, List, slice_get, Some}
 ghost use Rattle.module_vec.specs.declared.steps.Step.{Step as AStep};
 ghost use Rattle.report_trimming.specs.Used.{Name, steps_in};
 ghost use Rattle.report_trimming.specs.Kept.{kept_by, IsMarked};
-ghost use Rattle.report_trimming.specs.Trimming.{Pairwise, AreStepsRenamed, IsRecipeRenamed, IsEntryRenamed, IsReplyRenamed};
+ghost use Rattle.report_trimming.specs.Trimming.{Pairwise, AreStepsRenamed, IsRecipeRenamed, IsEntryRenamed};
+ghost use Rattle.report_trimming.specs.Trimming.{IsReplyRenamed};
 
 use crate::kept::Kept;
 use basis_entry::Recipe;

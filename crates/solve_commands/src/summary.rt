@@ -4,7 +4,8 @@ ghost use Rattle.std.specs.Prelude.{◌≡◌, string_bytes, IfOk};
 ghost use Rattle.report_text.specs.Histories.{History};
 ghost use Rattle.report_text.specs.Reports.{reported, IsHistoryOf};
 ghost use Rattle.legal_report.specs.Last.{AreLastKinds};
-ghost use Rattle.solve_commands.specs.Generate.{end_word, head_text, words_text, maps_text, unsettled_text, summary_line};
+ghost use Rattle.solve_commands.specs.Generate.{end_word, head_text, words_text, maps_text, unsettled_text};
+ghost use Rattle.solve_commands.specs.Generate.{summary_line};
 ghost use Rattle.solve_commands.specs.Generate.{summary};
 
 use legal_report::{Kind, Solved};

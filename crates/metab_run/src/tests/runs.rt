@@ -1,5 +1,5 @@
-//! Runs of `run` by threads: which order they take is nobody's, but for what a gate holds, so the reports are asked only for what
-//! each of them has.
+//! Runs of `run` by threads: which order they take is nobody's, but for what a gate holds, so the reports are asked
+//! only for what each of them has.
 
 use super::{Status, run, shelf, sink, words};
 use crate::{Gate, OpenGate, metab};
@@ -114,8 +114,8 @@ fn waits(flag: &AtomicBool) -> bool {
     false
 }
 
-/// Holds a worker behind its first take until the session asks for the second time, and the session, before its third look, until
-/// the worker has taken its second task, and so has published what came of the first.
+/// Holds a worker behind its first take until the session asks for the second time, and the session, before its third
+/// look, until the worker has taken its second task, and so has published what came of the first.
 #[derive(Drop)]
 struct InTurn {
     has_taken: AtomicBool,

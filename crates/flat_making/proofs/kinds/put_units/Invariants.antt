@@ -6,4 +6,5 @@ use Rattle.flat_making.specs.Kinds.{Names}
 use Rattle.flat_making.proofs.kinds.put_units.Given as goal
 
 abbrev pub invariant-loop-c : goal.invariant-loop-c
-invariant-loop-c l = Names l.initial.made.items (map (binomial (unit_monomial l.g)) (range_with_len 0 l.c)) (map (λ c. None) (range_with_len 0 l.c)) l.made.items
+invariant-loop-c l = Names l.initial.made.items (map (binomial (unit_monomial l.g)) (range_with_len 0 l.c))
+    (map (λ c. None) (range_with_len 0 l.c)) l.made.items

@@ -14,7 +14,8 @@ loop-steps-preserved c =
     let read : slice_get c.args.proofs.now c.loop-steps.steps-index ≡ Some c.steps.result.now = search (rules, got) in
     record {
       size = c.mark_steps.ensures.length ∙ c.loop-steps.invariant.size;
-      set = proofs_next (IsMarked c.loop-steps.marks.items) (IsMarked c.mark_steps.new.marks.items) c.mark_steps.ensures.kept c.args.proofs.now c.loop-steps.steps-index
+      set = proofs_next (IsMarked c.loop-steps.marks.items)
+          (IsMarked c.mark_steps.new.marks.items) c.mark_steps.ensures.kept c.args.proofs.now c.loop-steps.steps-index
           c.steps.result.now read c.loop-steps.invariant.set
           (step_named c.mark_steps.new.marks.items c.steps.result.now c.mark_steps.ensures.set);
       kept = λ k h. c.mark_steps.ensures.kept k (c.loop-steps.invariant.kept k h);

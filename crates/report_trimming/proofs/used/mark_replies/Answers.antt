@@ -23,7 +23,8 @@ loop-reply-preserved c =
     let read = got c.args.replies.now c.loop-reply.reply-index c.reply-item.result c.loop-reply-test.true c.reply-item.is in
     record {
       size = c.mark_proofs.ensures.length ∙ c.loop-reply.invariant.size;
-      set = replies_next (IsMarked c.loop-reply.marks.items) (IsMarked c.mark_proofs.new.marks.items) c.mark_proofs.ensures.kept c.args.replies.now c.loop-reply.reply-index
+      set = replies_next (IsMarked c.loop-reply.marks.items)
+          (IsMarked c.mark_proofs.new.marks.items) c.mark_proofs.ensures.kept c.args.replies.now c.loop-reply.reply-index
           c.reply-item.result read c.loop-reply.invariant.set c.mark_proofs.ensures.set;
       kept = λ k h. c.mark_proofs.ensures.kept k (c.loop-reply.invariant.kept k h);
       only = replies_only c.args.marks.now.items c.loop-reply.marks.items c.mark_proofs.new.marks.items c.args.replies.now c.loop-reply.reply-index
