@@ -94,7 +94,7 @@ fn words_of_run_are_refused(rt: HostRuntime) -> Result<(), Fail> {
     for line in lines {
         let shelf = files(alloc, "<a|>", "q", b"")?;
         let (status, out) = run_with(&rt, alloc, line, shelf, &OpenGate)?;
-        assert!(rt; status == Status::WordsRefused && out.taken() == b"refused words\n");
+        assert!(rt; status == Status::WordsRefused && out.taken() == b"refused words\n".as_slice());
     }
     // Where nobody is waited for there is no such command.
     let shelf = files(alloc, "<a|>", "q", b"")?;
