@@ -1,4 +1,4 @@
-use Rattle.std.proofs.Common.{List, ℕ, Ok, map, string_bytes, subst}
+use Rattle.std.proofs.Common.{◌≡◌, List, ℕ, Option, Ok, map, string_bytes, subst}
 use Rattle.mb_io.specs.Shelf.{CountRose}
 use Rattle.metab_run.specs.declared.top.Found.{Found}
 use Rattle.metab_run.specs.declared.top.Found.TheVariants.{Reports, Saves}
@@ -30,6 +30,9 @@ returns-in-Ok-Saves-clause-ends g c =
     let seal : Seal = arc_value c.in-Ok-Saves.seal in
     let finds : FindsOwed o counted (Ok (Saves c.in-Ok-Saves.seal)) =
     subst (λ (f : Found). FindsOwed o counted (Ok f)) c.in-Ok-Saves.field-0-is c.in-Ok-Saves.ensures.finds in
-    let written : DeliversBasis failed (g.K.Sink.taken c.args.out.now) (g.K.Sink.taken c.deliver_basis.new.out) seal c.deliver_basis.result =
-    search rules in
-    file_ends o seal finds failed (g.K.Sink.taken c.args.out.now) (g.K.Sink.taken c.deliver_basis.new.out) c.deliver_basis.result written
+    let old : Option (List ℕ) = g.K.Sink.taken c.args.out.now in
+    let new : Option (List ℕ) = g.K.Sink.taken c.deliver_basis.new.out in
+    let same : c.deref.result.now ≡ seal = search rules in
+    let written : DeliversBasis failed old new seal c.deliver_basis.result =
+    subst (λ (s : Seal). DeliversBasis failed old new s c.deliver_basis.result) same c.deliver_basis.ensures.written in
+    file_ends o seal finds failed old new c.deliver_basis.result written
