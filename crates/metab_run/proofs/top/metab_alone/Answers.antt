@@ -1,4 +1,4 @@
-use Rattle.std.proofs.Common.{◌≡◌, List, ℕ, Option, Ok, map, string_bytes, subst}
+use Rattle.std.proofs.Common.{◌≡◌, List, ℕ, Option, Ok, map, string_bytes, subst, rules}
 use Rattle.mb_io.specs.Shelf.{CountRose}
 use Rattle.metab_run.specs.declared.top.Found.{Found}
 use Rattle.metab_run.specs.declared.top.Found.TheVariants.{Reports, Saves}
