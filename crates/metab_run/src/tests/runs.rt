@@ -41,15 +41,15 @@ fn files(alloc: Global, p: &str, name: &str, other: &[u8]) -> Result<MemShelf, A
     shelf(alloc, &[("p", p.as_bytes()), (name, other)], &[])
 }
 
-// The last line of the text that begins with one of these.
-fn last_of<'a>(text: &'a str, live: &str, close: &str) -> &'a str {
-    let mut last = "";
+// Whether the last line of the text that begins with one of these ends so.
+fn says_last(text: &str, live: &str, close: &str, verdict: &str) -> bool {
+    let mut says = false;
     for line in text.lines() {
         if line.starts_with(live) || line.starts_with(close) {
-            last = line;
+            says = line.ends_with(verdict);
         }
     }
-    last
+    says
 }
 
 #[test]
@@ -77,7 +77,7 @@ fn sessions_end_with_the_verdicts_of_one_thread(rt: HostRuntime) -> Result<(), F
         ("live 3 2 ", "close 3 2 ", " : normal +1*1@a"),
         ("live 3 3 ", "close 3 3 ", " : trivial"),
     ] {
-        assert!(rt; last_of(text, live, close).ends_with(verdict), "{live}");
+        assert!(rt; says_last(text, live, close, verdict), "{live}");
     }
     Ok(())
 }
