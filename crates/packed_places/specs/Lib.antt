@@ -1,0 +1,9 @@
+pub mod Digits
+pub mod Positional
+pub mod Rows
+pub mod Pairs
+pub mod Borrows
+pub mod Packing
+pub mod Packings
+pub mod Orders
+pub mod Widths
