@@ -1,5 +1,6 @@
 -- How a row of lanes is written.
-use Rattle.std.proofs.Common.{◌≡◌, ◌≢◌, ℕ, zero, suc, ◌+◌, ◌-◌, ◌*◌, ◌<◌, ◌≤◌, Bool, true, false, ◌&&◌, nat_le, List, [], ◌∷◌, ◌++◌, length, take, slice_index, slice_set, ◌↔◌, IsTrue, refl, sym, ap, ◌∙◌, arith, length-take-le}
+use Rattle.std.proofs.Common.{◌≡◌, ◌≢◌, ℕ, zero, suc, ◌+◌, ◌-◌, ◌*◌, ◌<◌, ◌≤◌, Bool, true, false, ◌&&◌, nat_le, List, [], ◌∷◌, ◌++◌, length, take, slice_index}
+use Rattle.std.proofs.Common.{slice_set, ◌↔◌, IsTrue, refl, sym, ap, ◌∙◌, arith, length-take-le}
 use borrow.Author.Count.{below_more}
 use Rattle.std.proofs.lemmas.Grind.{common_steps}
 use Rattle.std.proofs.Math.ListN.{length-set}
@@ -7,7 +8,8 @@ use Rattle.packed_places.specs.Digits.{AreDigits, digits}
 use Rattle.packed_places.specs.Positional.{digits_of}
 use Rattle.packed_places.specs.Packing.{zeros, front, place_of}
 
-pub prefix_is : (n : ℕ) (xs m : List ℕ) (c : ℕ) → n < length xs → n ≤ length m → ((k : ℕ) → k < n → slice_index xs k ≡ slice_index m k) → slice_index xs n ≡ c → take (suc n) xs ≡ take n m ++ c ∷ []
+pub prefix_is : (n : ℕ) (xs m : List ℕ) (c : ℕ) → n < length xs → n ≤ length m → ((k : ℕ) → k < n → slice_index xs k ≡ slice_index m k) → slice_index xs n ≡ c
+    → take (suc n) xs ≡ take n m ++ c ∷ []
 prefix_is n [] m c h l e f = absurd (omega (arith, h))
 prefix_is zero (x ∷ xs) m c h l e f = λ i. f i ∷ []
 prefix_is (suc n) (x ∷ xs) [] c h l e f = absurd (omega (arith, l))
@@ -16,7 +18,8 @@ prefix_is (suc n) (x ∷ xs) (y ∷ m) c h l e f =
     let rest : take (suc n) xs ≡ take n m ++ c ∷ [] = prefix_is n xs m c (omega (arith, h)) (omega (arith, l)) (λ k p. e (suc k) (omega (arith, p))) f in
     λ i. first i ∷ rest i
 
-pub row_is : (n : ℕ) (xs m : List ℕ) (d c : ℕ) → suc n < length xs → n ≤ length m → slice_index xs 0 ≡ d → ((k : ℕ) → 1 ≤ k → k < n + 1 → slice_index xs k ≡ slice_index m (k - 1)) → slice_index xs (n + 1) ≡ c → take (n + 2) xs ≡ d ∷ (take n m ++ c ∷ [])
+pub row_is : (n : ℕ) (xs m : List ℕ) (d c : ℕ) → suc n < length xs → n ≤ length m → slice_index xs 0 ≡ d
+    → ((k : ℕ) → 1 ≤ k → k < n + 1 → slice_index xs k ≡ slice_index m (k - 1)) → slice_index xs (n + 1) ≡ c → take (n + 2) xs ≡ d ∷ (take n m ++ c ∷ [])
 row_is n [] m d c h l e f g = absurd (omega (arith, h))
 row_is n (x ∷ xs) m d c h l e f g =
     let inner : (k : ℕ) → k < n → slice_index xs k ≡ slice_index m k = λ k p. f (suc k) (omega arith) (omega (arith, p)) ∙ ap (slice_index m) (less k) in
@@ -43,7 +46,8 @@ zeros_behind zero (x ∷ m) (suc v) e l h =
 zeros_behind (suc n) [] v e l h = absurd (omega (arith, e, l))
 zeros_behind (suc n) (x ∷ m) zero e l h = absurd (omega (arith, e))
 zeros_behind (suc n) (x ∷ m) (suc v) e l h =
-    let rest : m ≡ take n m ++ zeros (v - n) = zeros_behind n m v (omega (arith, e)) (omega (arith, l)) (λ k p q. h (suc k) (omega (arith, p)) (omega (arith, q))) in
+    let rest : m ≡ take n m ++ zeros (v - n) =
+    zeros_behind n m v (omega (arith, e)) (omega (arith, l)) (λ k p q. h (suc k) (omega (arith, p)) (omega (arith, q))) in
     let same : v - n ≡ suc v - suc n = omega arith in
     (λ i. x ∷ rest i) ∙ ap (λ j. x ∷ take n m ++ zeros j) same
 
@@ -72,18 +76,22 @@ index_set : (xs : List ℕ) (i k x : ℕ) → i ≢ k → slice_index (slice_set
 index_set xs i k x h = grind (arith, common_steps)
 
 -- what the two writes leave
-pub row_set : (n : ℕ) (xs m : List ℕ) (d c : ℕ) → n ≤ 48 → length xs ≡ 50 → length m ≡ 48 → ((k : ℕ) → 1 ≤ k → k < n + 1 → slice_index xs k ≡ slice_index m (k - 1)) → take (n + 2) (slice_set (slice_set xs 0 d) (n + 1) c) ≡ d ∷ (take n m ++ c ∷ [])
+pub row_set : (n : ℕ) (xs m : List ℕ) (d c : ℕ) → n ≤ 48 → length xs ≡ 50 → length m ≡ 48
+    → ((k : ℕ) → 1 ≤ k → k < n + 1 → slice_index xs k ≡ slice_index m (k - 1))
+    → take (n + 2) (slice_set (slice_set xs 0 d) (n + 1) c) ≡ d ∷ (take n m ++ c ∷ [])
 row_set n xs m d c h l v e =
     let ys : List ℕ = slice_set (slice_set xs 0 d) (n + 1) c in
     let long : length ys ≡ 50 = length-set (slice_set xs 0 d) (n + 1) c ∙ length-set xs 0 d ∙ l in
     let first : slice_index ys 0 ≡ d = grind (arith, common_steps) in
     let final : slice_index ys (n + 1) ≡ c = grind (arith, common_steps) in
-    row_is n ys m d c (omega (arith, long, h)) (omega (arith, v, h)) first (λ k p q. index_set (slice_set xs 0 d) (n + 1) k c (omega (arith, q)) ∙ index_set xs 0 k d (omega (arith, p)) ∙ e k p q) final
+    row_is n ys m d c (omega (arith, long, h)) (omega (arith, v, h)) first
+    (λ k p q. index_set (slice_set xs 0 d) (n + 1) k c (omega (arith, q)) ∙ index_set xs 0 k d (omega (arith, p)) ∙ e k p q) final
 
 set_here : (xs : List ℕ) (i x : ℕ) → i < length xs → slice_index (slice_set xs i x) i ≡ x
 set_here xs i x h = grind (arith, common_steps)
 
-pub shifted_more : (xs m : List ℕ) (i x : ℕ) → i < length xs → x ≡ slice_index m (i - 1) → ((k : ℕ) → 1 ≤ k → k < i → slice_index xs k ≡ slice_index m (k - 1)) → (k : ℕ) → 1 ≤ k → k < i + 1 → slice_index (slice_set xs i x) k ≡ slice_index m (k - 1)
+pub shifted_more : (xs m : List ℕ) (i x : ℕ) → i < length xs → x ≡ slice_index m (i - 1) → ((k : ℕ) → 1 ≤ k → k < i → slice_index xs k ≡ slice_index m (k - 1))
+    → (k : ℕ) → 1 ≤ k → k < i + 1 → slice_index (slice_set xs i x) k ≡ slice_index m (k - 1)
 shifted_more xs m i x h e f k p q =
     let P : ℕ → Type 0 = λ j. 1 ≤ j → slice_index (slice_set xs i x) j ≡ slice_index m (j - 1) in
     let below : (j : ℕ) → j < i → P j = λ j l o. index_set xs i j x (omega (arith, l)) ∙ f j o l in
@@ -107,7 +115,8 @@ front_is (suc n) (x ∷ []) e = absurd (omega (arith, e))
 front_is zero (x ∷ y ∷ xs) e = absurd (omega (arith, e))
 front_is (suc n) (x ∷ y ∷ xs) e = ap (λ r. x ∷ r) (front_is n (y ∷ xs) (omega (arith, e)))
 
-pub unpacked : (n : ℕ) (xs made : List ℕ) → length xs ≡ n + 2 → n ≤ 48 → length made ≡ 48 → ((k : ℕ) → k < n → slice_index made k ≡ slice_index xs (k + 1)) → ((k : ℕ) → n ≤ k → slice_index made k ≡ 0) → made ≡ (place_of xs).m
+pub unpacked : (n : ℕ) (xs made : List ℕ) → length xs ≡ n + 2 → n ≤ 48 → length made ≡ 48 → ((k : ℕ) → k < n → slice_index made k ≡ slice_index xs (k + 1))
+    → ((k : ℕ) → n ≤ k → slice_index made k ≡ 0) → made ≡ (place_of xs).m
 unpacked n [] made e h l f z = absurd (omega (arith, e))
 unpacked n (d ∷ xs) made e h l f z =
     let long : length xs ≡ suc n = omega (arith, e) in
@@ -119,7 +128,8 @@ unpacked n (d ∷ xs) made e h l f z =
     more : (k : ℕ) → k + 1 ≡ suc k
     more k = omega arith
 
-pub made_more : (xs made : List ℕ) (i x : ℕ) → i < length made → x ≡ slice_index xs (i + 1) → ((k : ℕ) → k < i → slice_index made k ≡ slice_index xs (k + 1)) → (k : ℕ) → k < i + 1 → slice_index (slice_set made i x) k ≡ slice_index xs (k + 1)
+pub made_more : (xs made : List ℕ) (i x : ℕ) → i < length made → x ≡ slice_index xs (i + 1) → ((k : ℕ) → k < i → slice_index made k ≡ slice_index xs (k + 1))
+    → (k : ℕ) → k < i + 1 → slice_index (slice_set made i x) k ≡ slice_index xs (k + 1)
 made_more xs made i x h e f k q =
     let P : ℕ → Type 0 = λ j. slice_index (slice_set made i x) j ≡ slice_index xs (j + 1) in
     let below : (j : ℕ) → j < i → P j = λ j l. index_set made i j x (omega (arith, l)) ∙ f j l in

@@ -1,6 +1,7 @@
 //! Packed places.
 
-ghost use Rattle.std.specs.Prelude.{◌≡◌, ◌≤◌, ◌+◌, ◌<◌, ◌-◌, ◌↔◌, IsTrue, MatchOption, true, [], ◌++◌, take, ℕ, slice_index};
+ghost use Rattle.std.specs.Prelude.{◌≡◌, ◌≤◌, ◌+◌, ◌<◌, ◌-◌, ◌↔◌, IsTrue, MatchOption, true, [], ◌++◌, take, ℕ};
+ghost use Rattle.std.specs.Prelude.{slice_index};
 ghost use Rattle.laurent_terms.specs.declared.TheConstants.{DEGREE};
 ghost use Rattle.laurent_terms.specs.Monomials.{degree, quotient, divides};
 ghost use Rattle.module_vec.specs.declared.places.Place.{Place};
@@ -30,11 +31,13 @@ impl<K: Lanes> Model for Packed<K> {
 
     ghost view = { λ p. place_of (K.lanes p.lanes) };
 
-    ghost invariant = { λ p. Packs (K.lanes p.lanes) (place_of (K.lanes p.lanes)) × (length (K.lanes p.lanes) ≡ K.width) × (K.of_lanes (K.lanes p.lanes) ≡ p.lanes) };
+    ghost invariant = { λ p. Packs (K.lanes p.lanes) (place_of (K.lanes p.lanes))
+        × (length (K.lanes p.lanes) ≡ K.width) × (K.of_lanes (K.lanes p.lanes) ≡ p.lanes) };
 
     ghost inverse = { λ p. record { lanes = K.of_lanes (lanes_of (K.width - 2) p) } };
 
-    ghost inverse_ok = { λ p h. ap (λ (k : K). record { lanes = k }) (inverse_is K.of_lanes (K.lanes p.lanes) K.width p.lanes h.0 h.1 h.2) };
+    ghost inverse_ok = { λ p h. ap (λ (k : K). record { lanes = k })
+        (inverse_is K.of_lanes (K.lanes p.lanes) K.width p.lanes h.0 h.1 h.2) };
 }
 
 impl<K: Lanes> Clone for Packed<K> {
@@ -50,6 +53,20 @@ impl<K: Lanes> Clone for Packed<K> {
 impl<K: Lanes> Copy for Packed<K> {}
 
 impl<K: Lanes> Packed<K> {
+    /// The place in lanes. `None` exactly where an exponent has no lane.
+    pub fn of_place(p: &Place) -> Option<Packed<K>>
+        requires { (2 ≤ K.width) × (K.width ≤ 50) }
+        ensures { MatchOption result (IsFor (K.width - 2) p.now → ⊥) (λ r. r ≡ p.now) }
+    {
+        let n = K::count() - 2;
+        if !is_zero_from(p, n) {
+            return None;
+        }
+        Some(Packed {
+            lanes: K::of_slice(&row(p, n)[..n + 2]),
+        })
+    }
+
     /// What holds of every packed place: its monomial has 48 exponents, which add up to at most
     /// [`DEGREE`](laurent_terms::DEGREE).
     pub fn known(&self)
@@ -90,7 +107,7 @@ impl<K: Lanes> Packed<K> {
         }
     }
 
-    /// Whether this place is a multiple of `by`: the components are the same, and the monomial of `by` divides this one.
+    /// Whether this place is a multiple of `by`: they have one component, and the monomial of `by` divides this one.
     pub fn is_multiple(&self, by: &Packed<K>) -> bool
         ensures { IsTrue result ↔ ((by.now.c ≡ self.now.c) × (divides by.now.m self.now.m ≡ true)) }
     {
@@ -168,22 +185,6 @@ fn is_zero_from(p: &Place, n: usize) -> bool
         }
     }
     true
-}
-
-impl<K: Lanes> Packed<K> {
-    /// The place in lanes. `None` exactly where an exponent has no lane.
-    pub fn of_place(p: &Place) -> Option<Packed<K>>
-        requires { (2 ≤ K.width) × (K.width ≤ 50) }
-        ensures { MatchOption result (IsFor (K.width - 2) p.now → ⊥) (λ r. r ≡ p.now) }
-    {
-        let n = K::count() - 2;
-        if !is_zero_from(p, n) {
-            return None;
-        }
-        Some(Packed {
-            lanes: K::of_slice(&row(p, n)[..n + 2]),
-        })
-    }
 }
 
 /// The exponents in the lanes, with zeros behind them.

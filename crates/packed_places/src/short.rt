@@ -63,14 +63,14 @@ fn difference(a: u32, b: u32) -> u32
     a - b
 }
 
-/// Whether no lane of `b` is less than that of `a`.
+/// Whether no lane of `a` is above its counterpart in `b`.
 fn is_divisor(a: u32, b: u32) -> bool
     ensures { result ≡ divides (digits 1 a) (digits 1 b) }
 {
     a <= b && is_clean(a ^ (b - a) ^ b)
 }
 
-/// Whether the first lane lends nothing to the other: `x` is a difference, mixed by "exclusive or" with its two numbers.
+/// Whether the first lane lends nothing to the other, where `x` is a difference under "exclusive or" with its parts.
 fn is_clean(x: u32) -> bool
     ensures { IsTrue result ↔ IsClean 1 x }
 {

@@ -4,4 +4,5 @@ use Rattle.packed_places.proofs.Rowing.{two_digits}
 use Rattle.packed_places.proofs.short.gathered.Goals as goal
 
 pub returns : goal.returns
-returns c = two_digits c.args.list.now _ _ c.requires (are_digits c.args.list.now (λ k. let fits = c.type_inv.list k in search rules)) (search rules) (search rules)
+returns c = two_digits c.args.list.now _ _ c.requires (are_digits c.args.list.now (λ k. let fits = c.type_inv.list k in search rules)) (search rules)
+    (search rules)
