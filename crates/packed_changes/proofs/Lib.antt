@@ -1,0 +1,2 @@
+-- terms that are left out
+pub mod Skipping
