@@ -1,0 +1,2 @@
+-- what the code reads in parts
+pub mod Reading
