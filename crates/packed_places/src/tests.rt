@@ -29,7 +29,9 @@ fn places_fit_their_widths(rt: HostRuntime) -> Result<(), Fail> {
     let three = place(&[2, -1, 60])?;
     let seven = place(&[0, 0, 0, 0, 0, 0, -7])?;
     let fifteen = place(&[0, 0, 0, 0, 0, 0, 0, 0, 0, 0, 0, 0, 0, 0, 9])?;
-    let last = place(&[0, 0, 0, 0, 0, 0, 0, 0, 0, 0, 0, 0, 0, 0, 0, 0, 0, 0, 0, 0, 0, 0, 0, -1])?;
+    let last = place(&[
+        0, 0, 0, 0, 0, 0, 0, 0, 0, 0, 0, 0, 0, 0, 0, 0, 0, 0, 0, 0, 0, 0, 0, -1,
+    ])?;
     assert!(rt; kept::<UpTo3>(&three) == Some(three));
     assert!(rt; kept::<UpTo7>(&seven) == Some(seven));
     assert!(rt; kept::<UpTo15>(&fifteen) == Some(fifteen));
