@@ -127,10 +127,7 @@ fn is_above<K: Lanes>(t: &PackedTerm<K>, changed: &BTreeMap<Packed<K>, i128>) ->
 }
 
 /// The given terms without the first, if that stands at the place.
-fn without<'a, K: Lanes>(
-    given: &'a [PackedTerm<K>],
-    at: &Packed<K>,
-) -> &'a [PackedTerm<K>]
+fn without<'a, K: Lanes>(given: &'a [PackedTerm<K>], at: &Packed<K>) -> &'a [PackedTerm<K>]
     ensures { Skips at.now given.now result.now }
 {
     match given.split_first() {

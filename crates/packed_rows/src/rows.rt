@@ -145,10 +145,7 @@ impl<K: Lanes> PackedRow<K> {
     ///
     /// `Wide` names the greatest place at which the whole sum leaves the range of coefficients, and `Long` comes where
     /// none does and the sum has more than [`TERMS`](module_vec::TERMS) terms.
-    pub fn from_terms(
-        alloc: Global,
-        terms: Vec<PackedTerm<K>>,
-    ) -> Result<PackedRow<K>, VecFault>
+    pub fn from_terms(alloc: Global, terms: Vec<PackedTerm<K>>) -> Result<PackedRow<K>, VecFault>
         requires { length terms.items < 2 ^ 32 }
         ensures { let f = coefficient_at terms.items in Makes (SumIsWide f) f result }
     {

@@ -102,6 +102,8 @@ returns g c =
     omega (arith, length-append c.loop-term.made.items c.loop-term.rest.now) in
     subst (λ (m : List Term). IsFound (DifferenceIsWide (coefficient_at c.args.v.now) (multiple_at c.args.q c.args.t.now.m c.args.g.now))
     (difference_at (coefficient_at c.args.v.now) (multiple_at c.args.q c.args.t.now.m c.args.g.now)) m × length m ≤ length c.args.v.now + length c.args.g.now)
-    items
-    (ends c.args.v.now c.args.q c.args.t.now.m c.args.g.now c.loop-term.made.items c.loop-term.rest.now
-    (subst (Merging c.args.v.now c.args.q c.args.t.now.m c.args.g.now c.loop-term.made.items c.loop-term.rest.now) none state), long)
+    items (
+      ends c.args.v.now c.args.q c.args.t.now.m c.args.g.now c.loop-term.made.items c.loop-term.rest.now
+          (subst (Merging c.args.v.now c.args.q c.args.t.now.m c.args.g.now c.loop-term.made.items c.loop-term.rest.now) none state),
+      long,
+    )
