@@ -16,19 +16,11 @@ use std::marker::Model;
 
 /// Given terms, and the coefficients at changed places, which stand in their stead. Contracts see the terms in falling
 /// order, and how many places are left to look at.
+#[derive(Drop)]
 pub struct PackedOverlay<'a, K: Lanes> {
     given: &'a [PackedTerm<K>],
     /// 0 where the term was taken away.
     changed: BTreeMap<Packed<K>, i128>,
-}
-
-impl<'a, K: Lanes> Drop for PackedOverlay<'a, K> {
-    fn drop(self) {
-        let PackedOverlay {
-            given: _,
-            changed: _,
-        } = self;
-    }
 }
 
 impl<'a, K: Lanes> Model for PackedOverlay<'a, K> {

@@ -25,19 +25,11 @@ use std::marker::Model;
 /// The terms of a vector on its way: those that were given, and the coefficients at the places that were changed since,
 /// which stand in their stead. So a change takes time logarithmic in the number of terms, and what no change reaches is
 /// only read. Contracts see the terms in falling order.
+#[derive(Drop)]
 pub struct PackedDividend<'a, K: Lanes> {
     overlay: PackedOverlay<'a, K>,
     /// How many terms there are.
     count: usize,
-}
-
-impl<'a, K: Lanes> Drop for PackedDividend<'a, K> {
-    fn drop(self) {
-        let PackedDividend {
-            overlay: _,
-            count: _,
-        } = self;
-    }
 }
 
 impl<'a, K: Lanes> Model for PackedDividend<'a, K> {

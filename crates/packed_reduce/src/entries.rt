@@ -11,15 +11,10 @@ use std::alloc::{AllocError, Global};
 use std::marker::Model;
 
 /// A list of entries in the order in which they were pushed, each of them packed too.
+#[derive(Drop)]
 pub struct PackedEntries<K: Lanes> {
     list: Entries,
     packed: Vec<PackedRow<K>>,
-}
-
-impl<K: Lanes> Drop for PackedEntries<K> {
-    fn drop(self) {
-        let PackedEntries { list: _, packed: _ } = self;
-    }
 }
 
 impl<K: Lanes> Model for PackedEntries<K> {

@@ -22,14 +22,9 @@ use std::marker::Model;
 
 /// A vector whose places are packed: terms in strictly falling order of their places, with nonzero coefficients in
 /// range, at most [`TERMS`](module_vec::TERMS) of them. The first term is the lead.
+#[derive(Drop)]
 pub struct PackedRow<K: Lanes> {
     terms: Vec<PackedTerm<K>>,
-}
-
-impl<K: Lanes> Drop for PackedRow<K> {
-    fn drop(self) {
-        let PackedRow { terms: _ } = self;
-    }
 }
 
 impl<K: Lanes> Model for PackedRow<K> {
