@@ -1,0 +1,5 @@
+pub mod Extensions
+pub mod Inner
+pub mod Starting
+pub mod Rounds
+pub mod Extended
