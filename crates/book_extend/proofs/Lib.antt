@@ -1,0 +1,6 @@
+pub mod Keeping
+pub mod Shutting
+pub mod Starting
+pub mod Working
+pub mod Ending
+pub mod Outcomes
