@@ -1,11 +1,15 @@
 //! `extend_sealed`: a sealed log, carried over and completed.
 
-ghost use Rattle.std.specs.Prelude.{◌≡◌, ◌≤◌, ◌<◌, ◌^◌, ℕ, length, map, None, IfOk, MatchOption};
+ghost use Rattle.std.specs.Prelude.{◌≡◌, ◌≤◌, ◌<◌, ◌+◌, ◌^◌, ℕ, length, map, None, IfOk, MatchOption};
 ghost use Rattle.std.specs.Arc.{arc_value};
 ghost use Rattle.task_table.specs.declared.TheConstants.{ENTRIES as MOST};
-ghost use Rattle.pair_book.specs.LogEntries.{terms_of, steps_of};
+ghost use Rattle.outcomes.specs.declared.ends.End.TheVariants.{Sealed as AtSeal};
+ghost use Rattle.basis_entry.specs.Entries.{AreOf, vectors_of};
+ghost use Rattle.basis_entry.specs.Seals.{IsStrongBasis};
+ghost use Rattle.pair_book.specs.Books.{seal_value};
+ghost use Rattle.pair_book.specs.LogEntries.{steps_of};
 ghost use Rattle.carried_logs.specs.Carrying.{IsCarriable};
-ghost use Rattle.book_extend.specs.Extended.{IsExtended, PassesAlone};
+ghost use Rattle.book_extend.specs.Extended.{IsExtended, PassesAlone, seal_for};
 ghost use Rattle.book_extend.specs.Starting.{Fit};
 
 use crate::extension::Extension;
@@ -67,6 +71,27 @@ pub fn extend_sealed(
         end,
         sealed,
     })
+}
+
+/// The seal of these entries, where their completion has ended so.
+fn seal(
+    alloc: Global,
+    q: &Arc<Presentation>,
+    entries: &[Arc<Entry>],
+    end: End,
+) -> Result<Option<Arc<Sealed>>, AllocError>
+    requires source { AreOf (arc_value q.now) (map arc_value entries.now) }
+    requires few { length entries.now + 1 < 2 ^ 32 }
+    requires strong { end ≡ AtSeal → IsStrongBasis (arc_value q.now) (vectors_of (map arc_value entries.now)) }
+    ensures { IfOk result (λ s. seal_value arc_value s ≡ seal_for (arc_value q.now) (map arc_value entries.now) end) }
+{
+    match end {
+        End::Sealed => {
+            let sealed = Sealed::make(alloc, q, entries)?;
+            Ok(Some(Arc::new(alloc, sealed)?))
+        }
+        End::Stopped { .. } | End::Full { .. } | End::Spent { .. } => Ok(None),
+    }
 }
 
 /// The first measure of these entries that passes its limit, and what they reach.

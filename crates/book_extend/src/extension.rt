@@ -131,6 +131,13 @@ impl Extension {
         Ok(())
     }
 
+    /// The entries, for who is done with their tasks.
+    pub fn into_entries(self) -> Vec<Arc<Entry>>
+        ensures { map arc_value result.items ≡ self.entries }
+    {
+        self.log
+    }
+
     /// The measure that the entry would take past its limit, and how far.
     pub fn passed(&self, entry: &Entry) -> Option<(Measure, u32)>
         requires { IsShort entry.now }

@@ -5,7 +5,6 @@
 //! 2012). Nothing of the first completion is worked again.
 #![tactic(auto)]
 
-mod ending;
 mod extended;
 mod extension;
 mod rounds;
@@ -19,3 +18,6 @@ pub const CARRIED_STEPS: u32 = 8_000_000;
 
 /// The recipe of a rest has at most so many steps: those of a reduction, and two.
 pub const REST_STEPS: u32 = 100_002;
+
+#[cfg(test)]
+mod tests;

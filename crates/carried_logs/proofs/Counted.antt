@@ -1,5 +1,5 @@
 -- How many sums of a list are not zero.
-use Rattle.std.proofs.Common.{◌≡◌, ◌≢◌, ℕ, ◌+◌, ◌<◌, ◌≤◌, ◌*◌, Bool, true, false, List, [], ◌∷◌, ◌++◌, length, take, map, get_or, refl, sym, ap, subst, ◌∙◌, arith}
+use Rattle.std.proofs.Common.{◌≡◌, ◌≢◌, ℕ, ◌+◌, ◌-◌, ◌<◌, ◌≤◌, ◌*◌, Bool, true, false, List, [], ◌∷◌, ◌++◌, length, take, map, get_or, refl, sym, ap, subst, ◌∙◌, arith}
 use Rattle.std.proofs.Common.{length-append}
 use Rattle.std.specs.List.{range_with_len, flat_map}
 use Rattle.std.proofs.lemmas.List.{take_all, take_more, map-append, append-nil}
@@ -9,7 +9,7 @@ use Rattle.free_words.specs.declared.letter.Letter.{Letter}
 use Rattle.module_vec.specs.declared.places.Place.{Place}
 use Rattle.module_vec.specs.declared.places.Term.{Term}
 use Rattle.presentation.specs.Presented.{Presented}
-use Rattle.fox_calculus.specs.Generators.{IsWritten, AreWritten, relator_vectors, relator_binomials}
+use Rattle.fox_calculus.specs.Generators.{IsWritten, AreWritten, binomial, relator_vectors, relator_binomials}
 use Rattle.std.proofs.lemmas.List.FromFn.{map-range_with_len_more}
 use Rattle.carried_logs.specs.Adding.{AddsRelators}
 use Rattle.carried_logs.specs.Renaming.{AreNonzero}
@@ -68,6 +68,19 @@ counted_number f i m n a b =
 pub counted_all : {X : Type 0} (f : List X → List (FormalSum Place)) (xs ys : List X) (i n : ℕ) → xs ≡ ys → length xs ≤ i → AreNonzero (f (take i xs)) n
     → AreNonzero (f ys) n
 counted_all {X} f xs ys i n e le h = subst (λ (l : List X). AreNonzero (f l) n) (take_all i xs le ∙ e) h
+
+pub counted_up_to : (f : ℕ → List (FormalSum Place)) (i n k : ℕ) → i ≤ n → n ≤ i → AreNonzero (f i) k → AreNonzero (f n) k
+counted_up_to f i n k le ge h = let e : i ≡ n = omega (arith, le, ge) in subst (λ (m : ℕ). AreNonzero (f m) k) e h
+
+pub counted_as : (m m' : List ℕ) (n n' k : ℕ) → m ≡ m' → n ≡ n' → AreNonzero (map (binomial m) (range_with_len 0 n)) k
+    → AreNonzero (map (binomial m') (range_with_len 0 n')) k
+counted_as m m' n n' k e f h =
+    subst (λ (x : List ℕ). AreNonzero (map (binomial x) (range_with_len 0 n')) k) e
+    (subst (λ (x : ℕ). AreNonzero (map (binomial m) (range_with_len 0 x)) k) f h)
+
+-- the count of all, and how many more they are
+pub counted_sum : (fs : List (FormalSum Place)) (a b : ℕ) → a ≤ b → AreNonzero fs b → AreNonzero fs (a + (b - a))
+counted_sum fs a b le h = let e : b ≡ a + (b - a) = omega (arith, le) in subst (AreNonzero fs) e h
 
 -- ---- the further relators
 pub vectors_fewer : (p q : Presented) (m n : ℕ) → AddsRelators p q → AreNonzero (relator_vectors p) m → AreNonzero (relator_vectors q) n → m ≤ n

@@ -19,7 +19,7 @@ fn nonzero(v: &ModVec) -> u32
     ensures is { (f : FormalSum Place) → IsWritten f v.now → AreNonzero (f ∷ []) result }
     ensures most { result ≤ 1 }
 {
-    u32::from(!v.terms().is_empty())
+    if v.terms().is_empty() { 0 } else { 1 }
 }
 
 /// How many of the relators' Fox vectors are not zero.

@@ -15,3 +15,6 @@ mod renaming;
 pub use adding::adds_relators;
 pub use carrying::carry;
 pub use renaming::Renaming;
+
+#[cfg(test)]
+mod tests;

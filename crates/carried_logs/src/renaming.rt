@@ -37,13 +37,13 @@ impl Renaming {
     {
         let vectors = count_vectors(alloc, p)?;
         let binomials = count_binomials(alloc, p)?;
-        let new_vectors = count_vectors(alloc, q)? - vectors;
-        let new_binomials = count_binomials(alloc, q)? - binomials;
+        let all_vectors = count_vectors(alloc, q)?;
+        let all_binomials = count_binomials(alloc, q)?;
         Ok(Renaming {
             vectors,
             binomials,
-            new_vectors,
-            new_binomials,
+            new_vectors: all_vectors - vectors,
+            new_binomials: all_binomials - binomials,
         })
     }
 
