@@ -9,5 +9,6 @@ pub mod Vectors
 pub mod OldTasks
 pub mod Strength
 pub mod Made
+pub mod Carried
 -- members
 pub mod Members

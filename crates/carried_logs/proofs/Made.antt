@@ -74,7 +74,7 @@ all_taken P xs zero h = tt
 all_taken P [] (suc k) h = tt
 all_taken P (x ∷ xs) (suc k) h = (h.0, all_taken P xs k h.1)
 
-take_less : {X : Type 0} (xs : List X) (m n : ℕ) → m ≤ n → take m (take n xs) ≡ take m xs
+pub take_less : {X : Type 0} (xs : List X) (m n : ℕ) → m ≤ n → take m (take n xs) ≡ take m xs
 take_less xs zero n le = refl
 take_less [] (suc m) zero le = refl
 take_less [] (suc m) (suc n) le = refl

@@ -1,24 +1,48 @@
 -- Logs that carry a strong log to a presentation with further relators.
 use Rattle.std.specs.List.{AllByRecursion}
-use Rattle.std.specs.Prelude.{◌≡◌, ℕ, ◌≤◌, List, ◌++◌, map, length, take, drop, slice_get, Some}
+use Rattle.std.specs.Prelude.{◌≡◌, ℕ, ◌+◌, ◌^◌, ◌<◌, ◌≤◌, List, [], ◌∷◌, ◌++◌, map, length, take, drop, slice_get, Some}
 use Rattle.presentation.specs.Presented.{Presented}
 use Rattle.module_vec.specs.declared.places.Term.{Term}
+use Rattle.module_vec.specs.declared.steps.Step.{Step}
+use Rattle.module_vec.specs.Modules.{AreSteps, steps_at}
+use Rattle.module_vec.specs.Results.{Has}
 use Rattle.outcomes.specs.declared.kinds.PairKind.{PairKind}
 use Rattle.outcomes.specs.declared.tasks.Task.{Task}
 use Rattle.strong_pairs.specs.Pairs.{IsPair}
 use Rattle.strong_pairs.specs.Tasks.{IsClosed}
+use Rattle.basis_entry.specs.declared.recipes.Recipe.{Recipe}
+use Rattle.basis_entry.specs.declared.recipes.Recipe.TheVariants.{Gen, Sum}
 use Rattle.basis_entry.specs.Base.{AreBase}
-use Rattle.basis_entry.specs.Entries.{BasisEntry, IsBasisEntry, AreOf, vectors_of}
+use Rattle.basis_entry.specs.Entries.{BasisEntry, IsBasisEntry, AreOf, MonosAreOver, vectors_of}
 use Rattle.basis_entry.specs.Seals.{Seal, IsStrongBasis}
 use Rattle.pair_work.specs.Recipes.{IsMadeFor}
 use Rattle.pair_book.specs.Logs.{IsLawful, IsNextEntry}
 use Rattle.carried_logs.specs.declared.renaming.Renaming.{Renaming}
 use Rattle.carried_logs.specs.Adding.{AddsRelators}
-use Rattle.carried_logs.specs.Renaming.{IsRenaming, StandsForOld, renamed_recipe}
+use Rattle.carried_logs.specs.Renaming.{IsRenaming, StandsForOld, renamed_steps, renamed_recipe}
 
 -- the entry with its vector as one of q, its recipe by the new numbers
 abbrev pub carried_entry : Presented → Renaming → BasisEntry → BasisEntry
 carried_entry q r e = record { source = q; vector = e.vector; recipe = renamed_recipe r e.recipe }
+
+-- the entry as one that is carried, where it is no generator's
+abbrev pub carried_one : Presented → Renaming → BasisEntry → Recipe → List BasisEntry
+carried_one q r e (Gen number negated) = []
+carried_one q r e (Sum steps) = carried_entry q r e ∷ []
+
+-- the steps, by the new numbers, make the vector v over the entries
+pub record AreCarried (q : Presented) (r : Renaming) (es : List BasisEntry) (v : List Term)
+    (steps : List Step) : Type 0 where
+  pub numbers : AllByRecursion (λ s. s.by + (r.new_vectors + r.new_binomials) < 2 ^ 32) steps
+  pub steps : AreSteps (vectors_of es) (renamed_steps r steps)
+  pub value : Has v (steps_at (vectors_of es) (renamed_steps r steps))
+  pub over : MonosAreOver (length q.names) steps
+
+-- the entry can be carried behind the entries es of q
+pub record CanCarry (q : Presented) (r : Renaming) (es : List BasisEntry) (e : BasisEntry) : Type 0 where
+  pub few : length es + 1 < 2 ^ 32
+  pub source : AreOf q es
+  pub steps : (ss : List Step) → e.recipe ≡ Sum ss → AreCarried q r es e.vector ss
 
 -- The seal is that of a lawful log whose first entries, `base` of them, are those of the generators, and q is its
 -- presentation with further relators

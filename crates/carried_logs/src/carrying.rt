@@ -1,17 +1,14 @@
 //! The entries that are carried.
 
-ghost use Rattle.std.specs.Prelude.{◌≡◌, ◌+◌, ◌<◌, ◌≤◌, ◌^◌, map, length, IfOk, ℕ};
-ghost use Rattle.std.specs.List.{AllByRecursion};
+ghost use Rattle.std.specs.Prelude.{◌≡◌, ◌+◌, ◌++◌, ◌<◌, ◌≤◌, ◌^◌, map, length, IfOk, OnOk, ℕ};
 ghost use Rattle.std.specs.Arc.{arc_value};
-ghost use Rattle.module_vec.specs.Modules.{AreSteps, steps_at};
 ghost use Rattle.module_vec.specs.Reducers.{IsEntry};
-ghost use Rattle.module_vec.specs.Results.{Has};
 ghost use Rattle.task_table.specs.declared.TheConstants.{ENTRIES as MOST};
 ghost use Rattle.presentation.specs.declared.TheConstants.{RELATORS};
 ghost use Rattle.basis_entry.specs.declared.TheConstants.{BASE};
 ghost use Rattle.basis_entry.specs.declared.recipes.Recipe.TheVariants.{Sum};
-ghost use Rattle.basis_entry.specs.Entries.{AreOf, MonosAreOver, vectors_of};
-ghost use Rattle.carried_logs.specs.Carrying.{IsCarriable, IsCarried};
+ghost use Rattle.basis_entry.specs.Entries.{AreOf};
+ghost use Rattle.carried_logs.specs.Carrying.{IsCarriable, IsCarried, CanCarry, AreCarried, carried_one};
 ghost use Rattle.carried_logs.specs.Renaming.{IsRenaming, renamed_steps};
 
 use crate::Renaming;
@@ -40,14 +37,33 @@ pub fn carry(
 {
     let mut made = Entry::base(alloc, q)?;
     for entry in old.entries() {
-        if let Recipe::Sum { steps } = entry.recipe() {
-            made.push(carried(alloc, q, &made, renaming, entry.vector(), steps.steps())?)?;
-        }
+        carry_entry(alloc, q, &mut made, renaming, entry)?;
     }
     Ok(made)
 }
 
-/// The entry that is the sum of these steps over the entries made, where the steps have old numbers.
+/// Carries an entry behind the others, unless it is that of a generator.
+fn carry_entry(
+    alloc: Global,
+    q: &Arc<Presentation>,
+    made: &mut Vec<Arc<Entry>>,
+    renaming: &Renaming,
+    entry: &Entry,
+) -> Result<(), AllocError>
+    requires { CanCarry (arc_value q.now) renaming.now (map arc_value made.old.items) entry.now }
+    ensures { OnOk result (map arc_value made.new.items ≡ map arc_value made.old.items
+        ++ carried_one (arc_value q.now) renaming.now entry.now (entry.now).recipe) }
+{
+    entry.known();
+    let Recipe::Sum { steps } = entry.recipe() else {
+        return Ok(());
+    };
+    let carried = carried(alloc, q, made, renaming, entry.vector(), steps.steps())?;
+    made.push(carried)?;
+    Ok(())
+}
+
+/// The entry that is the sum of these steps, with old numbers, over the entries made.
 fn carried(
     alloc: Global,
     q: &Arc<Presentation>,
@@ -57,14 +73,9 @@ fn carried(
     steps: &[Step],
 ) -> Result<Arc<Entry>, AllocError>
     requires few { length made.now + 1 < 2 ^ 32 }
-    requires list { AreOf (arc_value q.now) (map arc_value made.now) }
-    requires numbers { AllByRecursion (λ s. s.by + (renaming.now.new_vectors + renaming.now.new_binomials) < 2 ^ 32)
-        steps.now }
-    requires steps { AreSteps (vectors_of (map arc_value made.now)) (renamed_steps renaming.now steps.now) }
-    requires value { Has vector.now (steps_at (vectors_of (map arc_value made.now))
-        (renamed_steps renaming.now steps.now)) }
+    requires source { AreOf (arc_value q.now) (map arc_value made.now) }
+    requires steps { AreCarried (arc_value q.now) renaming.now (map arc_value made.now) vector.now steps.now }
     requires entry { IsEntry vector.now }
-    requires over { MonosAreOver (length (arc_value q.now).names) steps.now }
     ensures { IfOk result (λ e. arc_value e ≡ record {
       source = arc_value q.now;
       vector = vector.now;
