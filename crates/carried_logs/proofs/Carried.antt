@@ -97,7 +97,7 @@ module _ (q : Presented) (old : Seal) (base : ℕ) (r : Renaming) (may : IsCarri
           let two = length-take-le i old.entries (omega (arith, within)) in
           ap (map (carried_entry q r)) (drop_short (take (i + 1) old.entries) base (omega (arith, one, lt)))
           ∙ (sym (append-nil _)
-          ∙ ((λ x. map (carried_entry q r) (sym (drop_short (take i old.entries) base (omega (arith, two, lt))) x) ++ carried_one q r e (sym g.1.1 x))))
+          ∙ ((λ x. map (carried_entry q r) (sym (drop_short (take i old.entries) base (omega (arith, two, lt))) x) ++ carried_one q r e (sym g.2 x))))
 
       from : base ≤ i → map (carried_entry q r) (drop base (take (i + 1) old.entries))
           ≡ map (carried_entry q r) (drop base (take i old.entries)) ++ carried_one q r e e.recipe
@@ -174,7 +174,7 @@ module _ (q : Presented) (old : Seal) (base : ℕ) (r : Renaming) (may : IsCarri
   behind : (ss : List Step) → e.recipe ≡ Sum ss → base ≤ i
   behind ss is = elim (split i base) [
     | inr ge ↦ ge
-    | inl lt ↦ let g = generated q old base r may i e there lt in absurd (let wrong : Gen g.0 g.1.0 ≡ Sum ss = sym g.1.1 ∙ is in cc)
+    | inl lt ↦ let g = generated q old base r may i e there lt in absurd (let wrong : Gen g.0 g.1 ≡ Sum ss = sym g.2 ∙ is in cc)
   ]
 
   carried_steps : (ss : List Step) → e.recipe ≡ Sum ss → AreCarried q r es e.vector ss

@@ -17,7 +17,7 @@ use Rattle.carried_logs.specs.declared.renaming.Renaming.{Renaming}
 use Rattle.carried_logs.specs.Adding.{AddsRelators}
 use Rattle.carried_logs.specs.Renaming.{AreNonzero, IsRenaming, renamed}
 use Rattle.carried_logs.proofs.Written.{one_list, Parts, parts}
-use Rattle.carried_logs.proofs.Numbers.{Ranged, ranged}
+use Rattle.carried_logs.proofs.Numbers.{ranged, first, second, third}
 
 -- ---- reading lists of vectors
 pub at_left : (xs ys : List (List Term)) (n : ℕ) → n < length xs → vector_at (xs ++ ys) n ≡ vector_at xs n
@@ -33,7 +33,7 @@ at_right (x ∷ xs) ys (suc n) k e = at_right xs ys n k (omega (arith, e))
 -- the list has under the new numbers what the old one has
 pub record Moves (r : Renaming) (gs hs : List (List Term)) : Type 0 where
   pub counted : r.vectors + r.binomials ≤ length gs
-  pub length : length hs ≡ length gs + (r.new_vectors + r.new_binomials)
+  pub long : length hs ≡ length gs + (r.new_vectors + r.new_binomials)
   pub each : (n : ℕ) → n < length gs → vector_at hs (renamed r n) ≡ vector_at gs n
 
 -- four lists, and new ones behind the first and the second
@@ -69,7 +69,7 @@ module _ (r : Renaming) (a x b y c : List (List Term)) (la : length a ≡ r.vect
       let t = length-append a x in
       let u = length-append (b ++ y) c in
       let v = length-append b y in
-      record { counted = omega (arith, p, q, la, lb); length = omega (arith, p, q, s, t, u, v, la, lb, lx, ly); each = moved_at }
+      record { counted = omega (arith, p, q, la, lb); long = omega (arith, p, q, s, t, u, v, la, lb, lx, ly); each = moved_at }
 
 -- ---- the generators of both presentations
 counted_length : (fs : List (FormalSum Place)) (gs : List (List Term)) (n : ℕ) → AreNonzero fs n → AreWritten fs gs → length gs ≡ n

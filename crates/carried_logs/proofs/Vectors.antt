@@ -57,7 +57,7 @@ module _ (p q : Presented) (r : Renaming) (base : ℕ) (xs gens : List BasisEntr
   base_is = let c = old.count in let l = length-take-le base xs within in omega (arith, c, l)
 
   pub gens_longer : length gens ≡ base + (r.new_vectors + r.new_binomials)
-  gens_longer = let c = new.count in let m = moves.length in let b = base_is in omega (arith, c, m, b)
+  gens_longer = let c = new.count in let m = moves.long in let b = base_is in omega (arith, c, m, b)
 
   abbrev log : List BasisEntry → List BasisEntry
   log more = gens ++ (map (carried_entry q r) (drop base xs) ++ more)
@@ -80,7 +80,7 @@ module _ (p q : Presented) (r : Renaming) (base : ℕ) (xs gens : List BasisEntr
   generated : (more : List BasisEntry) (n : ℕ) → n < base → vector_at (vectors_of (log more)) (renamed r n) ≡ vector_at (vectors_of xs) n
   generated more n lt =
       let b = base_is in
-      let m = moves.length in
+      let m = moves.long in
       let most = renamed_most r n in
       let long = gens_longer in
       let count = old.count in

@@ -32,11 +32,11 @@ carried_one q r e (Sum steps) = carried_entry q r e ∷ []
 
 -- the steps, by the new numbers, make the vector v over the entries
 pub record AreCarried (q : Presented) (r : Renaming) (es : List BasisEntry) (v : List Term)
-    (steps : List Step) : Type 0 where
-  pub numbers : AllByRecursion (λ s. s.by + (r.new_vectors + r.new_binomials) < 2 ^ 32) steps
-  pub steps : AreSteps (vectors_of es) (renamed_steps r steps)
-  pub value : Has v (steps_at (vectors_of es) (renamed_steps r steps))
-  pub over : MonosAreOver (length q.names) steps
+    (ss : List Step) : Type 0 where
+  pub numbers : AllByRecursion (λ s. s.by + (r.new_vectors + r.new_binomials) < 2 ^ 32) ss
+  pub steps : AreSteps (vectors_of es) (renamed_steps r ss)
+  pub value : Has v (steps_at (vectors_of es) (renamed_steps r ss))
+  pub over : MonosAreOver (length q.names) ss
 
 -- the entry can be carried behind the entries es of q
 pub record CanCarry (q : Presented) (r : Renaming) (es : List BasisEntry) (e : BasisEntry) : Type 0 where

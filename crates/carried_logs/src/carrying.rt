@@ -36,6 +36,7 @@ pub fn carry(
     ensures few { IfOk result (λ made. length made.items ≤ BASE + MOST) }
 {
     let mut made = Entry::base(alloc, q)?;
+    Entry::all_known(&made);
     for entry in old.entries() {
         carry_entry(alloc, q, &mut made, renaming, entry)?;
     }
