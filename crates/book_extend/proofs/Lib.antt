@@ -4,3 +4,4 @@ pub mod Starting
 pub mod Working
 pub mod Ending
 pub mod Outcomes
+pub mod Extending

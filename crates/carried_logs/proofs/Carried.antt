@@ -134,15 +134,15 @@ begun_all q old base r n es renaming may le b = record {
 
 -- ---- what can be carried
 
-of_carried : (q : Presented) (r : Renaming) (xs : List BasisEntry) → AreOf q (map (carried_entry q r) xs)
+pub of_carried : (q : Presented) (r : Renaming) (xs : List BasisEntry) → AreOf q (map (carried_entry q r) xs)
 of_carried q r [] = tt
 of_carried q r (x ∷ xs) = (refl, of_carried q r xs)
 
-of_both : (q : Presented) (xs ys : List BasisEntry) → AreOf q xs → AreOf q ys → AreOf q (xs ++ ys)
+pub of_both : (q : Presented) (xs ys : List BasisEntry) → AreOf q xs → AreOf q ys → AreOf q (xs ++ ys)
 of_both q [] ys a b = b
 of_both q (x ∷ xs) ys a b = (a.0, of_both q xs ys a.1 b)
 
-of_base : (q : Presented) (xs : List BasisEntry) → AreBase q xs → AreOf q xs
+pub of_base : (q : Presented) (xs : List BasisEntry) → AreBase q xs → AreOf q xs
 of_base q xs base = all_from (λ e. e.source ≡ q) xs (λ i e s. (base.each i e s).source)
 
 near : (n more : ℕ) (b : List (List Term)) (ss : List Step) → length b ≤ n → n + more < 2 ^ 32 → AllByRecursion (IsInReach b) ss

@@ -51,7 +51,7 @@ module _ (q : Presented) (old : Seal) (base : ℕ) (r : Renaming) (es : List Bas
   }
 
   -- the old generators are among the old entries
-  counted : r.vectors + r.binomials ≤ length old.entries
+  pub counted : r.vectors + r.binomials ≤ length old.entries
   counted =
       let m = moved_generators in
       let c = m.counted in
