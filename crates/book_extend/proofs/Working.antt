@@ -302,8 +302,6 @@ module _ (mid : Held) (t : Task) (x : IsExtension mid) (work : IsInWork mid t) w
           left_longer mid new stale now (omega (arith, n, l)),
         )
 
-
-
 -- ---- hard tasks are opened again
 
 taken_opened : (s : TaskState) → is_taken (reopened HardOnes s) ≡ is_taken s

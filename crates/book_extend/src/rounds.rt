@@ -16,6 +16,7 @@ ghost use Rattle.book_extend.specs.Rounds.{GoesRound, ComesTo, IsDueToWork};
 
 use crate::extension::Extension;
 use basis_entry::Entry;
+use module_vec::VecList;
 use outcomes::{End, PairKind, Task};
 use pair_work::{Close, Outcome, WorkFault, work};
 use presentation::Presentation;
@@ -23,7 +24,6 @@ use reducer_index::{Index, Indexed};
 use std::alloc::{AllocError, Global};
 use std::sync::Arc;
 use strong_pairs::covers;
-use module_vec::VecList;
 use task_table::TaskState;
 
 /// What a round has come to.

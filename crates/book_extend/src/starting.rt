@@ -97,11 +97,7 @@ pub fn push_tasks(tasks: &mut TaskTable, before: &[Arc<Entry>], entry: &Entry)
 }
 
 /// The table of the tasks of these entries.
-fn table_of(
-    alloc: Global,
-    limits: &Limits,
-    entries: &[Arc<Entry>],
-) -> Result<TaskTable, AllocError>
+fn table_of(alloc: Global, limits: &Limits, entries: &[Arc<Entry>]) -> Result<TaskTable, AllocError>
     requires most { limits.now.entries ≤ MOST }
     requires within { length entries.now ≤ limits.now.entries }
     ensures new { IfOk result (AreNew (map arc_value entries.now)) }

@@ -99,11 +99,27 @@ fn carried_entries_can_pass_the_limits_alone(rt: HostRuntime) -> Result<(), Fail
     let alloc = rt.alloc();
     let narrow = Limits { entries: 7, ..WIDE };
     let x = extended(alloc, SQUARE, BOTH, narrow)?;
-    assert!(rt; matches!(x.end, End::Full { measure: Measure::Entries, count: 8 }));
+    assert!(rt;
+        matches!(
+            x.end,
+            End::Full {
+                measure: Measure::Entries,
+                count: 8
+            }
+        )
+    );
     assert!(rt; x.sealed.is_none() && x.entries.len() == 8);
     let few_steps = Limits { steps: 1, ..WIDE };
     let y = extended(alloc, SQUARE, BOTH, few_steps)?;
-    assert!(rt; matches!(y.end, End::Full { measure: Measure::Steps, count: 4 }));
+    assert!(rt;
+        matches!(
+            y.end,
+            End::Full {
+                measure: Measure::Steps,
+                count: 4
+            }
+        )
+    );
     Ok(())
 }
 
@@ -112,7 +128,15 @@ fn further_entries_can_fill_the_log(rt: HostRuntime) -> Result<(), Fail> {
     let alloc = rt.alloc();
     let narrow = Limits { entries: 8, ..WIDE };
     let x = extended(alloc, SQUARE, BOTH, narrow)?;
-    assert!(rt; matches!(x.end, End::Full { measure: Measure::Entries, count: 9 }));
+    assert!(rt;
+        matches!(
+            x.end,
+            End::Full {
+                measure: Measure::Entries,
+                count: 9
+            }
+        )
+    );
     assert!(rt; x.sealed.is_none() && x.entries.len() == 8);
     Ok(())
 }

@@ -1,4 +1,5 @@
 -- numbers and generators
+pub mod Beginnings
 pub mod Numbers
 pub mod Written
 pub mod Counted
