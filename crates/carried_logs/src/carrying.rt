@@ -1,6 +1,6 @@
 //! The entries that are carried.
 
-ghost use Rattle.std.specs.Prelude.{◌≡◌, ◌+◌, ◌++◌, ◌<◌, ◌≤◌, ◌^◌, map, length, IfOk, OnOk, ℕ};
+ghost use Rattle.std.specs.Prelude.{◌≡◌, ◌+◌, ◌*◌, ◌++◌, ◌<◌, ◌≤◌, ◌^◌, map, length, IfOk, OnOk, ℕ};
 ghost use Rattle.std.specs.Arc.{arc_value};
 ghost use Rattle.module_vec.specs.Reducers.{IsEntry};
 ghost use Rattle.task_table.specs.declared.TheConstants.{ENTRIES as MOST};

@@ -1,6 +1,6 @@
 //! `Renaming`: the numbers of old entries in the new log.
 
-ghost use Rattle.std.specs.Prelude.{◌≡◌, ◌↔◌, ◌+◌, ◌<◌, ◌≤◌, ◌^◌, map, length, IfOk, IsTrue};
+ghost use Rattle.std.specs.Prelude.{◌≡◌, ◌↔◌, ◌+◌, ◌*◌, ◌<◌, ◌≤◌, ◌^◌, map, length, IfOk, IsTrue};
 ghost use Rattle.std.specs.List.{AllByRecursion};
 ghost use Rattle.presentation.specs.declared.TheConstants.{RELATORS};
 ghost use Rattle.carried_logs.specs.Adding.{AddsRelators};
