@@ -1,0 +1,9 @@
+pub mod Written
+pub mod Lists
+pub mod Texts
+pub mod ItemLists
+pub mod Counts
+pub mod Telling
+pub mod Answers
+pub mod Known
+pub mod Trimmings

@@ -1,0 +1,40 @@
+-- Lists by their places.
+use Rattle.std.proofs.Common.{◌≡◌, ℕ, zero, suc, ◌+◌, ◌<◌, ◌≤◌, List, [], ◌∷◌, ◌++◌, length, take, drop, slice_get, Some, refl, ap, subst, arith}
+use Rattle.std.specs.List.{AllByRecursion}
+
+pub all_take : {A : Type 0} (P : A → Type 0) (n : ℕ) (xs : List A) → AllByRecursion P xs → AllByRecursion P (take n xs)
+all_take P zero xs h = tt
+all_take P (suc n) [] h = tt
+all_take P (suc n) (x ∷ xs) h = (h.0, all_take P n xs h.1)
+
+-- what stands at a place
+pub all_at : {A : Type 0} (P : A → Type 0) (xs : List A) (i : ℕ) (x : A) → AllByRecursion P xs → slice_get xs i ≡ Some x → P x
+all_at P [] i x h is = absurd cc
+all_at P (y ∷ xs) zero x h is = let e : y ≡ x = cc in subst P e h.0
+all_at P (y ∷ xs) (suc i) x h is = all_at P xs i x h.1 is
+
+-- what is left from a place on
+pub left_from : {A : Type 0} (xs : List A) (i : ℕ) (x : A) → slice_get xs i ≡ Some x → drop i xs ≡ x ∷ drop (i + 1) xs
+left_from [] i x is = absurd cc
+left_from (y ∷ xs) zero x is = let e : y ≡ x = cc in ap (λ z. z ∷ xs) e
+left_from (y ∷ xs) (suc i) x is =
+    let e : suc (i + 1) ≡ suc i + 1 = omega arith in
+    subst (λ j. drop i xs ≡ x ∷ drop j (y ∷ xs)) e (left_from xs i x is)
+
+pub first_left : {A : Type 0} (xs ys : List A) (i : ℕ) (x : A) → drop i xs ≡ x ∷ ys → slice_get xs i ≡ Some x
+first_left [] ys zero x is = absurd cc
+first_left [] ys (suc i) x is = absurd cc
+first_left (y ∷ xs) ys zero x is = let e : y ≡ x = cc in ap Some e
+first_left (y ∷ xs) ys (suc i) x is = first_left xs ys i x is
+
+-- ---- one list behind another
+
+pub at_front : {A : Type 0} (xs ys : List A) (i : ℕ) (x : A) → slice_get xs i ≡ Some x → slice_get (xs ++ ys) i ≡ Some x
+at_front [] ys i x is = absurd cc
+at_front (z ∷ xs) ys zero x is = is
+at_front (z ∷ xs) ys (suc i) x is = at_front xs ys i x is
+
+pub left_behind : {A : Type 0} (xs ys : List A) (k m : ℕ) → k ≡ length xs + m → drop k (xs ++ ys) ≡ drop m ys
+left_behind [] ys k m is = ap (λ n. drop n ys) is
+left_behind (x ∷ xs) ys zero m is = absurd (omega (arith, is))
+left_behind (x ∷ xs) ys (suc k) m is = left_behind xs ys k m (omega (arith, is))
