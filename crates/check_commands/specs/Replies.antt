@@ -27,7 +27,7 @@ left_open rs = length (filter (λ r. is_open r.verdict) rs)
 abbrev pub last_answer : ℕ → ℕ → List ReplyData → ReplyData → Option ReplyData
 last_answer session place rs r =
     if is_open r.verdict then slice_get (answers_of session false rs)
-        (left_open (take place (answers_of session true rs)))
+    (left_open (take place (answers_of session true rs)))
     else Some r
 
 -- the last answer to the session's question at a place

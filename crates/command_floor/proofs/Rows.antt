@@ -8,8 +8,10 @@ use Rattle.command_floor.specs.Commands.{AskedWords, asked}
 pub equals : asked (codes "solo" ∷ codes "--entries=3072" ∷ codes "p" ∷ codes "s" ∷ [])
     ≡ Some (record {
       command = Solo;
-      given = record { settings = record { entries = Some 3072; budget = None; order = None; workers = None; report = None };
-          words = codes "p" ∷ codes "s" ∷ [] };
+      given = record {
+        settings = record { entries = Some 3072; budget = None; order = None; workers = None; report = None };
+        words = codes "p" ∷ codes "s" ∷ [];
+      };
     })
 unfolding clap_on_literals digits_at after_digits is_digit
 equals = refl
@@ -17,8 +19,10 @@ equals = refl
 pub between : asked (codes "solo" ∷ codes "p" ∷ codes "--entries" ∷ codes "000003072" ∷ codes "s" ∷ [])
     ≡ Some (record {
       command = Solo;
-      given = record { settings = record { entries = Some 3072; budget = None; order = None; workers = None; report = None };
-          words = codes "p" ∷ codes "s" ∷ [] };
+      given = record {
+        settings = record { entries = Some 3072; budget = None; order = None; workers = None; report = None };
+        words = codes "p" ∷ codes "s" ∷ [];
+      };
     })
 unfolding clap_on_literals digits_at after_digits is_digit
 between = refl
@@ -39,8 +43,10 @@ twice = refl
 pub lone_dash : asked (codes "steps" ∷ codes "-" ∷ codes "" ∷ codes "d" ∷ [])
     ≡ Some (record {
       command = Steps;
-      given = record { settings = record { entries = None; budget = None; order = None; workers = None; report = None };
-          words = codes "-" ∷ codes "" ∷ codes "d" ∷ [] };
+      given = record {
+        settings = record { entries = None; budget = None; order = None; workers = None; report = None };
+        words = codes "-" ∷ codes "" ∷ codes "d" ∷ [];
+      };
     })
 unfolding clap_on_literals digits_at after_digits is_digit
 lone_dash = refl

@@ -81,7 +81,7 @@ module _ (p : Presented) (known : IsPresented p) where
   kind_same (Bin j c) (Rel i) a b e = let same : 98 ≡ 114 = ap first_byte e in absurd (omega (arith, same))
   kind_same (Bin j c) (Bin i d) a b e =
       let rest = (words p known (kind_text p.names (Bin j c)) (word_of p known (Bin j c)) (rest_of p known (Bin j c)) (Bin i d)
-          (word_cut p known (Bin j c)) e).1 in
+      (word_cut p known (Bin j c)) e).1 in
       let both = some_same (sym (number_cut p known j c a.0) ∙ ap (cut 32) rest ∙ number_cut p known i d b.0) in
       let number : j ≡ i = decimal_same j i (omega (arith, small_relator p known j a.0)) (omega (arith, small_relator p known i b.0)) (ap (λ x. x.0) both) in
       let name : Some c ≡ Some d = sym (found p known c a.1) ∙ ap (λ x. finding p.names x.1) both ∙ found p known d b.1 in

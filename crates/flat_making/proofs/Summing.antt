@@ -133,7 +133,7 @@ module _ (es : List EntryData) (b : List (List Term)) (long : (i : ℕ) → AreL
   hands_worth n (t ∷ row) steps all own good same = λ x.
       value-append b (flat_image (multiple moved t.0 t.1.m (steps_sum steps))) (hands_on row (Sum steps)) x
       ∙ Same-append same_place (value b (flat_image (multiple moved t.0 t.1.m (steps_sum steps)))) (scale t.0 (worth b t.1))
-          (value b (hands_on row (Sum steps))) (value b row) one
+      (value b (hands_on row (Sum steps))) (value b row) one
       (hands_worth n row steps all.1 own.1 good same) x
     where
       one : Same same_place (value b (flat_image (multiple moved t.0 t.1.m (steps_sum steps)))) (scale t.0 (worth b t.1))

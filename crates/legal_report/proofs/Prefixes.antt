@@ -88,9 +88,11 @@ form p (LogItem.a_seal s ∷ xs) is = let none : xs ≡ [] = is.2 in rw none ref
 
 more_items : (xs ys : List BasisEntry) (seal : Option Seal) → IsPrefix (items_in xs None) (items_in (xs ++ ys) seal)
 more_items xs ys None = (map LogItem.an_entry ys, sym (map-append LogItem.an_entry xs ys))
-more_items xs ys (Some s) = (map LogItem.an_entry ys ++ LogItem.a_seal s ∷ [],
-    sym (ap (λ (zs : List LogItem). zs ++ LogItem.a_seal s ∷ []) (map-append LogItem.an_entry xs ys)
-    ∙ append_assoc (map LogItem.an_entry xs) (map LogItem.an_entry ys) (LogItem.a_seal s ∷ [])))
+more_items xs ys (Some s) = (
+  map LogItem.an_entry ys ++ LogItem.a_seal s ∷ [],
+  sym (ap (λ (zs : List LogItem). zs ++ LogItem.a_seal s ∷ []) (map-append LogItem.an_entry xs ys)
+      ∙ append_assoc (map LogItem.an_entry xs) (map LogItem.an_entry ys) (LogItem.a_seal s ∷ [])),
+)
 
 -- without a seal, a list begins the items of a log where its entries begin the log's
 pub begins_open : (p : Presented) (xs : List LogItem) (es : List BasisEntry) (seal : Option Seal) → AreItems p xs → seal_of xs ≡ None
@@ -103,8 +105,11 @@ begins_open p xs es seal is none h =
 -- with one, where it is all of them
 pub begins_sealed : (p : Presented) (xs : List LogItem) (es : List BasisEntry) (seal : Option Seal) → AreItems p xs → entries_of xs ≡ es → seal_of xs ≡ seal
     → IsPrefix xs (items_in es seal)
-begins_sealed p xs es seal is entries sealed = ([], append-nil xs ∙ form p xs is ∙ ap (λ (ys : List BasisEntry). items_in ys (seal_of xs)) entries
-    ∙ ap (items_in es) sealed)
+begins_sealed p xs es seal is entries sealed = (
+  [],
+  append-nil xs ∙ form p xs is ∙ ap (λ (ys : List BasisEntry). items_in ys (seal_of xs)) entries
+      ∙ ap (items_in es) sealed,
+)
 
 pub prefix_whole : {X : Type 0} (xs ys : List X) → length xs ≡ length ys → IsPrefix xs ys → xs ≡ ys
 prefix_whole [] [] n h = refl

@@ -124,7 +124,7 @@ module _ (p : Presented) (gens : List (List Term)) where
       → Leads p gens (IsAt Entries b) (lines.Entry k (made_by e.recipe) e.vector ∷ []) (IsAt Entries (b ++ e.vector ∷ []))
   entry_taken b k e at few known over next =
       one p gens (IsAt Entries b) (IsAt Entries (b ++ e.vector ∷ [])) (lines.Entry k (made_by e.recipe) e.vector) (entry_line b k e at few known over next)
-          (λ s h. h.whole)
+      (λ s h. h.whole)
       (λ s h. (
         (h.phase, h.settled, at ∙ sym (ap length h.entries), subst (λ c. IsInTurn gens c (made_by e.recipe)) (sym h.entries) next.turn),
         (

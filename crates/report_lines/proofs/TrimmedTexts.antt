@@ -153,7 +153,7 @@ pub recipe_is_none : (p : Presented) (text rest more last : List ℕ) (n from : 
     → Reads (trimmed_line_text p) (IsTrimmedLineOf p) (codes "entry " ++ text) (Err f)
 recipe_is_none p text rest more last n from a is b f bad =
     placed_fails p text rest n a f
-        (from_fails p rest more is f (second_fails decimal IsSmall (codes " ") (recipe p) (IsRecipe p) number_first more last from b f
+    (from_fails p rest more is f (second_fails decimal IsSmall (codes " ") (recipe p) (IsRecipe p) number_first more last from b f
     bad))
 
 pub trimmed_entry_read : (p : Presented) (text rest more last : List ℕ) (n from : ℕ) (made : Made) (vector : List Term)

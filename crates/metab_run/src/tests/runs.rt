@@ -157,7 +157,11 @@ fn front_of(text: &str, start: &str, verdict: &str) -> Option<u32> {
     if !line.ends_with(verdict) {
         return None;
     }
-    line.strip_prefix(start)?.split(' ').next()?.parse::<u32>().ok()
+    line.strip_prefix(start)?
+        .split(' ')
+        .next()?
+        .parse::<u32>()
+        .ok()
 }
 
 #[test]
@@ -193,7 +197,11 @@ struct Meeting {
 
 impl Gate for Meeting {
     fn pass<R: Wait>(&self, _: &R, actor: u32, place: u8) {
-        let number = if place == 2 { actor } else { actor.saturating_add(2) };
+        let number = if place == 2 {
+            actor
+        } else {
+            actor.saturating_add(2)
+        };
         let Some(own) = self.stands.get(number.saturating_sub(1) as usize) else {
             return;
         };

@@ -45,7 +45,7 @@ loop-line-preserved g c =
       text = λ r new h. c.loop-line.invariant.text r new
           (subst (λ ls. Puts (g.K.Sink.taken c.loop-line.out) (lines_text names ls) r new) (sym split)
           (then_puts (g.K.Sink.taken c.loop-line.out) (g.K.Sink.taken c.put_flat.new.out) new (line_text names c.line-item.result ++ 10 ∷ [])
-              (lines_text names rest) r
+          (lines_text names rest) r
           c.in_ok-put_flat.ensures.text h));
       later = omega (arith, c.loop-line.invariant.later, c.in_ok-put_flat.ensures.counts);
     }

@@ -19,11 +19,11 @@ returns-in_ok-row-in-Sum c = λ row is.
     let same : row_of n items ≡ row = one_row (sum_at c.args.handed.now) n (row_of n items) row c.in_ok-row-in-Sum.ensures.is is in
     let steps : List Step = c.in-Sum.steps in
     let given : Adds c.args.handed.now (shares_hand c.deref.result.now c.steps.result.now) c.hand_shares.new.handed c.hand_shares.result =
-        c.hand_shares.ensures in
+    c.hand_shares.ensures in
     let of_steps : Adds c.args.handed.now (shares_hand items steps) c.hand_shares.new.handed c.hand_shares.result =
     subst (λ ss. Adds c.args.handed.now (shares_hand items ss) c.hand_shares.new.handed c.hand_shares.result) c.steps.ensures
     (subst (λ (r : List Share). Adds c.args.handed.now (shares_hand r c.steps.result.now) c.hand_shares.new.handed c.hand_shares.result)
-        c.deref.ensures.value given) in
+    c.deref.ensures.value given) in
     subst (λ (r : Recipe). Adds c.args.handed.now (hands_on row r) c.hand_shares.new.handed c.hand_shares.result) (sym c.in-Sum.is)
     (subst (λ (v : FormalSum Place). Adds c.args.handed.now (hands_on v (Sum steps)) c.hand_shares.new.handed c.hand_shares.result) same
     (subst (λ v. Adds c.args.handed.now v c.hand_shares.new.handed c.hand_shares.result) (sym (shares_are n items steps)) of_steps))

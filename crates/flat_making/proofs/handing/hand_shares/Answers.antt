@@ -21,7 +21,7 @@ returns-in_err-hand_on c =
     let parts = shares_split c.args.steps.now c.share-item.result (drop c.loop-share.share-index c.args.row.now) rest split in
     let k : FitsSigned w128 c.share-item.result.k = search rules in
     let given : Adds c.loop-share.handed (handed_by (to_z w128 (of_z w128 c.share-item.result.k)) c.share-item.result.t c.args.steps.now) c.hand_on.new.self
-        (Err e) =
+    (Err e) =
     c.in_err-hand_on.ensures in
     let one : Adds c.loop-share.handed (handed_by c.share-item.result.k c.share-item.result.t c.args.steps.now) c.hand_on.new.self (Err e) =
     subst (λ q. Adds c.loop-share.handed (handed_by q c.share-item.result.t c.args.steps.now) c.hand_on.new.self (Err e))
@@ -47,5 +47,5 @@ pub returns : goal.returns
 returns c =
     let none : drop c.loop-share.share-index c.args.row.now ≡ [] = drop_all c.loop-share.share-index c.args.row.now c.loop-share-test.false in
     c.loop-share.invariant c.loop-share.handed (Ok tt)
-        (subst (λ v. Adds c.loop-share.handed (shares_hand v c.args.steps.now) c.loop-share.handed (Ok tt)) (sym none)
+    (subst (λ v. Adds c.loop-share.handed (shares_hand v c.args.steps.now) c.loop-share.handed (Ok tt)) (sym none)
     (adds_nothing c.loop-share.handed))

@@ -21,7 +21,7 @@ returns-in_err-hand_on-clause-exact c =
     (subst (λ m. Adds c.new-handed.result (handed_by (pos 1) m c.args.proof.now) c.hand_on.new.self (Err e)) c.one.ensures.is c.in_err-hand_on.ensures) in
     subst (Answers c.args.p.now c.args.entries.now c.args.proof.now) (ap Err (sym q.2) ∙ sym q.1)
     (start_fails c.args.p.now c.known.ensures c.args.entries.now c.requires.log c.vectors_known.ensures c.args.proof.now c.requires.proof
-        c.hand_on.new.self e adds)
+    c.hand_on.new.self e adds)
 
 pub hand_down-requires : goal.hand_down-requires
 hand_down-requires c = have_factors c.args.p.now c.args.entries.now c.requires.log

@@ -10,9 +10,12 @@ nothing [] none = refl
 nothing (x ∷ xs) none = absurd cc
 
 pub returns-in-None : goal.returns-in-None
-returns-in-None c = (λ t. absurd cc, λ h.
-    let known : IsPresented c.args.p.now = search rules in
-    let some = some_entry c.args.book.now (subst IsPresented (sym h.0) known) c.entries.ensures.book in
-    let all : length (map arc_value c.entries.result.now) ≡ length c.args.book.now.entries = ap length c.entries.ensures.is in
-    let none = nothing c.entries.result.now (sym c.in-None.ensures.value) in
-    absurd (let n = ap (λ xs. length (map arc_value xs)) none in omega (arith, some, all, n)))
+returns-in-None c = (
+  λ t. absurd cc,
+  λ h.
+      let known : IsPresented c.args.p.now = search rules in
+      let some = some_entry c.args.book.now (subst IsPresented (sym h.0) known) c.entries.ensures.book in
+      let all : length (map arc_value c.entries.result.now) ≡ length c.args.book.now.entries = ap length c.entries.ensures.is in
+      let none = nothing c.entries.result.now (sym c.in-None.ensures.value) in
+      absurd (let n = ap (λ xs. length (map arc_value xs)) none in omega (arith, some, all, n)),
+)

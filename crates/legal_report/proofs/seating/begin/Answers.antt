@@ -13,6 +13,8 @@ returns g c =
     let n = c.count-count.ensures.is in
     let le : c.count-count.result ≤ length c.args.entries.now = search (rules, arith) in
     let past : c.count-count.result ≤ c.loop-at.at = search (rules, arith) in
-    let m = length-map c.args.entries.now arc_value in
-    (λ t. prefix_by es (map arc_value c.args.entries.now) (omega (arith, vs, of, n, le, m))
-    (λ k lt. c.loop-at.invariant k (omega (arith, lt, vs, of, n, past))), λ h. refl)
+    let m = length-map c.args.entries.now arc_value in (
+      λ t. prefix_by es (map arc_value c.args.entries.now) (omega (arith, vs, of, n, le, m))
+          (λ k lt. c.loop-at.invariant k (omega (arith, lt, vs, of, n, past))),
+      λ h. refl,
+    )

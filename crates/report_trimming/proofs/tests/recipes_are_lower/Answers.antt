@@ -6,7 +6,7 @@ pub loop-number-preserved : goal.loop-number-preserved
 loop-number-preserved c =
     let read = got c.args.entries.now c.loop-number.number c.index-entries-number.result c.loop-number-test.true c.index-entries-number.is in
     lower_next c.args.entries.now c.loop-number.number c.index-entries-number.result read
-        (c.recipe_is_below.ensures c.if-not-recipe_is_below.false) c.loop-number.invariant
+    (c.recipe_is_below.ensures c.if-not-recipe_is_below.false) c.loop-number.invariant
 
 pub returns : goal.returns
 returns c = λ truth j k e is n.

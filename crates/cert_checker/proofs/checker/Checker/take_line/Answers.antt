@@ -12,7 +12,7 @@ returns-in_err-agrees c =
     (line_ends c.args.generators.now c.args.self c.args.line (λ _. LineAgrees c.args.generators.now c.args.self c.args.line) p.0
     (c.may_follow.ensures.0 c.if-not-may_follow.false)
     (subst (λ e. Outcome {X = Unit {0}} (λ _. LineAgrees c.args.generators.now c.args.self c.args.line)
-        (LineDisagrees c.args.generators.now c.args.self c.args.line)
+    (LineDisagrees c.args.generators.now c.args.self c.args.line)
     (Err e)) (sym p.2) c.in_err-agrees.ensures))
 
 pub with-requires-clause-valid : goal.with-requires-clause-valid

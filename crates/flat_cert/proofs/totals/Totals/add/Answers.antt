@@ -19,7 +19,7 @@ returns-then-len c =
     let none = sym before ∙ none_is c.copied-before.result c.if-is_none.ensures in
     subst (λ es. IsBeyond (λ x. weight_at es x + weight ((c.args.k, c.args.at) ∷ []) x)) c.self.view_is
     (too_many es c.args.at (λ x. weight_at es x + weight ((c.args.k, c.args.at) ∷ []) x) c.self.invariant
-        (sorted_distinct (Rattle.std.specs.Map.keys_of es) c.len.ensures.ordered) none
+    (sorted_distinct (Rattle.std.specs.Map.keys_of es) c.len.ensures.ordered) none
     (omega (arith, c.if-len.true, c.len.ensures.len))
     (omega (arith, weight_own c.args.k c.args.at, abs_some c.args.k c.requires.nonzero)) (λ y. omega arith))
 

@@ -22,7 +22,7 @@ returns-in_default c =
     drop_read c.args.steps.now c.loop-step.step-index c.step-item.result c.loop-step-test.true c.step-item.is in
     let own : c.step-item.result.q ≢ pos 0 =
     (subst (AllByRecursion (λ (s : Step). s.q ≢ pos 0)) split
-        (all_drop (λ (s : Step). s.q ≢ pos 0) c.loop-step.step-index c.args.steps.now c.requires.steps)).0 in
+    (all_drop (λ (s : Step). s.q ≢ pos 0) c.loop-step.step-index c.args.steps.now c.requires.steps)).0 in
     invariant c.loop-step.self (Err Beyond)
     (step_is_far c.loop-step.self c.loop-step.self c.args.k c.args.t.now c.step-item.result (drop c.loop-step.step-index c.args.steps.now) rest split
     c.requires.nonzero own c.in_default.ensures.made)
@@ -50,7 +50,7 @@ hand-requires c =
     drop_read c.args.steps.now c.loop-step.step-index c.step-item.result c.loop-step-test.true c.step-item.is in
     let own : c.step-item.result.q ≢ pos 0 =
     (subst (AllByRecursion (λ (s : Step). s.q ≢ pos 0)) split
-        (all_drop (λ (s : Step). s.q ≢ pos 0) c.loop-step.step-index c.args.steps.now c.requires.steps)).0 in
+    (all_drop (λ (s : Step). s.q ≢ pos 0) c.loop-step.step-index c.args.steps.now c.requires.steps)).0 in
     simp to_z-of_z (λ e. product_some c.args.k c.step-item.result.q c.requires.nonzero own (sym is.0 ∙ e))
 
 pub returns-in_err-hand : goal.returns-in_err-hand
@@ -78,7 +78,7 @@ returns-in_err-hand c =
     c.in_err-hand.field-0.0 one in
     subst (λ r. Adds c.args.self.now (handed_by c.args.k c.args.t.now c.args.steps.now) c.hand.new.self r) (ap Err (sym p.2) ∙ sym p.1)
     (invariant c.hand.new.self (Err c.in_err-hand.field-0.0)
-        (subst (λ v. Adds c.loop-step.self v c.hand.new.self (Err c.in_err-hand.field-0.0)) (sym parts) fails))
+    (subst (λ v. Adds c.loop-step.self v c.hand.new.self (Err c.in_err-hand.field-0.0)) (sym parts) fails))
 
 pub loop-step-preserved : goal.loop-step-preserved
 loop-step-preserved c =
