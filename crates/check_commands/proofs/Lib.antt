@@ -2,3 +2,4 @@ pub mod TrueReports
 mod Answering
 mod FlatLeads
 mod Loading
+mod Trimming

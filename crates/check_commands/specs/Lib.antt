@@ -7,3 +7,4 @@ pub mod Reports
 pub mod Replies
 pub mod Flat
 pub mod Sum
+pub mod Trim

@@ -10,6 +10,7 @@ mod reports;
 pub mod steps;
 pub mod sum;
 mod text_sink;
+pub mod trim;
 
 /// A derivation's text has at most so many bytes.
 pub const DERIVATION_BYTES: u32 = 67_108_864;

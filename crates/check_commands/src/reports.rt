@@ -2,7 +2,7 @@
 
 ghost use Rattle.std.specs.Prelude.{ℕ, ◌≡◌, ◌≤◌, List, IfOk, IfErr, IfSome};
 ghost use Rattle.mb_io.specs.Shelf.{CountRose};
-ghost use Rattle.report_reading.specs.Reading.{Answers as IsRead};
+ghost use Rattle.report_reading.specs.Reading.{IsReport, Answers as IsRead};
 ghost use Rattle.flat_making.specs.Checked.{IsChecked};
 ghost use Rattle.cert_checker.specs.Truth.{IsTrueReport};
 ghost use Rattle.command_floor.specs.Files.{HasCause};
@@ -33,6 +33,7 @@ fn refusing(alloc: Global, name: &str, fault: ReportFault) -> Halt
 /// What the report over the presentation says whose text this is, where its entries and proofs hold.
 fn report_of(alloc: Global, p: &Presentation, name: &str, text: &[u8]) -> Result<ReportData, Halt>
     ensures gives { GivesReport p.now name.now text.now result }
+    ensures said { IfOk result (λ d. (told : List ℕ) × IsReport p.now told d) }
     ensures holds { IfOk result (IsChecked p.now) }
     ensures true_report { IfOk result (λ _. IsTrueReport p.now text.now) }
     ensures cause { IfErr result (HasCause ⊥) }
@@ -62,6 +63,7 @@ pub fn load_report<S: Shelf>(
 ) -> Result<ReportData, Halt>
     ensures gives { LoadsReport p.now (CountRose (S.faults shelf.old) (S.faults shelf.new)) name.now
         (S.under shelf.old name.now) result }
+    ensures said { IfOk result (λ d. (told : List ℕ) × IsReport p.now told d) }
     ensures holds { IfOk result (IsChecked p.now) }
     ensures true_report { IfOk result (λ _. IfSome (S.under shelf.old name.now) (IsTrueReport p.now)) }
     ensures cause { IfErr result (HasCause (CountRose (S.faults shelf.old) (S.faults shelf.new))) }

@@ -41,7 +41,7 @@ use Rattle.data_text.specs.Over.{EntryIsOver, ReplyIsOver, CanBeWritten}
 use Rattle.data_text.proofs.Answers.{EndsWith, ends_with, all_more, all_before, AreLive, all_live, live_closed, count_alike, proof_put}
 use Rattle.data_text.proofs.Counts.{AreCounted, counted_more, count_last}
 
-made_again : (from : ℕ) (made : Made) → made_of (recipe_of from made) ≡ made
+pub made_again : (from : ℕ) (made : Made) → made_of (recipe_of from made) ≡ made
 made_again from (Gen negated) = refl
 made_again from (Sum steps) = refl
 
@@ -260,7 +260,7 @@ module _ (p : Presented) where
       let over = line_is_over p (lines.Close session number q v) valid.1 in closing_known t session n q v k (some_end t.end may.0.0) over.0 over.1
   trimmed_known n t (Other lines.Done) k valid may = done_known t k
 
-  known_in : (f : Form) (t : Told) (l : LineIn f) → IsKnown p t → IsLineIn f p l → FollowsIn f t l → IsKnown p (tell_in f t l)
+  pub known_in : (f : Form) (t : Told) (l : LineIn f) → IsKnown p t → IsLineIn f p l → FollowsIn f t l → IsKnown p (tell_in f t l)
   known_in Whole t l k valid may = line_known t l k valid may
   known_in (Trimmed n) t l k valid may = trimmed_known n t l k valid may
 

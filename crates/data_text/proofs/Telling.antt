@@ -13,9 +13,10 @@ use Rattle.report_reading.specs.declared.replies.ReplyData.{ReplyData}
 use Rattle.report_reading.specs.declared.form.Form.{Form}
 use Rattle.report_reading.specs.Forms.{LineIn, lines_in, headed_in}
 use Rattle.data_text.specs.declared.faults.WriteFault.{WriteFault}
-use Rattle.data_text.specs.Lines.{Item, is_next_below, below, behind, lines_of_items, proof_lines, live_lines, closing_lines, closings, other_line, other_lines, told}
+use Rattle.data_text.specs.Lines.{Item, is_next_below, below, behind, lines_of_items, proof_lines, live_lines, closing_lines, closings, other_line, other_lines, still_open, numbered, count_of, told}
 use Rattle.data_text.specs.Lines.{last_lines, lines_of, items_of, live_of, left_open, closing_answers}
 use Rattle.data_text.specs.Writing.{Stops, Puts}
+use Rattle.data_text.proofs.Counts.{next_numbered}
 use Rattle.data_text.proofs.Lists.{left_from}
 use Rattle.data_text.proofs.Texts.{piece, lines_append, other_text, others_text, plain_append, head_behind}
 use Rattle.data_text.proofs.Written.{Goes, goes_from, goes_as, goes_more, goes_stops, goes_halts, goes_puts}
@@ -54,6 +55,21 @@ answer_left f p items x xs =
     append_lines : (a b c : List (LineIn f)) → (a ++ b) ++ c ≡ a ++ (b ++ c)
     append_lines [] b c = refl
     append_lines (l ∷ a) b c = ap (λ m. l ∷ m) (append_lines a b c)
+
+-- the next answer that is told
+module _ (live : List ReplyData) (i n : ℕ) (r : ReplyData) (read : slice_get live i ≡ Some r) (is : n ≡ count_of r.session (take i live) + 1) where
+  abbrev after : List (ℕ × ReplyData)
+  after = numbered (take (i + 1) live) (drop (i + 1) live)
+
+  next_answer : numbered (take i live) (drop i live) ≡ (n, r) ∷ after
+  next_answer = next_numbered live i r read ∙ ap (λ k. (k, r) ∷ after) (sym is)
+
+  pub reply_left : (f : Form) (p : Presented) (items : List (Item f)) → lines_in f p (told f items (numbered (take i live) (drop i live)))
+      ≡ lines_in f p (below r.front items ++ other_lines f (live_lines (n, r))) ++ lines_in f p (told f (behind r.front items) after)
+  reply_left f p items = ap (λ (xs : List (ℕ × ReplyData)). lines_in f p (told f items xs)) next_answer ∙ answer_left f p items (n, r) after
+
+  pub open_left : (before : List (ℕ × ℕ)) → left_open before (numbered (take i live) (drop i live)) ≡ left_open (still_open before (n, r)) after
+  open_left before = ap (left_open before) next_answer
 
 -- the text of items, and of the answer behind them
 pub behind_items : (f : Form) (p : Presented) (ls : List (LineIn f)) (ms : List Line)

@@ -1,12 +1,13 @@
 -- Texts of lines, one behind another.
-use Rattle.std.proofs.Common.{◌≡◌, ℕ, List, [], ◌∷◌, ◌++◌, refl, sym, ap, ◌∙◌, append_assoc}
+use Rattle.std.proofs.Common.{◌≡◌, ℕ, ◌==◌, Bool, true, false, List, [], ◌∷◌, ◌++◌, refl, sym, ap, ◌∙◌, append_assoc, append-nil, if◌then◌else◌}
 use Rattle.presentation.specs.Presented.{Presented}
 use Rattle.report_lines.specs.declared.lines.Line.{Line}
 use Rattle.report_lines.specs.Texts.{title, pres_line, line_text, lines_text}
 use Rattle.report_lines.specs.Trimmed.{trimmed_title, items_line}
+use Rattle.report_reading.specs.declared.data.ReportData.{ReportData}
 use Rattle.report_reading.specs.declared.form.Form.{Form}
 use Rattle.report_reading.specs.declared.form.Form.TheVariants.{Whole, Trimmed}
-use Rattle.report_reading.specs.Forms.{LineIn, text_in, lines_in, title_in, counted_in, headed_in}
+use Rattle.report_reading.specs.Forms.{form_of, LineIn, text_in, lines_in, title_in, counted_in, headed_in}
 use Rattle.data_text.specs.Lines.{other_line, other_lines}
 
 -- a line with its end
@@ -51,16 +52,24 @@ head_pieces f p body =
     ∙ ap (λ t. title_in f ++ 10 ∷ t) (sym (ended (pres_line p) (counted_in f [] ++ body)))
     ∙ sym (ended (title_in f) ((pres_line p ++ 10 ∷ []) ++ (counted_in f [] ++ body)))
 
+pub head_is : (f : Form) (p : Presented) → headed_in f p [] ≡ (title_in f ++ 10 ∷ []) ++ ((pres_line p ++ 10 ∷ []) ++ counted_in f [])
+head_is f p =
+    head_pieces f p [] ∙ ap (λ t. (title_in f ++ 10 ∷ []) ++ ((pres_line p ++ 10 ∷ []) ++ t)) (append-nil (counted_in f []))
+
 pub head_behind : (f : Form) (p : Presented) (body : List ℕ) → headed_in f p body ≡ headed_in f p [] ++ body
 head_behind f p body =
-    let a = title_in f ++ 10 ∷ [] in
-    let b = pres_line p ++ 10 ∷ [] in
-    let c = counted_in f [] in
+    let a : List ℕ = title_in f ++ 10 ∷ [] in
+    let b : List ℕ = pres_line p ++ 10 ∷ [] in
+    let c : List ℕ = counted_in f [] in
     head_pieces f p body
-    ∙ (ap (λ t. a ++ (b ++ t)) (ap (λ t. t ++ body) (sym (nothing_more c)))
-    ∙ ap (λ t. a ++ t) (sym (append_assoc b (c ++ []) body)) ∙ sym (append_assoc a (b ++ (c ++ [])) body)
-    ∙ ap (λ t. t ++ body) (sym (head_pieces f p [])))
-  where
-    nothing_more : (xs : List ℕ) → xs ++ [] ≡ xs
-    nothing_more [] = refl
-    nothing_more (x ∷ xs) = ap (λ ys. x ∷ ys) (nothing_more xs)
+    ∙ ap (λ t. a ++ t) (sym (append_assoc b c body))
+    ∙ sym (append_assoc a (b ++ c) body)
+    ∙ ap (λ t. t ++ body) (sym (head_is f p))
+
+-- ---- the version
+
+pub form_whole : (d : ReportData) → (d.version == 1) ≡ true → form_of d ≡ Whole
+form_whole d h = ap (λ b. if b then Whole else Trimmed d.items) h
+
+pub form_trimmed : (d : ReportData) → (d.version == 1) ≡ false → form_of d ≡ Trimmed d.items
+form_trimmed d h = ap (λ b. if b then Whole else Trimmed d.items) h

@@ -27,6 +27,9 @@ took_more (Some a) (Some b) (Some c) x y h k = k ∙ ap (λ t. t ++ y) h ∙ app
 pub goes_from : (o : Option (List ℕ)) (text : List ℕ) → Goes o text text o
 goes_from o text = record { front = []; is = refl; took = took_nothing o }
 
+pub starts : (o : Option (List ℕ)) (text whole : List ℕ) → text ≡ whole → Goes o text whole o
+starts o text whole same = record { front = []; is = same; took = took_nothing o }
+
 -- the next piece was written
 pub goes_more : (a b c : Option (List ℕ)) (text piece rest : List ℕ) → Goes a text (piece ++ rest) b → TakesPrefix b piece c → Goes a text rest c
 goes_more a b c text piece rest g h = record {

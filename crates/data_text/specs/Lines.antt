@@ -122,11 +122,11 @@ closing_lines at r = lines.Close at.0 at.1 r.question r.verdict ∷ proof_lines 
 
 -- by session and question, with one more answer
 abbrev pub still_open : List (ℕ × ℕ) → ℕ × ReplyData → List (ℕ × ℕ)
-still_open open x = if is_open x.1.verdict then insert_key by_number open (x.1.session, x.0) else open
+still_open before x = if is_open x.1.verdict then insert_key by_number before (x.1.session, x.0) else before
 
 abbrev pub left_open : List (ℕ × ℕ) → List (ℕ × ReplyData) → List (ℕ × ℕ)
-left_open open [] = open
-left_open open (x ∷ xs) = left_open (still_open open x) xs
+left_open before [] = before
+left_open before (x ∷ xs) = left_open (still_open before x) xs
 
 -- these questions are answered behind the end, in their order
 abbrev pub closings : List (ℕ × ℕ) → List ReplyData → List Line

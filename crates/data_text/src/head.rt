@@ -23,7 +23,8 @@ pub fn put_head<K: Sink>(
     ensures text { Puts (K.taken out.old) (headed_in (form_of d.now) p.now []) result (K.taken out.new) }
     ensures counts { Counts (K.faults out.old) result (K.faults out.new) }
 {
-    put_with_end(title(alloc, d)?, out)?;
+    let first = title(alloc, d)?;
+    put_with_end(first, out)?;
     put_presentation(alloc, p, out)?;
     put_count(alloc, d, out)
 }

@@ -40,7 +40,7 @@ pub fn put_told<K: Sink>(
     requires over { AllByRecursion (ReplyIsOver p.now) live.now }
     ensures text { Puts (K.taken out.old) (lines_in (form_of d.now) p.now
         (told (form_of d.now) (items_of (form_of d.now) d.now) (numbered [] live.now))) result (K.taken out.new) }
-    ensures left_open { IfOk result (λ open. open.keys ≡ left_open [] (numbered [] live.now)) }
+    ensures left_open { IfOk result (λ set. set.keys ≡ left_open [] (numbered [] live.now)) }
     ensures counts { Counts (K.faults out.old) result (K.faults out.new) }
 {
     let mut asked = Asked::new(alloc);

@@ -7,7 +7,7 @@ use Rattle.command_floor.proofs.Ending.{ends_delivered}
 use Rattle.legal_report.specs.declared.solving.Solved.{Solved}
 use Rattle.solve_commands.specs.Run.{RunAsked, RunLeads}
 use Rattle.solve_commands.specs.Runs.{IsDue}
-use Rattle.metab_run.specs.Words.{Request, Steps, Fox, Check, Flat, Sum, Solo, Replay, Run, Gen, Save, Load, asked_run}
+use Rattle.metab_run.specs.Words.{Request, Steps, Fox, Check, Trim, Flat, Sum, Solo, Replay, Run, Gen, Save, Load, asked_run}
 use Rattle.metab_run.specs.Owed.{Owed, owed}
 use Rattle.metab_run.specs.Top.{IsDueReport, EndsOwed}
 
@@ -21,6 +21,7 @@ asks_run (Some (Solo x)) q is = absurd (cc)
 asks_run (Some (Replay x)) q is = absurd (cc)
 asks_run (Some (Run x)) q is = cc
 asks_run (Some (Gen x)) q is = absurd (cc)
+asks_run (Some (Trim x)) q is = absurd (cc)
 asks_run (Some (Flat x)) q is = absurd (cc)
 asks_run (Some (Sum x)) q is = absurd (cc)
 asks_run (Some (Save x)) q is = absurd (cc)

@@ -5,6 +5,7 @@ use Rattle.check_commands.specs.Steps.{StepsLead, AskedTrivial}
 use Rattle.check_commands.specs.Fox.{FoxLeads}
 use Rattle.check_commands.specs.Check.{CheckLeads, AskedTrue}
 use Rattle.check_commands.specs.Flat.{FlatLeads, report_asked}
+use Rattle.check_commands.specs.Trim.{TrimLeads}
 use Rattle.check_commands.specs.Sum.{SumLeads}
 use Rattle.check_commands.specs.Sum as sums
 use Rattle.solve_commands.specs.Solo.{SoloLeads}
@@ -13,7 +14,7 @@ use Rattle.solve_commands.specs.Run.{RunLeads}
 use Rattle.solve_commands.specs.Generate.{GenLeads}
 use Rattle.solve_commands.specs.Save.{SaveLeads}
 use Rattle.solve_commands.specs.Load.{LoadLeads, AskedStrong}
-use Rattle.metab_run.specs.Words.{Request, Steps, Fox, Check, Flat, Sum, Solo, Replay, Run, Gen, Save, Load}
+use Rattle.metab_run.specs.Words.{Request, Steps, Fox, Check, Trim, Flat, Sum, Solo, Replay, Run, Gen, Save, Load}
 use Rattle.metab_run.specs.Words.{request, alone}
 
 -- which answers are due to a command, whether its answer is a report, and what its yes promises
@@ -24,8 +25,8 @@ pub record Owed : Type 1 where
 
 -- A row for each command, over these texts; `counted` says that the shelf has counted a failure. Words that ask for no
 -- command get no yes. A yes of `steps` or of `sum` promises that the word is trivial over the presentation that the
--- file spells, one of `check` that the report is true, and so does a certificate of `flat`; one of `load` promises that
--- the basis file holds a strong basis.
+-- file spells, one of `check` that the report is true, and so does a trimming of `trim` or a certificate of `flat`; one
+-- of `load` promises that the basis file holds a strong basis.
 abbrev pub owed : Type 0 → (List ℕ → Option (List ℕ)) → Option Request → Owed
 owed counted under None = record { leads = λ a. a ≡ refused_words; reports = ⊥; promises = ⊥ }
 owed counted under (Some (Steps q)) =
@@ -40,6 +41,8 @@ owed counted under (Some (Replay q)) =
 owed counted under (Some (Run q)) =
     record { leads = RunLeads counted under q; reports = Unit {0}; promises = Unit {0} }
 owed counted under (Some (Gen seed)) = record { leads = GenLeads seed; reports = ⊥; promises = Unit {0} }
+owed counted under (Some (Trim q)) =
+    record { leads = TrimLeads counted under q; reports = ⊥; promises = AskedTrue under q }
 owed counted under (Some (Flat q)) =
     record { leads = FlatLeads counted under q; reports = ⊥; promises = AskedTrue under (report_asked q) }
 owed counted under (Some (Sum q)) =

@@ -33,12 +33,13 @@ pub data Request : Type 0 where
   Replay : ReplayAsked → Request
   Run : RunAsked → Request
   Gen : ℕ → Request
+  Trim : CheckAsked → Request
   Flat : FlatAsked → Request
   Sum : SumAsked → Request
   Save : SaveAsked → Request
   Load : LoadAsked → Request
 
--- What a command asks by what is given behind its name, where that is of its form. Some commands aren't built yet.
+-- What a command asks by what is given behind its name, where that is of its form. One command isn't built yet.
 abbrev pub request_by : Command → GivenWords → Option Request
 request_by commands.Steps g = option_map Steps (steps_in g)
 request_by commands.Fox g = option_map Fox (fox_in g)
@@ -47,7 +48,7 @@ request_by commands.Solo g = option_map Solo (solo_in g)
 request_by commands.Replay g = option_map Replay (replay_in g)
 request_by commands.Run g = option_map Run (run_in g)
 request_by commands.Gen g = option_map Gen (gen_in g)
-request_by commands.Trim g = None
+request_by commands.Trim g = option_map Trim (check_in g)
 request_by commands.Flat g = option_map Flat (flat_in g)
 request_by commands.Sum g = option_map Sum (sum_in g)
 request_by commands.Extend g = None
@@ -77,6 +78,7 @@ request_of (code.Solo w) = Solo (solo_asked w)
 request_of (code.Replay w) = Replay (replay_asked w)
 request_of (code.Run w) = Run (run_asked w)
 request_of (code.Gen seed) = Gen seed
+request_of (code.Trim w) = Trim (check_asked w)
 request_of (code.Flat w) = Flat (flat_asked w)
 request_of (code.Sum w) = Sum (sum_asked w)
 request_of (code.Save w) = Save (save_asked w)
@@ -91,6 +93,7 @@ HasLimits (code.Solo w) = solo.IsWithinTable w
 HasLimits (code.Replay w) = replay.IsWithinTable w
 HasLimits (code.Run w) = run.IsWithinTable w
 HasLimits (code.Gen seed) = seed ≤ MOST_SEED
+HasLimits (code.Trim w) = Unit {0}
 HasLimits (code.Flat w) = Unit {0}
 HasLimits (code.Sum w) = Unit {0}
 HasLimits (code.Save w) = AreInTable w.limits

@@ -4,6 +4,7 @@ mod flats;
 mod replays;
 mod runs;
 mod saved;
+mod trims;
 
 use super::{DERIVATION_BYTES, PRESENTATION_BYTES, Status, metab_alone};
 use mb_io::{MemShelf, MemSink, NamedBytes};

@@ -7,7 +7,7 @@ ghost use Rattle.metab_run.specs.Top.{FindsOwed, EndsOwed};
 
 use crate::words::{Asks, read_run, read_words};
 use basis_entry::Sealed;
-use check_commands::{check, flat, fox, steps, sum};
+use check_commands::{check, flat, fox, steps, sum, trim};
 use command_floor::{Answer, Halt, Status, deliver};
 use completion_workers::Gate;
 use legal_report::Solved;
@@ -45,6 +45,7 @@ fn find<S: Shelf>(alloc: Global, words: &[String], shelf: &mut S) -> Result<Foun
         // It waits for others, so it is no command here.
         Asks::Run(_) => Ok(Found::Says(Answer::refused_words(alloc)?)),
         Asks::Gen(seed) => Ok(Found::Says(generate::answer(alloc, seed)?)),
+        Asks::Trim(words) => Ok(Found::Says(trim::answer(alloc, shelf, &words)?)),
         Asks::Flat(words) => Ok(Found::Says(flat::answer(alloc, shelf, &words)?)),
         Asks::Sum(words) => Ok(Found::Says(sum::answer(alloc, shelf, &words)?)),
         Asks::Save(words) => match save::complete(alloc, shelf, &words)? {

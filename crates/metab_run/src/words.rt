@@ -31,6 +31,8 @@ pub enum Asks<'a> {
     Run(RunWords<'a>),
     /// The seed.
     Gen(u32),
+    /// What `trim` is asked is what `check` is.
+    Trim(CheckWords<'a>),
     Flat(FlatWords<'a>),
     Sum(SumWords<'a>),
     Save(SaveWords<'a>),
@@ -65,6 +67,7 @@ fn asked_by<'a>(alloc: Global, asked: &Asked<'a>) -> Result<Option<Asks<'a>>, Al
             None => Ok(None),
             Some(seed) => Ok(Some(Asks::Gen(seed))),
         },
+        Command::Trim => Ok(check::words(given).map(Asks::Trim)),
         Command::Flat => Ok(flat::words(given).map(Asks::Flat)),
         Command::Sum => Ok(sum::words(given).map(Asks::Sum)),
         Command::Save => Ok(save::words(given).map(Asks::Save)),
@@ -73,7 +76,7 @@ fn asked_by<'a>(alloc: Global, asked: &Asked<'a>) -> Result<Option<Asks<'a>>, Al
             Some(words) => Ok(Some(Asks::Load(words))),
         },
         // Not built yet.
-        Command::Trim | Command::Extend => Ok(None),
+        Command::Extend => Ok(None),
     }
 }
 
