@@ -34,6 +34,18 @@ module _ {L : Type 0} (front : ℕ) where
   there_below (x ∷ xs) zero h = omega arith
   there_below (x ∷ xs) (suc k) h = let lt : k < length xs = there_below xs k h in omega (arith, lt)
 
+  -- the next item, where it is below the front
+  pub next_below : (xs : List (ℕ × L)) (k : ℕ) → is_next_below front (drop k xs) ≡ true
+      → (x : ℕ × L) × (slice_get xs k ≡ Some x) × (below front (drop k xs) ≡ x.1 ∷ below front (drop (k + 1) xs))
+      × (behind front (drop k xs) ≡ behind front (drop (k + 1) xs))
+  next_below [] zero h = absurd cc
+  next_below [] (suc k) h = absurd cc
+  next_below (x ∷ xs) zero h = (x, refl, one_below x xs h, one_passed x xs h)
+  next_below (x ∷ xs) (suc k) h =
+      let r = next_below xs k h in
+      let e : suc (k + 1) ≡ suc k + 1 = omega arith in
+      (r.0, r.1, r.2 ∙ ap (λ j. r.0.1 ∷ below front (drop j (x ∷ xs))) e, r.3 ∙ ap (λ j. behind front (drop j (x ∷ xs))) e)
+
 -- ---- entries
 
 module _ (f : Form) where

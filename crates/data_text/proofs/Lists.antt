@@ -13,6 +13,17 @@ all_at P [] i x h is = absurd cc
 all_at P (y ∷ xs) zero x h is = let e : y ≡ x = cc in subst P e h.0
 all_at P (y ∷ xs) (suc i) x h is = all_at P xs i x h.1 is
 
+-- what stands at a place of a list that is long enough
+pub record StandsAt {A : Type 0} (xs : List A) (i : ℕ) : Type 0 where
+  pub item : A
+  pub here : slice_get xs i ≡ Some item
+
+pub stands_at : {A : Type 0} (xs : List A) (i : ℕ) → i < length xs → StandsAt xs i
+stands_at [] i lt = absurd (omega (arith, lt))
+stands_at (x ∷ xs) zero lt = record { item = x; here = refl }
+stands_at {A} (x ∷ xs) (suc i) lt =
+    let rest : StandsAt xs i = stands_at xs i (omega (arith, lt)) in record { item = rest.item; here = rest.here }
+
 -- what is left from a place on
 pub left_from : {A : Type 0} (xs : List A) (i : ℕ) (x : A) → slice_get xs i ≡ Some x → drop i xs ≡ x ∷ drop (i + 1) xs
 left_from [] i x is = absurd cc

@@ -71,10 +71,14 @@ stops_at_once a text = record { front = []; rest = text; is = refl; took = took_
 pub puts_nothing : (a : Option (List ℕ)) → TakesPrefix a [] a
 puts_nothing a = took_nothing a
 
+-- of what is left a front was
+pub goes_then : (a b c : Option (List ℕ)) (text rest : List ℕ) → Goes a text rest b → Stops b rest c → Stops a text c
+goes_then a b c text rest g h = goes_stops a b c text rest [] (subst (λ t. Goes a text t b) (sym (append-nil rest)) g) h
+
 -- what is left is written
 pub goes_puts : {X : Type 0} (a b c : Option (List ℕ)) (text rest : List ℕ) (r : Result X WriteFault) → Goes a text rest b → Puts b rest r c → Puts a text r c
 goes_puts a b c text rest (Ok u) g h = subst (λ t. TakesPrefix a t c) (sym g.is) (took_more a b c g.front rest g.took h)
-goes_puts a b c text rest (Err e) g h = goes_stops a b c text rest [] (subst (λ t. Goes a text t b) (sym (append-nil rest)) g) h
+goes_puts a b c text rest (Err e) g h = goes_then a b c text rest g h
 
 -- ---- counts
 

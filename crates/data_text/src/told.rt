@@ -46,7 +46,8 @@ pub fn put_told<K: Sink>(
     let mut asked = Asked::new(alloc);
     let mut place = 0;
     for reply in live {
-        place = put_told_reply(alloc, p, d, place, &mut asked, reply, out)?;
+        let next = put_told_reply(alloc, p, d, place, &mut asked, reply, out)?;
+        place = next;
     }
     put_items_from(alloc, p, d, place, out)?;
     Ok(asked.into_left_open())
