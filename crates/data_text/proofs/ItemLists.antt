@@ -2,13 +2,14 @@
 use Rattle.std.proofs.Common.{◌≡◌, ℕ, zero, suc, ◌+◌, ◌-◌, ◌<◌, ◌≤◌, ◌==◌, ◌&&◌, nat_lt, Bool, true, false, List, [], ◌∷◌, ◌++◌, length, drop, slice_get, Some, refl, sym, ap}
 use Rattle.std.proofs.Common.{subst, ◌∙◌, length-append, if◌then◌else◌, arith}
 use Rattle.std.proofs.lemmas.Bool.Decides.{nat_tests}
+use Rattle.std.proofs.lemmas.Option.{slice_get_within}
 use Rattle.report_lines.specs.declared.lines.Line.TheVariants as lines
 use Rattle.report_reading.specs.declared.data.ReportData.{ReportData}
 use Rattle.report_reading.specs.declared.entry.EntryData.{EntryData}
 use Rattle.report_reading.specs.declared.form.Form.{Form}
 use Rattle.report_reading.specs.Forms.{LineIn}
 use Rattle.data_text.specs.Lines.{Item, entry_line, other_line, entry_items, is_sealed, seal_number, seal_items, items_of, is_next_below, below, behind}
-use Rattle.data_text.proofs.Lists.{left_from, first_left, at_front, left_behind}
+use Rattle.data_text.proofs.Lists.{StandsAt, stands_at, left_from, at_front, left_behind}
 
 -- ---- the items below a front
 
@@ -123,6 +124,27 @@ module _ (f : Form) (d : ReportData) (same : length d.from ≡ length d.entries)
   pub past_below : (front k m : ℕ) → k ≡ length d.entries + m
       → is_next_below front (drop k (items_of f d)) ≡ (is_sealed d.end && ((m == 0) && nat_lt (seal_number f d) front))
   past_below front k m is = ap (is_next_below front) (past k m is) ∙ seal_of (is_sealed d.end) m front refl
+
+  -- whether the item at a place is below the front, by the numbers of the entries
+  pub some_below : (front k n : ℕ) → slice_get d.from k ≡ Some n → is_next_below front (drop k (items_of f d)) ≡ nat_lt n front
+  some_below front k n from =
+      let lt : k < length d.from = slice_get_within d.from k n from in
+      let at : StandsAt d.entries k = stands_at d.entries k (omega (arith, lt, same)) in
+      entry_below front k n at.item from at.here
+
+  pub none_left_below : (front k : ℕ) → length d.from ≤ k
+      → is_next_below front (drop k (items_of f d)) ≡ (is_sealed d.end && ((k == length d.entries) && nat_lt (seal_number f d) front))
+  none_left_below front k le =
+      let m : k ≡ length d.entries + (k - length d.entries) = omega (arith, le, same) in
+      let e : ((k - length d.entries) == 0) ≡ (k == length d.entries) = same_test k (length d.entries) (omega (arith, le, same)) in
+      past_below front k (k - length d.entries) m ∙ ap (λ b. is_sealed d.end && (b && nat_lt (seal_number f d) front)) e
+    where
+      same_test : (a b : ℕ) → b ≤ a → ((a - b) == 0) ≡ (a == b)
+      same_test a b low = by (a == b) refl
+        where
+          by : (x : Bool) → (a == b) ≡ x → ((a - b) == 0) ≡ (a == b)
+          by true h = let is : a ≡ b = grind (arith, nat_tests) in let zero_is : ((a - b) == 0) ≡ true = grind (arith, nat_tests) in zero_is ∙ sym h
+          by false h = let other : ((a - b) == 0) ≡ false = grind (arith, nat_tests) in other ∙ sym h
 
   seal_there : (b : Bool) (m : ℕ) (item : Item f) → is_sealed d.end ≡ b → slice_get (drop m (seal_items f d)) 0 ≡ Some item → other_line f lines.Seal ≡ item.1
   seal_there true zero item h at =

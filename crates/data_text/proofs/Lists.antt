@@ -32,12 +32,6 @@ left_from (y ∷ xs) (suc i) x is =
     let e : suc (i + 1) ≡ suc i + 1 = omega arith in
     subst (λ j. drop i xs ≡ x ∷ drop j (y ∷ xs)) e (left_from xs i x is)
 
-pub first_left : {A : Type 0} (xs ys : List A) (i : ℕ) (x : A) → drop i xs ≡ x ∷ ys → slice_get xs i ≡ Some x
-first_left [] ys zero x is = absurd cc
-first_left [] ys (suc i) x is = absurd cc
-first_left (y ∷ xs) ys zero x is = let e : y ≡ x = cc in ap Some e
-first_left (y ∷ xs) ys (suc i) x is = first_left xs ys i x is
-
 -- ---- one list behind another
 
 pub at_front : {A : Type 0} (xs ys : List A) (i : ℕ) (x : A) → slice_get xs i ≡ Some x → slice_get (xs ++ ys) i ≡ Some x
