@@ -7,3 +7,4 @@ pub mod Telling
 pub mod Answers
 pub mod Known
 pub mod Trimmings
+pub mod Whole

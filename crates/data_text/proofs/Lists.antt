@@ -1,5 +1,5 @@
 -- Lists by their places.
-use Rattle.std.proofs.Common.{◌≡◌, ℕ, zero, suc, ◌+◌, ◌<◌, ◌≤◌, List, [], ◌∷◌, ◌++◌, length, take, drop, slice_get, Some, refl, ap, subst, arith}
+use Rattle.std.proofs.Common.{◌≡◌, ℕ, zero, suc, ◌+◌, ◌<◌, ◌≤◌, List, [], ◌∷◌, ◌++◌, length, take, drop, slice_get, Some, None, refl, ap, subst, arith}
 use Rattle.std.specs.List.{AllByRecursion}
 
 pub all_take : {A : Type 0} (P : A → Type 0) (n : ℕ) (xs : List A) → AllByRecursion P xs → AllByRecursion P (take n xs)
@@ -23,6 +23,11 @@ stands_at [] i lt = absurd (omega (arith, lt))
 stands_at (x ∷ xs) zero lt = record { item = x; here = refl }
 stands_at {A} (x ∷ xs) (suc i) lt =
     let rest : StandsAt xs i = stands_at xs i (omega (arith, lt)) in record { item = rest.item; here = rest.here }
+
+pub past_all : {A : Type 0} (xs : List A) (i : ℕ) → slice_get xs i ≡ None → length xs ≤ i
+past_all [] i none = omega arith
+past_all (x ∷ xs) zero none = absurd cc
+past_all (x ∷ xs) (suc i) none = let le : length xs ≤ i = past_all xs i none in omega (arith, le)
 
 -- what is left from a place on
 pub left_from : {A : Type 0} (xs : List A) (i : ℕ) (x : A) → slice_get xs i ≡ Some x → drop i xs ≡ x ∷ drop (i + 1) xs

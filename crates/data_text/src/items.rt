@@ -1,6 +1,7 @@
 //! The lines of the items: the entries, and the seal if there is one.
 
-ghost use Rattle.std.specs.Prelude.{◌≡◌, ◌+◌, ◌<◌, ◌≤◌, ◌++◌, ◌∷◌, [], length, drop, slice_get, Some, IfOk, OnOk};
+ghost use Rattle.std.specs.Prelude.{◌≡◌, ◌<◌, ◌≤◌, ◌^◌, ◌==◌, ◌&&◌, nat_lt, ◌++◌, ◌∷◌, [], length, drop, slice_get};
+ghost use Rattle.std.specs.Prelude.{slice_index, codes, Some, IfOk};
 ghost use Rattle.report_lines.specs.Texts.{line_text};
 ghost use Rattle.report_lines.specs.declared.lines.Line.TheVariants as lines;
 ghost use Rattle.report_lines.specs.declared.trimmed.TrimmedLine.TheVariants as trimmed;
@@ -92,10 +93,16 @@ fn is_next_below(d: &ReportData, place: usize, front: u32) -> bool
 {
     match d.from.numbers().get(place) {
         Some(number) => *number < front,
-        None => {
-            is_sealed(d) && place == d.entries.entries().len() && seal_number(d) < front as usize
-        }
+        None => is_seal_below(d, place, front),
     }
+}
+
+/// Whether the seal is the item at this place, and its number is below the front.
+fn is_seal_below(d: &ReportData, place: usize, front: u32) -> bool
+    ensures { result ≡ (is_sealed d.now.end && ((place == length d.now.entries)
+        && nat_lt (seal_number (form_of d.now) d.now) front)) }
+{
+    is_sealed(d) && (place == d.entries.entries().len() && seal_number(d) < front as usize)
 }
 
 /// The number of the seal among the items.
@@ -123,12 +130,40 @@ fn put_item<K: Sink>(
         → Puts (K.taken out.old) (text_in (form_of d.now) p.now item.1 ++ 10 ∷ []) result (K.taken out.new) }
     ensures counts { Counts (K.faults out.old) result (K.faults out.new) }
 {
-    let entries = d.entries.entries();
-    if place >= entries.len() {
-        return put_with_end(Vec::from_slice(alloc, b"seal")?, out);
+    match d.entries.entries().get(place) {
+        Some(entry) => put_entry(alloc, p, d, place, entry, out),
+        None => put_seal(alloc, out),
     }
-    let at = EntryNumber::new(place as u32, d.from.numbers()[place]);
-    let line = entry_text(alloc, p, d, at, &entries[place])?;
+}
+
+/// Writes the seal.
+fn put_seal<K: Sink>(alloc: Global, out: &mut K) -> Result<(), WriteFault>
+    ensures text { Puts (K.taken out.old) (codes "seal" ++ 10 ∷ []) result (K.taken out.new) }
+    ensures counts { Counts (K.faults out.old) result (K.faults out.new) }
+{
+    let line = Vec::from_slice(alloc, b"seal")?;
+    put_with_end(line, out)
+}
+
+/// Writes the line of the entry at this place.
+fn put_entry<K: Sink>(
+    alloc: Global,
+    p: &Presentation,
+    d: &ReportData,
+    place: usize,
+    entry: &EntryData,
+    out: &mut K,
+) -> Result<(), WriteFault>
+    requires within { place < length d.now.from }
+    requires small { place < 2 ^ 32 }
+    requires over { EntryIsOver (length p.now.names) entry.now }
+    ensures text { Puts (K.taken out.old) (text_in (form_of d.now) p.now
+        (entry_line (form_of d.now) place (slice_index d.now.from place) entry.now) ++ 10 ∷ []) result (K.taken out.new) }
+    ensures counts { Counts (K.faults out.old) result (K.faults out.new) }
+{
+    let numbers = d.from.numbers();
+    let at = EntryNumber::new(place as u32, numbers[place]);
+    let line = entry_text(alloc, p, d, at, entry)?;
     put_with_end(line, out)
 }
 

@@ -40,7 +40,8 @@ pub fn write_data<K: Sink>(
     let left_open = put_told(alloc, p, d, live, out)?;
     put_end(alloc, p, &d.end, out)?;
     put_closings(alloc, p, left_open, closing, out)?;
-    put_with_end(Vec::from_slice(alloc, b"done")?, out)
+    let done = Vec::from_slice(alloc, b"done")?;
+    put_with_end(done, out)
 }
 
 /// How many answers stand before the first that was made behind the end.

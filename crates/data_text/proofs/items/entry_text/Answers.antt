@@ -1,0 +1,13 @@
+use Rattle.std.proofs.Common.{rules, ◌≡◌, true, false, sym, ◌∙◌}
+use Rattle.data_text.proofs.Texts.{form_whole, form_trimmed}
+use Rattle.data_text.proofs.items.entry_text.Goals as goal
+
+pub returns-then-is_whole : goal.returns-then-is_whole
+returns-then-is_whole c =
+    let whole : c.is_whole.result ≡ true = search rules in
+    rw (form_whole c.args.d.now (sym c.is_whole.ensures ∙ whole)) c.whole_entry_text.ensures
+
+pub returns-else-is_whole : goal.returns-else-is_whole
+returns-else-is_whole c =
+    let other : c.is_whole.result ≡ false = search rules in
+    rw (form_trimmed c.args.d.now (sym c.is_whole.ensures ∙ other)) c.kept_entry_text.ensures
