@@ -38,7 +38,7 @@ use Rattle.report_reading.specs.Forms.{form_of, LineIn, IsLineIn, FollowsIn, tel
 use Rattle.report_reading.specs.Reading.{IsReport}
 use Rattle.data_text.specs.Lines.{made_of, live_answers, count_of}
 use Rattle.data_text.specs.Over.{EntryIsOver, ReplyIsOver, CanBeWritten}
-use Rattle.data_text.proofs.Answers.{EndsWith, ends_with, all_more, all_before, AreLive, all_live, live_closed, count_alike, proof_put}
+use Rattle.data_text.proofs.ReplyLists.{EndsWith, ends_with, all_more, all_before, AreLive, all_live, live_closed, count_alike, proof_put}
 use Rattle.data_text.proofs.Counts.{AreCounted, counted_more, count_last}
 
 pub made_again : (from : ℕ) (made : Made) → made_of (recipe_of from made) ≡ made

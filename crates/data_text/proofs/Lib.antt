@@ -4,7 +4,7 @@ pub mod Texts
 pub mod ItemLists
 pub mod Counts
 pub mod Telling
-pub mod Answers
+pub mod ReplyLists
 pub mod Known
 pub mod Trimmings
 pub mod Whole

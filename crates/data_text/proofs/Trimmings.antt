@@ -21,7 +21,7 @@ use Rattle.report_trimming.specs.Trimming.{Pairwise, IsRising, IsStepRenamed, Ar
 use Rattle.report_trimming.proofs.Marking.{within}
 use Rattle.data_text.specs.Lines.{made_of, live_answers, count_of}
 use Rattle.data_text.specs.Over.{EntryIsOver, ReplyIsOver, CanBeWritten}
-use Rattle.data_text.proofs.Answers.{live_first, no_live, count_first}
+use Rattle.data_text.proofs.ReplyLists.{live_first, no_live, count_first}
 use Rattle.data_text.proofs.Lists.{all_at}
 
 pub pair_count : {X Y : Type 0} (R : X → Y → Type 0) (xs : List X) (ys : List Y) → Pairwise R xs ys → length ys ≡ length xs
