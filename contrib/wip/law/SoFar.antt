@@ -20,7 +20,7 @@ use Rattle.report_reading.specs.Trimmed.{last_from, AreBelow, IsReached}
 use Rattle.report_reading.specs.Forms.{LineIn}
 use Rattle.data_text.specs.Lines.{Item, entry_items, other_line, other_lines, is_sealed, live_count, live_answers, closing_answers, count_of, numbered, proof_lines, live_lines}
 use Rattle.data_text.specs.Lines.{closing_lines, still_open, left_open, closings, told}
-use Rattle.data_text.proofs.Answers.{live_first, no_live}
+use Rattle.data_text.proofs.ReplyLists.{live_first, no_live}
 use Rattle.data_text.proofs.Merging.{AreItemsBelow}
 
 -- ---- in pieces

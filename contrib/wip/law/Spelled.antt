@@ -22,7 +22,7 @@ use Rattle.report_reading.specs.Telling.{Told, is_open, by_number, item_count, l
 use Rattle.report_reading.specs.Forms.{LineIn}
 use Rattle.data_text.specs.Lines.{Item, entry_line, entry_items, other_line, other_lines, is_sealed, live_answers, closing_answers, count_of, numbered, proof_lines, live_lines}
 use Rattle.data_text.specs.Lines.{closing_lines, still_open, left_open, closings, told}
-use Rattle.data_text.proofs.Answers.{EndsWith, ends_with, AreLive, all_more, all_before, all_live, live_closed, proof_put}
+use Rattle.data_text.proofs.ReplyLists.{EndsWith, ends_with, AreLive, all_more, all_before, all_live, live_closed, proof_put}
 use Rattle.data_text.proofs.Counts.{AreCounted}
 use Rattle.data_text.proofs.Merging.{AreItemsBelow, AreFrontsTo, told_item, told_answer, entry_more, fronts_numbered}
 use Rattle.data_text.proofs.SoFar.{seal_place, items_so_far, live_so_far, open_so_far, behind_end, from_end, so_far, closing_more, none_closing, numbered_more, open_more, no_closings}

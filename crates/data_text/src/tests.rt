@@ -17,14 +17,15 @@ entry 0 gen - : +1*a@t +1*a'@a -1*t@a -1*1@t +1*1@a
 live 1 1 1 trivial a : unknown 1
 live 2 1 1 hom <s | s^2> -> a : fails 1
 entry 1 sum -1*a@0 +1*1@0 : +1*a@a -1*1@a
-live 3 1 2 trivial t : unknown 1
 live 1 2 2 normal a : stop 1 deep
+live 3 1 2 trivial t : unknown 1
 seal
 live 1 3 3 equal a^2 = t a t^-1 : trivial
 proof 1 +1*a@0 -1*a@1
 end sealed
 close 1 1 trivial a : not-trivial
 close 1 2 normal a : normal +1*1@a
+close 3 1 trivial t : not-trivial
 done
 ";
 
