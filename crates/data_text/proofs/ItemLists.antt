@@ -47,6 +47,15 @@ module _ {L : Type 0} (front : ℕ) where
       let e : suc (k + 1) ≡ suc k + 1 = omega arith in
       (r.0, r.1, r.2 ∙ ap (λ j. r.0.1 ∷ below front (drop j (x ∷ xs))) e, r.3 ∙ ap (λ j. behind front (drop j (x ∷ xs))) e)
 
+-- there is nothing below the front in an empty list, and no element
+nothing_below : {L : Type 0} (front m : ℕ) → is_next_below {L = L} front (drop m []) ≡ false
+nothing_below front zero = refl
+nothing_below front (suc m) = refl
+
+nothing_there : {X : Type 0} (m : ℕ) (x : X) → slice_get (drop m []) 0 ≡ Some x → ⊥
+nothing_there zero x e = cc
+nothing_there (suc m) x e = cc
+
 -- ---- entries
 
 module _ (f : Form) where
@@ -113,11 +122,7 @@ module _ (f : Form) (d : ReportData) (same : length d.from ≡ length d.entries)
 
   seal_of : (b : Bool) (m front : ℕ) → is_sealed d.end ≡ b → is_next_below front (drop m (seal_items f d)) ≡ (b && ((m == 0) && nat_lt (seal_number f d) front))
   seal_of true zero front h = rw h refl
-  seal_of true (suc m) front h = rw h (none m)
-    where
-      none : (m : ℕ) → is_next_below {LineIn f} front (drop m []) ≡ false
-      none zero = refl
-      none (suc m) = refl
+  seal_of true (suc m) front h = rw h (nothing_below front m)
   seal_of false zero front h = rw h refl
   seal_of false (suc m) front h = rw h refl
 
@@ -149,13 +154,9 @@ module _ (f : Form) (d : ReportData) (same : length d.from ≡ length d.entries)
   seal_there : (b : Bool) (m : ℕ) (item : Item f) → is_sealed d.end ≡ b → slice_get (drop m (seal_items f d)) 0 ≡ Some item → other_line f lines.Seal ≡ item.1
   seal_there true zero item h at =
       let e : slice_get ((seal_number f d, other_line f lines.Seal) ∷ []) 0 ≡ Some item = rw h at at in ap (λ (x : Item f). x.1) (some_same e)
-  seal_there true (suc m) item h at = absurd (none m (rw h at at))
-    where
-      none : (m : ℕ) → slice_get {Item f} (drop m []) 0 ≡ Some item → ⊥
-      none zero e = cc
-      none (suc m) e = cc
-  seal_there false zero item h at = absurd (let e : slice_get {Item f} [] 0 ≡ Some item = rw h at at in cc)
-  seal_there false (suc m) item h at = absurd (let e : slice_get {Item f} [] 0 ≡ Some item = rw h at at in cc)
+  seal_there true (suc m) item h at = absurd (nothing_there m item (rw h at at))
+  seal_there false zero item h at = absurd (nothing_there 0 item (rw h at at))
+  seal_there false (suc m) item h at = absurd (nothing_there (suc m) item (rw h at at))
 
   -- the item behind the entries is the seal
   pub line_of_seal : (k : ℕ) (item : Item f) → length d.entries ≤ k → slice_get (items_of f d) k ≡ Some item → other_line f lines.Seal ≡ item.1

@@ -45,6 +45,6 @@ at_front (z ∷ xs) ys zero x is = is
 at_front (z ∷ xs) ys (suc i) x is = at_front xs ys i x is
 
 pub left_behind : {A : Type 0} (xs ys : List A) (k m : ℕ) → k ≡ length xs + m → drop k (xs ++ ys) ≡ drop m ys
-left_behind [] ys k m is = ap (λ n. drop n ys) is
+left_behind [] ys k m is = let e : k ≡ m = omega (arith, is) in ap (λ n. drop n ys) e
 left_behind (x ∷ xs) ys zero m is = absurd (omega (arith, is))
 left_behind (x ∷ xs) ys (suc k) m is = left_behind xs ys k m (omega (arith, is))

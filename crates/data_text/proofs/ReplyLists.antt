@@ -52,11 +52,11 @@ all_live (r ∷ rs) h = live_first r rs h.0 ∙ ap (λ (l : List ReplyData). r �
 -- an answer behind the end is none of them
 pub live_closed : (rs : List ReplyData) (r : ReplyData) → r.live ≡ false → live_answers (rs ++ r ∷ []) ≡ live_answers rs
 live_closed [] r h = no_live r [] h
-live_closed (x ∷ rs) r h = by x.live refl
+live_closed (x ∷ rs) r h = by x.live refl (live_closed rs r h)
   where
-    by : (b : Bool) → x.live ≡ b → live_answers (x ∷ (rs ++ r ∷ [])) ≡ live_answers (x ∷ rs)
-    by true e = live_first x (rs ++ r ∷ []) e ∙ ap (λ (l : List ReplyData). x ∷ l) (live_closed rs r h) ∙ sym (live_first x rs e)
-    by false e = no_live x (rs ++ r ∷ []) e ∙ sym (no_live x rs e)
+    by : (b : Bool) → x.live ≡ b → live_answers (rs ++ r ∷ []) ≡ live_answers rs → live_answers (x ∷ (rs ++ r ∷ [])) ≡ live_answers (x ∷ rs)
+    by true e rest = live_first x (rs ++ r ∷ []) e ∙ ap (λ (l : List ReplyData). x ∷ l) rest ∙ sym (live_first x rs e)
+    by false e rest = no_live x (rs ++ r ∷ []) e ∙ sym (no_live x rs e)
 
 -- ---- counts
 
@@ -73,14 +73,15 @@ count_alike s [] q r session live = by r.live refl
         ap (count_of s) (live_first q [] (live ∙ e)) ∙ count_first s q []
         ∙ ap (λ n. cond (n == s) 1 0 + count_of s []) session ∙ sym (ap (count_of s) (live_first r [] e) ∙ count_first s r [])
     by false e = ap (count_of s) (no_live q [] (live ∙ e)) ∙ sym (ap (count_of s) (no_live r [] e))
-count_alike s (x ∷ rs) q r session live = by x.live refl
+count_alike s (x ∷ rs) q r session live = by x.live refl (count_alike s rs q r session live)
   where
-    by : (b : Bool) → x.live ≡ b → count_of s (live_answers (x ∷ (rs ++ q ∷ []))) ≡ count_of s (live_answers (x ∷ (rs ++ r ∷ [])))
-    by true e =
+    by : (b : Bool) → x.live ≡ b → count_of s (live_answers (rs ++ q ∷ [])) ≡ count_of s (live_answers (rs ++ r ∷ []))
+        → count_of s (live_answers (x ∷ (rs ++ q ∷ []))) ≡ count_of s (live_answers (x ∷ (rs ++ r ∷ [])))
+    by true e rest =
         ap (count_of s) (live_first x (rs ++ q ∷ []) e) ∙ count_first s x (live_answers (rs ++ q ∷ []))
-        ∙ ap (λ n. cond (x.session == s) 1 0 + n) (count_alike s rs q r session live)
+        ∙ ap (λ n. cond (x.session == s) 1 0 + n) rest
         ∙ sym (ap (count_of s) (live_first x (rs ++ r ∷ []) e) ∙ count_first s x (live_answers (rs ++ r ∷ [])))
-    by false e = ap (count_of s) (no_live x (rs ++ q ∷ []) e) ∙ sym (ap (count_of s) (no_live x (rs ++ r ∷ []) e))
+    by false e rest = ap (count_of s) (no_live x (rs ++ q ∷ []) e) ∙ sym (ap (count_of s) (no_live x (rs ++ r ∷ []) e))
 
 -- ---- one more proof
 

@@ -114,15 +114,15 @@ same_counts : (s : ℕ) (kept : List ℕ) (rs qs : List ReplyData) → Pairwise 
 same_counts s kept [] [] h = refl
 same_counts s kept [] (q ∷ qs) h = absurd h
 same_counts s kept (r ∷ rs) [] h = absurd h
-same_counts s kept (r ∷ rs) (q ∷ qs) h = by r.live refl
+same_counts s kept (r ∷ rs) (q ∷ qs) h = by r.live refl (same_counts s kept rs qs h.1)
   where
-    by : (b : Bool) → r.live ≡ b → count_of s (live_answers (q ∷ qs)) ≡ count_of s (live_answers (r ∷ rs))
-    by true e =
+    by : (b : Bool) → r.live ≡ b → count_of s (live_answers qs) ≡ count_of s (live_answers rs) → count_of s (live_answers (q ∷ qs)) ≡ count_of s (live_answers (r ∷ rs))
+    by true e rest =
         ap (count_of s) (live_first q qs (h.0.live ∙ e)) ∙ count_first s q (live_answers qs)
         ∙ ap (λ n. cond (n == s) 1 0 + count_of s (live_answers qs)) h.0.session
-        ∙ ap (λ n. cond (r.session == s) 1 0 + n) (same_counts s kept rs qs h.1)
+        ∙ ap (λ n. cond (r.session == s) 1 0 + n) rest
         ∙ sym (ap (count_of s) (live_first r rs e) ∙ count_first s r (live_answers rs))
-    by false e = ap (count_of s) (no_live q qs (h.0.live ∙ e)) ∙ sym (ap (count_of s) (no_live r rs e))
+    by false e rest = ap (count_of s) (no_live q qs (h.0.live ∙ e)) ∙ sym (ap (count_of s) (no_live r rs e))
 
 -- ---- all of it
 
