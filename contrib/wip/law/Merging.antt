@@ -51,28 +51,28 @@ module _ {L : Type 0} where
 
   below_more : (front : ℕ) (xs : List (ℕ × L)) (y : ℕ × L) → front ≤ y.0 → below front (xs ++ y ∷ []) ≡ below front xs
   below_more front [] y le = below_none front y [] (test_false y.0 front le)
-  below_more front (x ∷ xs) y le = by (nat_lt x.0 front) refl
+  below_more front (x ∷ xs) y le = by (nat_lt x.0 front) refl (below_more front xs y le)
     where
-      by : (b : Bool) → nat_lt x.0 front ≡ b → below front (x ∷ (xs ++ y ∷ [])) ≡ below front (x ∷ xs)
-      by true e = below_one front x (xs ++ y ∷ []) e ∙ ap (λ (l : List L). x.1 ∷ l) (below_more front xs y le) ∙ sym (below_one front x xs e)
-      by false e = below_none front x (xs ++ y ∷ []) e ∙ sym (below_none front x xs e)
+      by : (b : Bool) → nat_lt x.0 front ≡ b → below front (xs ++ y ∷ []) ≡ below front xs → below front (x ∷ (xs ++ y ∷ [])) ≡ below front (x ∷ xs)
+      by true e rest = below_one front x (xs ++ y ∷ []) e ∙ ap (λ (l : List L). x.1 ∷ l) rest ∙ sym (below_one front x xs e)
+      by false e rest = below_none front x (xs ++ y ∷ []) e ∙ sym (below_none front x xs e)
 
   behind_more : (front : ℕ) (xs : List (ℕ × L)) (y : ℕ × L) → front ≤ y.0 → behind front (xs ++ y ∷ []) ≡ behind front xs ++ y ∷ []
   behind_more front [] y le = behind_none front y [] (test_false y.0 front le)
-  behind_more front (x ∷ xs) y le = by (nat_lt x.0 front) refl
+  behind_more front (x ∷ xs) y le = by (nat_lt x.0 front) refl (behind_more front xs y le)
     where
-      by : (b : Bool) → nat_lt x.0 front ≡ b → behind front (x ∷ (xs ++ y ∷ [])) ≡ behind front (x ∷ xs) ++ y ∷ []
-      by true e =
-          behind_one front x (xs ++ y ∷ []) e ∙ behind_more front xs y le ∙ ap (λ (l : List (ℕ × L)). l ++ y ∷ []) (sym (behind_one front x xs e))
-      by false e = behind_none front x (xs ++ y ∷ []) e ∙ ap (λ (l : List (ℕ × L)). l ++ y ∷ []) (sym (behind_none front x xs e))
+      by : (b : Bool) → nat_lt x.0 front ≡ b → behind front (xs ++ y ∷ []) ≡ behind front xs ++ y ∷ [] → behind front (x ∷ (xs ++ y ∷ [])) ≡ behind front (x ∷ xs) ++ y ∷ []
+      by true e rest =
+          behind_one front x (xs ++ y ∷ []) e ∙ rest ∙ ap (λ (l : List (ℕ × L)). l ++ y ∷ []) (sym (behind_one front x xs e))
+      by false e rest = behind_none front x (xs ++ y ∷ []) e ∙ ap (λ (l : List (ℕ × L)). l ++ y ∷ []) (sym (behind_none front x xs e))
 
   behind_keeps : (P : ℕ × L → Type 0) (front : ℕ) (xs : List (ℕ × L)) → AllByRecursion P xs → AllByRecursion P (behind front xs)
   behind_keeps P front [] h = tt
-  behind_keeps P front (x ∷ xs) h = by (nat_lt x.0 front) refl
+  behind_keeps P front (x ∷ xs) h = by (nat_lt x.0 front) refl (behind_keeps P front xs h.1)
     where
-      by : (b : Bool) → nat_lt x.0 front ≡ b → AllByRecursion P (behind front (x ∷ xs))
-      by true e = subst (AllByRecursion P) (sym (behind_one front x xs e)) (behind_keeps P front xs h.1)
-      by false e = subst (AllByRecursion P) (sym (behind_none front x xs e)) h
+      by : (b : Bool) → nat_lt x.0 front ≡ b → AllByRecursion P (behind front xs) → AllByRecursion P (behind front (x ∷ xs))
+      by true e rest = subst (AllByRecursion P) (sym (behind_one front x xs e)) rest
+      by false e rest = subst (AllByRecursion P) (sym (behind_none front x xs e)) h
 
 module _ (f : Form) where
   -- an item behind the answers

@@ -52,7 +52,7 @@ so_far f t = told f (items_so_far f t) (live_so_far t) ++ other_lines f (from_en
 
 pub closing_more : (rs : List ReplyData) (r : ReplyData) → r.live ≡ false → closing_answers (rs ++ r ∷ []) ≡ closing_answers rs ++ r ∷ []
 closing_more [] r h = ap (λ b. drop (cond b 1 0) (r ∷ [])) h
-closing_more (x ∷ rs) r h = by x.live refl
+closing_more (x ∷ rs) r h = by x.live refl (closing_more rs r h)
   where
     first : (xs : List ReplyData) → x.live ≡ true → closing_answers (x ∷ xs) ≡ closing_answers xs
     first xs e =
@@ -62,9 +62,9 @@ closing_more (x ∷ rs) r h = by x.live refl
     other : (xs : List ReplyData) → x.live ≡ false → closing_answers (x ∷ xs) ≡ x ∷ xs
     other xs e = ap (λ b. drop (cond b (1 + live_count xs) 0) (x ∷ xs)) e
 
-    by : (b : Bool) → x.live ≡ b → closing_answers (x ∷ (rs ++ r ∷ [])) ≡ closing_answers (x ∷ rs) ++ r ∷ []
-    by true e = first (rs ++ r ∷ []) e ∙ closing_more rs r h ∙ ap (λ (l : List ReplyData). l ++ r ∷ []) (sym (first rs e))
-    by false e = other (rs ++ r ∷ []) e ∙ ap (λ (l : List ReplyData). l ++ r ∷ []) (sym (other rs e))
+    by : (b : Bool) → x.live ≡ b → closing_answers (rs ++ r ∷ []) ≡ closing_answers rs ++ r ∷ [] → closing_answers (x ∷ (rs ++ r ∷ [])) ≡ closing_answers (x ∷ rs) ++ r ∷ []
+    by true e rest = first (rs ++ r ∷ []) e ∙ rest ∙ ap (λ (l : List ReplyData). l ++ r ∷ []) (sym (first rs e))
+    by false e rest = other (rs ++ r ∷ []) e ∙ ap (λ (l : List ReplyData). l ++ r ∷ []) (sym (other rs e))
 
 pub none_closing : (rs : List ReplyData) → AllByRecursion (λ r. r.live ≡ true) rs → closing_answers rs ≡ []
 none_closing [] h = refl
