@@ -48,9 +48,9 @@ module _ {L : Type 0} (front : ℕ) where
       (r.0, r.1, r.2 ∙ ap (λ j. r.0.1 ∷ below front (drop j (x ∷ xs))) e, r.3 ∙ ap (λ j. behind front (drop j (x ∷ xs))) e)
 
 -- there is nothing below the front in an empty list, and no element
-nothing_below : {L : Type 0} (front m : ℕ) → is_next_below {L = L} front (drop m []) ≡ false
-nothing_below front zero = refl
-nothing_below front (suc m) = refl
+nothing_below : (L : Type 0) (front m : ℕ) → is_next_below {L = L} front (drop m []) ≡ false
+nothing_below L front zero = refl
+nothing_below L front (suc m) = refl
 
 nothing_there : {X : Type 0} (m : ℕ) (x : X) → slice_get (drop m []) 0 ≡ Some x → ⊥
 nothing_there zero x e = cc
@@ -122,7 +122,7 @@ module _ (f : Form) (d : ReportData) (same : length d.from ≡ length d.entries)
 
   seal_of : (b : Bool) (m front : ℕ) → is_sealed d.end ≡ b → is_next_below front (drop m (seal_items f d)) ≡ (b && ((m == 0) && nat_lt (seal_number f d) front))
   seal_of true zero front h = rw h refl
-  seal_of true (suc m) front h = rw h (nothing_below front m)
+  seal_of true (suc m) front h = rw h (nothing_below (LineIn f) front m)
   seal_of false zero front h = rw h refl
   seal_of false (suc m) front h = rw h refl
 

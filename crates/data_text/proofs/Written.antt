@@ -87,6 +87,6 @@ rose_later a b c le (inl lt) = inl (omega (arith, le, lt))
 rose_later a b c le (inr top) = inr top
 
 -- a failure that is counted later is counted
-pub counts_later : {X Y : Type 0} (a b c : ℕ) (e : WriteFault) → a ≤ b → Counts {X = X} b (Err e) c → Counts {X = Y} a (Err e) c
-counts_later a b c Failed le h = (omega (arith, le, h.0), rose_later a b c le h.1)
-counts_later a b c NoMemory le h = omega (arith, le, h)
+pub counts_later : (X Y : Type 0) (a b c : ℕ) (e : WriteFault) → a ≤ b → Counts {X = X} b (Err e) c → Counts {X = Y} a (Err e) c
+counts_later X Y a b c Failed le h = (omega (arith, le, h.0), rose_later a b c le h.1)
+counts_later X Y a b c NoMemory le h = omega (arith, le, h)

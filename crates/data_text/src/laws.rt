@@ -8,13 +8,11 @@ ghost use Rattle.report_trimming.specs.Trimming.{IsTrimming};
 ghost use Rattle.data_text.specs.Over.{CanBeWritten};
 
 /// What is read of a report can be written.
-#[tactic(auto, using(crate::proofs::Known::read_is_written))]
 pub fn read_reports_can_be_written()
     ensures { (p : Presented) (text : List ℕ) (d : ReportData) → IsReport p text d → CanBeWritten p d }
 {}
 
 /// So can what is left of it where the used entries alone are kept.
-#[tactic(auto, using(crate::proofs::Trimmings::trimming_is_written))]
 pub fn trimmings_can_be_written()
     ensures { (p : Presented) (d t : ReportData) → CanBeWritten p d → IsTrimming d t → CanBeWritten p t }
 {}

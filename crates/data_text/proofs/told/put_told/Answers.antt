@@ -67,7 +67,7 @@ returns-in_err-next-clause-text g c =
 pub returns-in_err-next-clause-counts : goal.returns-in_err-next-clause-counts
 returns-in_err-next-clause-counts g c =
     let p = err_from_is_err_and c.from_residual.result c.from_residual.ensures.1 in
-    rw p.1 (rw p.2 (counts_later (g.K.Sink.faults c.args.out.now) (g.K.Sink.faults c.loop-reply.out) (g.K.Sink.faults c.put_told_reply-next.new.out)
+    rw p.1 (rw p.2 (counts_later _ _ (g.K.Sink.faults c.args.out.now) (g.K.Sink.faults c.loop-reply.out) (g.K.Sink.faults c.put_told_reply-next.new.out)
     c.in_err-next.field-0.0 c.loop-reply.invariant.later c.in_err-next.ensures.counts))
 
 pub loop-reply-preserved : goal.loop-reply-preserved
