@@ -11,6 +11,3 @@ mod terms;
 
 pub use changed_terms::TakeFault;
 pub use terms::PackedDividend;
-
-#[cfg(test)]
-mod tests;

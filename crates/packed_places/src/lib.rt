@@ -20,6 +20,3 @@ pub use lanes::Lanes;
 pub use packed::Packed;
 pub use pair::Pair;
 pub use widths::{UpTo3, UpTo7, UpTo15, UpTo24, Width};
-
-#[cfg(test)]
-mod tests;

@@ -14,6 +14,3 @@ pub use entries::PackedEntries;
 pub use lists::PackedList;
 pub use reduce_cofactor::ReduceFault;
 pub use reduction::reduce;
-
-#[cfg(test)]
-mod tests;

@@ -15,6 +15,3 @@ pub use falling::coefficient;
 pub use rows::PackedRow;
 pub use steps::PackedStep;
 pub use terms::PackedTerm;
-
-#[cfg(test)]
-mod tests;
