@@ -32,5 +32,5 @@ fn main(rt: HostRuntime) -> ExitCode {
         &mut out,
         &OpenGate,
     );
-    ExitCode::from(status as u8)
+    ExitCode::from(status.code())
 }
